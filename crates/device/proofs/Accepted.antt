@@ -1,0 +1,91 @@
+-- What it says of the settings that they are accepted, as facts about numbers.
+use mathlib.Core.Path.{_≡_, refl}
+use mathlib.Core.Bool.{Bool, true, false, _&&_, _||_, not}
+use mathlib.Core.Logic.{_⊎_, inl, inr, ⊎-map}
+use Prim.Native.Nat.{ℕ, suc, _*_, _%_, _≤_}
+use native.Mathlib.Omega.{arith}
+use borrow.Author.Tests.{leb-true, eqb-true}
+use lib.Dec.{leb, eqb}
+use Rattle.device.specs.declared.Settings.{Settings}
+use Rattle.device.specs.Refusal.{refuse, first-failed, unless}
+use Rattle.device.specs.Acceptance.{within, rows-allowed, diameter-allowed, block-allowed, settings-tests-with, settings-tests, settings-tests-but-counters}
+
+-- a number from low to high
+pub record Between (low high x : ℕ) : Type 0 where
+  pub least : low ≤ x
+  pub most : x ≤ high
+
+-- accepted settings, whatever the counter count
+pub record InRange (s : Settings) : Type 0 where
+  pub rows : Between 16 65536 (s .rows)
+  pub rows-whole : s .rows % 16 ≡ 0
+  pub diameter : (s .«blast_diameter» ≡ 2) ⊎ (s .«blast_diameter» ≡ 4)
+  pub volume : Between 1 16 (s .volume)
+  pub interval : Between 1 4096 (s .interval)
+  pub window : Between 1 8192 (s .window)
+  pub block : Between 1 64 (s .block)
+  pub covered : s .rows ≤ s .block * s .window
+
+-- accepted settings
+pub record Accepted (s : Settings) : Type 0 where
+  pub others : InRange s
+  pub counters : Between (s .volume) 2048 (s .counters)
+
+both : (a b : Bool) → (a && b) ≡ true → (a ≡ true) × (b ≡ true)
+both true b e = (refl, e)
+both false b e = absurd (let z : _≡_ {A = ℕ} 0 1 = cc in omega arith)
+
+either : (a b : Bool) → (a || b) ≡ true → (a ≡ true) ⊎ (b ≡ true)
+either true b e = inl refl
+either false b e = inr e
+
+between : (low high x : ℕ) → within low high x ≡ true → Between low high x
+unfolding within
+between low high x e =
+    let parts = both (leb low x) (leb x high) e in
+    record { least = leb-true low x (parts .0); most = leb-true x high (parts .1) }
+
+-- a test that is not the last word: it passed, and so did the later ones
+passed : (allowed : Bool) (k later : ℕ) → refuse (not allowed) (suc k) later ≡ 0 → (allowed ≡ true) × (later ≡ 0)
+unfolding refuse
+passed true k later e = (refl, e)
+passed false k later e = absurd (omega arith)
+
+diameter-of : (b : ℕ) → diameter-allowed b ≡ true → (b ≡ 2) ⊎ (b ≡ 4)
+unfolding diameter-allowed
+diameter-of b e = ⊎-map (eqb-true b 2) (eqb-true b 4) (either (eqb b 2) (eqb b 4) e)
+
+tests-passed : (counters-allowed : Bool) (s : Settings) → first-failed (settings-tests-with counters-allowed s) ≡ 0 → (counters-allowed ≡ true) × InRange s
+unfolding first-failed unless settings-tests-with rows-allowed block-allowed
+tests-passed counters-allowed s e =
+    let p1 = passed (rows-allowed (s .rows)) 0 _ e in
+    let p2 = passed (diameter-allowed (s .«blast_diameter»)) 1 _ (p1 .1) in
+    let p3 = passed (within 1 16 (s .volume)) 2 _ (p2 .1) in
+    let p4 = passed counters-allowed 3 _ (p3 .1) in
+    let p5 = passed (within 1 4096 (s .interval)) 4 _ (p4 .1) in
+    let p6 = passed (within 1 8192 (s .window)) 5 _ (p5 .1) in
+    let p7 = passed (block-allowed (s .block) (s .window) (s .rows)) 6 _ (p6 .1) in
+    let whole = both (within 16 65536 (s .rows)) (eqb (s .rows % 16) 0) (p1 .0) in
+    let regular = both (within 1 64 (s .block)) (leb (s .rows) (s .block * s .window)) (p7 .0) in (
+      p4 .0,
+      record {
+        rows = between 16 65536 (s .rows) (whole .0);
+        rows-whole = eqb-true (s .rows % 16) 0 (whole .1);
+        diameter = diameter-of (s .«blast_diameter») (p2 .0);
+        volume = between 1 16 (s .volume) (p3 .0);
+        interval = between 1 4096 (s .interval) (p5 .0);
+        window = between 1 8192 (s .window) (p6 .0);
+        block = between 1 64 (s .block) (regular .0);
+        covered = leb-true (s .rows) (s .block * s .window) (regular .1);
+      },
+    )
+
+pub accepted : (s : Settings) → first-failed (settings-tests s) ≡ 0 → Accepted s
+unfolding settings-tests
+accepted s e =
+    let parts = tests-passed (within (s .volume) 2048 (s .counters)) s e in
+    record { others = parts .1; counters = between (s .volume) 2048 (s .counters) (parts .0) }
+
+pub accepted-but-counters : (s : Settings) → first-failed (settings-tests-but-counters s) ≡ 0 → InRange s
+unfolding settings-tests-but-counters
+accepted-but-counters s e = tests-passed true s e .1

@@ -1,0 +1,6 @@
+-- Laws of the device's definitions.
+pub mod Cases
+pub mod Table
+pub mod Permutation
+pub mod Accepted
+pub mod Neighbours

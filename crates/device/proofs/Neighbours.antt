@@ -1,0 +1,95 @@
+-- The victims of a row: exactly the other rows of the bank within reach, ascending, so none twice, and at most as many as the blast diameter.
+use mathlib.Core.Path.{_≡_, subst, sym}
+use mathlib.Core.Logic.{_⊎_, inl, inr, ⊎-elim}
+use mathlib.Core.List.{List, [], _∷_, _++_, List·Memᴰ, List·Memᴰ·head, List·Memᴰ·tail, List·Memᴰ·append-cases, List·Memᴰ·not-nil, List·Memᴰ·cases-cons, Memᴰ·append-left, Memᴰ·append-right}
+use Prim.Native.Nat.{ℕ, zero, suc, _+_, _-_, _*_, _/_, _≤_, _<_, min}
+use native.Mathlib.Nat.{eq-or-lt-of-le}
+use native.Mathlib.Omega.{arith}
+use lib.ListN.{length, length-append}
+use Rattle.device.proofs.Cases.{le-or-lt}
+use Rattle.device.specs.Victims.{rows-from, rows-between, victims}
+
+-- rows from low on and below high, each above the one before
+pub data Ascends : ℕ → ℕ → List ℕ → Type 0 where
+  none : {low high : ℕ} → Ascends low high []
+  more : {low high row : ℕ} {rows : List ℕ} → Ascends (suc row) high rows → low ≤ row → row < high → Ascends low high (row ∷ rows)
+
+pub widen : {low high low′ high′ : ℕ} {rows : List ℕ} → Ascends low high rows → low′ ≤ low → high ≤ high′ → Ascends low′ high′ rows
+widen none l h = none
+widen {low′} {high′} (more {row} later from below) l h =
+    more {low = low′} {high = high′} {row = row} (widen later (omega arith) h) (omega arith) (omega arith)
+
+pub join : {low middle high : ℕ} {front back : List ℕ} → Ascends low middle front → Ascends middle high back → low ≤ middle → middle ≤ high → Ascends low high (front ++ back)
+join none back l h = widen back l (omega arith)
+join {low} {high} (more {row} later from below) back l h =
+    more {low = low} {high = high} {row = row} (join later back (omega arith) h) from (omega arith)
+
+from-ascends : (k low high : ℕ) → low + k ≤ high → Ascends low high (rows-from k low)
+unfolding rows-from
+from-ascends zero low high h = none
+from-ascends (suc k) low high h =
+    more {low = low} {high = high} {row = low} (from-ascends k (suc low) high (omega arith)) (omega arith) (omega arith)
+
+from-length : (k low : ℕ) → length (rows-from k low) ≡ k
+unfolding rows-from
+from-length zero low = omega arith
+from-length (suc k) low = omega (arith, from-length k (suc low))
+
+-- membership: exactly the rows from low on and below low + k
+in-from : (k low v : ℕ) → List·Memᴰ v (rows-from k low) → (low ≤ v) × (v < low + k)
+unfolding rows-from
+in-from zero low v m = absurd (List·Memᴰ·not-nil m)
+in-from (suc k) low v m = ⊎-elim (λ e. omega arith) (λ m. let r = in-from k (suc low) v m in omega arith) (List·Memᴰ·cases-cons m)
+
+from-in : (k low v : ℕ) → low ≤ v → v < low + k → List·Memᴰ v (rows-from k low)
+unfolding rows-from
+from-in zero low v l h = absurd (omega arith)
+from-in (suc k) low v l h =
+    ⊎-elim (λ e. List·Memᴰ·head (sym e)) (λ below. List·Memᴰ·tail (from-in k (suc low) v below (omega arith))) (eq-or-lt-of-le l)
+
+-- the distance of two rows
+abbrev pub distance : ℕ → ℕ → ℕ
+distance a b = (a - b) + (b - a)
+
+module _ (rows diameter row : ℕ) where
+  -- 'neighbours at distance 1 to B/2 that exist'
+  pub victim-near : row < rows → (v : ℕ) → List·Memᴰ v (victims rows diameter row) → (v < rows) × (1 ≤ distance v row) × (distance v row ≤ diameter / 2)
+  unfolding victims rows-between
+  victim-near h v m =
+      ⊎-elim
+      (λ below. let r = in-from (row - (row - diameter / 2)) (row - diameter / 2) v below in omega arith)
+      (λ above. let r = in-from (min (row + 1 + diameter / 2) rows - (row + 1)) (row + 1) v above in omega arith)
+      (List·Memᴰ·append-cases (rows-from (row - (row - diameter / 2)) (row - diameter / 2)) m)
+
+  pub near-victim : (v : ℕ) → v < rows → 1 ≤ distance v row → distance v row ≤ diameter / 2 → List·Memᴰ v (victims rows diameter row)
+  unfolding victims rows-between
+  near-victim v h far near = ⊎-elim below above (le-or-lt v row)
+    where
+      below : v ≤ row → List·Memᴰ v (victims rows diameter row)
+      below l =
+          Memᴰ·append-left (rows-between (row + 1) (min (row + 1 + diameter / 2) rows))
+          (from-in (row - (row - diameter / 2)) (row - diameter / 2) v (omega arith) (omega arith))
+
+      above : row < v → List·Memᴰ v (victims rows diameter row)
+      above l =
+          Memᴰ·append-right (rows-between (row - diameter / 2) row)
+          (from-in (min (row + 1 + diameter / 2) rows - (row + 1)) (row + 1) v (omega arith) (omega arith))
+
+  -- none is the row itself
+  pub victim-other : row < rows → (v : ℕ) → List·Memᴰ v (victims rows diameter row) → v ≡ row → ⊥
+  victim-other h v m e = let r = victim-near h v m in omega arith
+
+  -- ascending and below the bank's end, so none twice
+  pub victims-ascend : row < rows → Ascends 0 rows (victims rows diameter row)
+  unfolding victims rows-between
+  victims-ascend h =
+      join {middle = row + 1}
+      (widen (from-ascends (row - (row - diameter / 2)) (row - diameter / 2) row (omega arith)) (omega arith) (omega arith))
+      (from-ascends (min (row + 1 + diameter / 2) rows - (row + 1)) (row + 1) rows (omega arith))
+      (omega arith)
+      (omega arith)
+
+  -- at most as many as the blast diameter
+  pub victims-few : length (victims rows diameter row) ≤ diameter
+  unfolding victims rows-between
+  victims-few = simp (length-append, from-length) (omega arith)

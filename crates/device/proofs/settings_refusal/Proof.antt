@@ -1,0 +1,12 @@
+-- `device::settings_refusal` meets its contract.
+use borrow.Author.Needs.{needs}
+use Rattle.device.specs.Acceptance.{settings-tests}
+use Rattle.device.proofs.settings_refusal.Statement.{statement}
+use Rattle.device.proofs.settings_refusal.Tie as tie
+
+returns : tie.Need-returns
+unfolding settings-tests
+returns c = rw (← c .before .within .ensures) (c .refusal-with .ensures)
+
+pub settings-refusal-spec : {M : Type 1} → statement M
+settings-refusal-spec = tie.close (tie.spec (λ c κs. search needs) (λ c κs. search needs) returns)

@@ -1,0 +1,42 @@
+-- 'Settings, in this order': what is allowed of each, and the tests with their numbers.
+use Prim.Native.Nat.{ℕ, _*_, _%_}
+use mathlib.Core.Bool.{Bool, true, _&&_, _||_}
+use mathlib.Core.List.{List, [], _∷_}
+use lib.Dec.{leb, eqb}
+use Rattle.device.specs.declared.Settings.{Settings}
+use Rattle.device.specs.Refusal.{Test, unless}
+
+-- 'low to high'
+unfoldable pub within : ℕ → ℕ → ℕ → Bool
+within low high x = leb low x && leb x high
+
+-- N: a multiple of 16, 16 to 65,536
+unfoldable pub rows-allowed : ℕ → Bool
+rows-allowed n = within 16 65536 n && eqb (n % 16) 0
+
+-- B: 2 or 4
+unfoldable pub diameter-allowed : ℕ → Bool
+diameter-allowed b = eqb b 2 || eqb b 4
+
+-- P: 1 to 64, with P × n at least N
+unfoldable pub block-allowed : ℕ → ℕ → ℕ → Bool
+block-allowed p n rows = within 1 64 p && leb rows (p * n)
+
+-- 'Settings are tested first': 1 N, 2 B, 3 V, 4 C, 5 T, 6 n, 7 P; whether C is allowed is said apart
+unfoldable pub settings-tests-with : Bool → Settings → List Test
+settings-tests-with counters-allowed s =
+    unless (rows-allowed (s .rows)) 1 ∷
+    unless (diameter-allowed (s .«blast_diameter»)) 2 ∷
+    unless (within 1 16 (s .volume)) 3 ∷
+    unless counters-allowed 4 ∷
+    unless (within 1 4096 (s .interval)) 5 ∷
+    unless (within 1 8192 (s .window)) 6 ∷
+    unless (block-allowed (s .block) (s .window) (s .rows)) 7 ∷ []
+
+-- the tests of all seven settings; C: V to 2,048
+unfoldable pub settings-tests : Settings → List Test
+settings-tests s = settings-tests-with (within (s .volume) 2048 (s .counters)) s
+
+-- the tests where no C is given ('skips 4')
+unfoldable pub settings-tests-but-counters : Settings → List Test
+settings-tests-but-counters s = settings-tests-with true s

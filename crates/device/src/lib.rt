@@ -1,0 +1,119 @@
+// A device: its settings with their tests, and where a logical row lies on the die.
+ghost use mathlib.Core.Path.{_≡_};
+ghost use Prim.Native.Nat.{_≤_, _<_, _*_};
+ghost use mathlib.Core.Bool.{not};
+ghost use lib.Dec.{leb};
+ghost use lib.ListN.{getD};
+ghost use Rattle.device.specs.Refusal.{refuse as refuse-by, first-failed};
+ghost use Rattle.device.specs.Acceptance.{within as is-within, rows-allowed, diameter-allowed, block-allowed, settings-tests, settings-tests-with, settings-tests-but-counters};
+ghost use Rattle.device.specs.Remap.{remap-table, physical};
+
+// The settings in document 01's order: N, B, V, C, T, n, P.
+pub struct Settings {
+    pub rows: u32,
+    pub blast_diameter: u32,
+    pub volume: u32,
+    pub counters: u32,
+    pub interval: u32,
+    pub window: u32,
+    pub block: u32,
+}
+
+fn within(low: u32, high: u32, x: u32) -> bool
+    ensures { λ r. ⌜ r ≡ is-within low high x ⌝ }
+{
+    low <= x && x <= high
+}
+
+fn rows_in_range(n: u32) -> bool
+    ensures { λ r. ⌜ r ≡ rows-allowed n ⌝ }
+{
+    within(16, 65536, n) && n % 16 == 0
+}
+
+fn diameter_in_range(b: u32) -> bool
+    ensures { λ r. ⌜ r ≡ diameter-allowed b ⌝ }
+{
+    b == 2 || b == 4
+}
+
+// Whether p rows at each of n events come to all the rows. The product of any two 32-bit numbers fits 64 bits.
+fn covers(p: u32, n: u32, rows: u32) -> bool
+    ensures { λ r. ⌜ r ≡ leb rows (p * n) ⌝ }
+{
+    rows as u64 <= (p as u64) * (n as u64)
+}
+
+fn block_in_range(p: u32, n: u32, rows: u32) -> bool
+    ensures { λ r. ⌜ r ≡ block-allowed p n rows ⌝ }
+{
+    within(1, 64, p) && covers(p, n, rows)
+}
+
+// k unless something is so, else what the later tests say.
+pub fn refuse_unless(allowed: bool, k: u32, later: u32) -> u32
+    ensures { λ r. ⌜ r ≡ refuse-by (not allowed) k later ⌝ }
+{
+    if allowed { later } else { k }
+}
+
+// The settings' tests in their order, the one of the counter count given by its outcome.
+fn refusal_with(s: Settings, counters_in_range: bool) -> u32
+    ensures { λ r. ⌜ r ≡ first-failed (settings-tests-with «counters_in_range» s) ⌝ }
+{
+    refuse_unless(
+        rows_in_range(s.rows),
+        1,
+        refuse_unless(
+            diameter_in_range(s.blast_diameter),
+            2,
+            refuse_unless(
+                within(1, 16, s.volume),
+                3,
+                refuse_unless(
+                    counters_in_range,
+                    4,
+                    refuse_unless(
+                        within(1, 4096, s.interval),
+                        5,
+                        refuse_unless(
+                            within(1, 8192, s.window),
+                            6,
+                            refuse_unless(block_in_range(s.block, s.window, s.rows), 7, 0),
+                        ),
+                    ),
+                ),
+            ),
+        ),
+    )
+}
+
+// The refusal that the settings earn: 1 to 7, or 0 where they are accepted.
+pub fn settings_refusal(s: Settings) -> u32
+    ensures { λ r. ⌜ r ≡ first-failed (settings-tests s) ⌝ }
+{
+    refusal_with(s, within(s.volume, 2048, s.counters))
+}
+
+// The same where no counter count is given: `counters` is not looked at, and 4 is not given.
+pub fn settings_refusal_but_counters(s: Settings) -> u32
+    ensures { λ r. ⌜ r ≡ first-failed (settings-tests-but-counters s) ⌝ }
+{
+    refusal_with(s, true)
+}
+
+const REMAP: [u32; 16] = [0, 1, 3, 2, 4, 5, 7, 6, 8, 9, 11, 10, 12, 13, 15, 14];
+
+fn remapped(remainder: u32) -> u32
+    requires { ⌜ remainder < 16 ⌝ }
+    ensures { λ r. ⌜ r ≡ getD remap-table remainder 0 ⌝ }
+{
+    REMAP[remainder as usize]
+}
+
+// The physical row of a logical row.
+pub fn physical_row(row: u32) -> u32
+    ensures { λ r. ⌜ r ≡ physical row ⌝ }
+{
+    row / 16 * 16 + remapped(row % 16)
+}
