@@ -5,7 +5,7 @@ use mathlib.Core.Logic.{_⊎_, inl, inr, ⊎-map}
 use Prim.Native.Nat.{ℕ, suc, _*_, _%_, _≤_}
 use native.Mathlib.Omega.{arith}
 use borrow.Author.Tests.{leb-true, eqb-true}
-use lib.Dec.{leb, eqb}
+use lib.Dec.{leb, eqb, lit≤}
 use Rattle.device.specs.declared.Settings.{Settings}
 use Rattle.device.specs.Refusal.{refuse, first-failed, unless}
 use Rattle.device.specs.Acceptance.{within, rows-allowed, diameter-allowed, block-allowed, settings-tests-with, settings-tests, settings-tests-but-counters}
@@ -89,3 +89,33 @@ accepted s e =
 pub accepted-but-counters : (s : Settings) → first-failed (settings-tests-but-counters s) ≡ 0 → InRange s
 unfolding settings-tests-but-counters
 accepted-but-counters s e = tests-passed true s e .1
+
+-- accepted settings pass the tests that skip the counter count
+pub accepted-skipping : (s : Settings) → first-failed (settings-tests s) ≡ 0 → first-failed (settings-tests-but-counters s) ≡ 0
+unfolding settings-tests settings-tests-but-counters
+accepted-skipping s e = rw (tests-passed (within (s .volume) 2048 (s .counters)) s e .0) at e
+
+at-most : (failed : Bool) (k : ℕ) {later most : ℕ} → k ≤ most → later ≤ most → refuse failed k later ≤ most
+unfolding refuse
+at-most true k h later = h
+at-most false k h later = later
+
+-- the settings' refusals are 1 to 7
+refusals-with : (counters-allowed : Bool) (s : Settings) → first-failed (settings-tests-with counters-allowed s) ≤ 7
+unfolding first-failed unless settings-tests-with
+refusals-with counters-allowed s =
+    at-most (not (rows-allowed (s .rows))) 1 (lit≤ tt)
+    (at-most (not (diameter-allowed (s .«blast_diameter»))) 2 (lit≤ tt)
+    (at-most (not (within 1 16 (s .volume))) 3 (lit≤ tt)
+    (at-most (not counters-allowed) 4 (lit≤ tt)
+    (at-most (not (within 1 4096 (s .interval))) 5 (lit≤ tt)
+    (at-most (not (within 1 8192 (s .window))) 6 (lit≤ tt)
+    (at-most (not (block-allowed (s .block) (s .window) (s .rows))) 7 (lit≤ tt) (lit≤ tt)))))))
+
+pub refusals : (s : Settings) → first-failed (settings-tests s) ≤ 7
+unfolding settings-tests
+refusals s = refusals-with (within (s .volume) 2048 (s .counters)) s
+
+pub refusals-but-counters : (s : Settings) → first-failed (settings-tests-but-counters s) ≤ 7
+unfolding settings-tests-but-counters
+refusals-but-counters s = refusals-with true s

@@ -1,5 +1,6 @@
 -- Laws of the device's definitions.
 pub mod Cases
+pub mod Tested
 pub mod Table
 pub mod Permutation
 pub mod Accepted

@@ -1,5 +1,5 @@
 -- Refusals: tests in an order, each with its number; the first that failed decides.
-use Prim.Native.Nat.{ℕ}
+use Prim.Native.Nat.{ℕ, zero, suc}
 use mathlib.Core.Bool.{Bool, true, false, not}
 use mathlib.Core.List.{List, [], _∷_}
 
@@ -21,3 +21,13 @@ refuse false k later = later
 unfoldable pub first-failed : List Test → ℕ
 first-failed [] = 0
 first-failed (t ∷ ts) = refuse (t .failed) (t .number) (first-failed ts)
+
+-- an answer: accepted with what it carries, or refused with k
+pub data Outcome (A : Type 0) : Type 0 where
+  accepted : A → Outcome A
+  refused : ℕ → Outcome A
+
+-- refused where the tests' word is a refusal, else the answer
+unfoldable pub tested : {A : Type 0} → ℕ → Outcome A → Outcome A
+tested zero answer = answer
+tested (suc k) answer = refused (suc k)

@@ -1,0 +1,57 @@
+-- `bound::bound_with` meets its contract: the settings' ranges keep every sum and product small.
+use mathlib.Core.Path.{_≡_}
+use Prim.Native.Nat.{_+_, _*_, _≤_, _<_, _^_}
+use native.Mathlib.Omega.{arith}
+use borrow.Author.Needs.{needs}
+use Rattle.device.proofs.Accepted.{InRange, accepted-but-counters}
+use Rattle.bound.specs.Totals.{bound-of, bound-at, disturbers}
+use Rattle.bound.specs.Least.{with-counters}
+use Rattle.bound.proofs.Growth.{added-few, bound-small}
+use Rattle.bound.proofs.bound_with.Statement.{statement}
+use Rattle.bound.proofs.bound_with.Tie as tie
+
+mul-added : tie.Need-mul-added
+unfolding disturbers
+mul-added c =
+    let a = c .before .before .before .before in
+    omega (arith, added-few (a .args .s) (accepted-but-counters (a .args .s) (a .pre .0)))
+
+sub-total : tie.Need-sub-total
+sub-total c =
+    let a = c .before .before .before .before .before .before in
+    omega (arith, accepted-but-counters (a .args .s) (a .pre .0) .window .least)
+
+total-requires : tie.Need-total-requires
+unfolding disturbers
+total-requires c κs =
+    let a = c .before .before .before .before .before .before in
+    let ok = accepted-but-counters (a .args .s) (a .pre .0) in
+    (ok .volume .most, a .pre .1, added-few (a .args .s) ok, omega arith)
+
+returns : tie.Need-returns
+unfolding bound-of bound-at with-counters disturbers
+returns c = rw (c .total .ensures)
+
+add-result : tie.Need-add-result
+add-result c =
+    let a = c .before .before .before .before .before .before .before in
+    let small = bound-small (a .args .s) (a .args .counters) (accepted-but-counters (a .args .s) (a .pre .0)) in
+    omega (arith, returns c)
+
+pub bound-with-spec : {M : Type 1} → statement M
+bound-with-spec =
+    tie.close
+    (tie.spec
+    (λ c. search needs)
+    (λ c. search needs)
+    (λ c. search needs)
+    (λ c. search needs)
+    (λ c. search needs)
+    (λ c. search needs)
+    mul-added
+    (λ c. search needs)
+    (λ c. search needs)
+    sub-total
+    total-requires
+    add-result
+    returns)

@@ -1,0 +1,22 @@
+-- `bound::row_tracker_least_counters` meets its contract.
+use mathlib.Core.Path.{_∙_, ap}
+use mir.Syntax.{w64}
+use mir.ValLaws.{toZ-ofZ}
+use borrow.Author.Needs.{needs}
+use Rattle.bound.specs.Answers.{signed, settings-of}
+use Rattle.bound.proofs.Narrow.{least-answer-small}
+use Rattle.bound.proofs.row_tracker_least_counters.Statement.{statement}
+use Rattle.bound.proofs.row_tracker_least_counters.Tie as tie
+
+signed-number-requires : tie.Need-signed-number-requires
+unfolding settings-of
+signed-number-requires c κs =
+    let a = c .before .args in
+    rw (c .least-counters .ensures) (least-answer-small (settings-of (a .rows) (a .blast-diameter) (a .volume) 0 (a .interval) (a .window) (a .block)) (a .threshold))
+
+returns : tie.Need-returns
+unfolding settings-of
+returns c = toZ-ofZ w64 (c .signed-number .result) (record { sfits = c .signed-number .ok }) ∙ c .signed-number .ensures ∙ ap signed (c .before .least-counters .ensures)
+
+pub row-tracker-least-counters-spec : {M : Type 1} → statement M
+row-tracker-least-counters-spec = tie.close (tie.spec (λ c κs. search needs) signed-number-requires returns)

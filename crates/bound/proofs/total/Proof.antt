@@ -1,0 +1,105 @@
+-- `bound::total` meets its contract. The invariant: the steps that are left, taken from t, give what all the steps give from 0;
+-- and t with what the steps left can add is at most what all of them can.
+use mathlib.Core.Path.{_≡_, refl, _∙_, sym}
+use Prim.Native.Nat.{ℕ, zero, suc, _+_, _-_, _*_, _/_, _^_, _≤_, _<_}
+use native.Mathlib.Nat.{mul-le-mul}
+use native.Mathlib.Numerals.{sub-one}
+use native.Mathlib.Omega.{arith}
+use Rattle.bound.specs.Totals.{size, total}
+use Rattle.bound.proofs.Sizes.{size-positive, size-most, size-grows}
+use Rattle.bound.proofs.Growth.{total-step, step-small}
+use Rattle.bound.proofs.total.Statement.{statement}
+use Rattle.bound.proofs.total.Tie as tie
+
+record Left (volume counters added steps t j : ℕ) : Type 0 where
+  same : total (size volume counters) added j t ≡ total (size volume counters) added steps 0
+  fewer : j ≤ steps
+  small : t + j * added ≤ steps * added
+
+abbrev Inv-loop : tie.InvT-loop
+Inv-loop volume counters added steps t₀ j₀ t j = Left volume counters added steps t j
+
+abbrev μ-loop : tie.MeasureT-loop
+μ-loop volume counters added steps t₀ j₀ t j = j
+
+-- how far the total gets
+below : {v k a n t j : ℕ} → Left v k a n t j → a ≤ 16704 → n ≤ 8191 → t + a < 2 ^ 28
+below l ha hn = omega (arith, mul-le-mul hn ha)
+
+product : (x d k : ℕ) → x < 2 ^ 28 → d ≤ k + 1 → k ≤ 2048 → x * d < 2 ^ 64
+product x d k hx hd hk =
+    let x′ : x ≤ 268435456 = omega arith in
+    let d′ : d ≤ 2049 = omega arith in
+    omega (arith, mul-le-mul x′ d′)
+
+again : {v k a n t : ℕ} (j : ℕ) → Left v k a n t j → 0 < j → Left v k a n ((t + a) * size v k (j - 1) / size v k j) (j - 1)
+again zero l h = absurd (omega arith)
+again {v} {k} {a} {n} {t} (suc i) l h =
+    record {
+      same = sym (total-step (size v k) a (suc i) t h) ∙ l .same;
+      fewer = omega arith;
+      small = rw (sub-one (suc i)) (omega (arith, step-small (size v k) a (size-grows v k) i t));
+    }
+
+done : {v k a n t : ℕ} (j : ℕ) → Left v k a n t j → j ≤ 0 → t ≡ total (size v k) a n 0
+unfolding total
+done zero l h = l .same
+done (suc j) l h = absurd (omega arith)
+
+loop-holds : tie.Need-loop-holds Inv-loop μ-loop
+loop-holds c = record { same = refl; fewer = omega arith; small = omega arith }
+
+add-t : tie.Need-add-t Inv-loop μ-loop
+add-t c = omega (arith, below (c .before .loop .inv) (omega arith) (omega arith))
+
+sub-size : tie.Need-sub-size Inv-loop μ-loop
+sub-size c = omega arith
+
+size-requires : tie.Need-size-requires Inv-loop μ-loop
+size-requires c κs = omega (arith, c .before .loop .inv .fewer)
+
+mul-t : tie.Need-mul-t Inv-loop μ-loop
+mul-t c =
+    let l = c .before .before .loop .inv in
+    let a = c .before .before .before .args in
+    let most : c .size .result ≤ a .counters + 1 = rw (c .size .ensures) (size-most (a .volume) (a .counters) (c .before .before .loop .j - 1)) in
+    record { fits = product (c .before .before .loop .t + a .added) (c .size .result) (a .counters) (below l (omega arith) (omega arith)) most (omega arith) }
+
+size-requires-2 : tie.Need-size-requires-2 Inv-loop μ-loop
+size-requires-2 c κs = omega (arith, c .before .before .loop .inv .fewer)
+
+div-t : tie.Need-div-t Inv-loop μ-loop
+div-t c =
+    let a = c .before .before .before .before .args in
+    rw (c .size2 .ensures) (size-positive (a .volume) (a .counters) (c .before .before .before .loop .j))
+
+sub-j : tie.Need-sub-j Inv-loop μ-loop
+sub-j c = omega arith
+
+loop-less : tie.Need-loop-less Inv-loop μ-loop
+loop-less c = omega arith
+
+loop-again : tie.Need-loop-again Inv-loop μ-loop
+loop-again c =
+    rw (c .size2 .ensures, c .before .size .ensures) (again (c .before .before .before .loop .j) (c .before .before .before .loop .inv) (omega arith))
+
+returns : tie.Need-returns Inv-loop μ-loop
+returns c = done (c .before .loop .j) (c .before .loop .inv) (c .loop-test .left)
+
+pub total-spec : {M : Type 1} → statement M
+total-spec =
+    tie.close
+    (tie.spec
+    Inv-loop
+    μ-loop
+    loop-holds
+    add-t
+    sub-size
+    size-requires
+    mul-t
+    size-requires-2
+    div-t
+    sub-j
+    loop-less
+    loop-again
+    returns)

@@ -1,0 +1,4 @@
+-- The bound on disturbance and the least counter count.
+pub mod Totals
+pub mod Least
+pub mod Answers
