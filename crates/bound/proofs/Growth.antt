@@ -83,10 +83,11 @@ pub disturbers-few : (s : Settings) → InRange s → disturbers s ≤ 4176
 unfolding disturbers
 disturbers-few s ok = omega arith
 
+pub diameter-most : (s : Settings) → InRange s → s .«blast_diameter» ≤ 4
+diameter-most s ok = ⊎-elim (λ e. omega arith) (λ e. omega arith) (ok .diameter)
+
 pub added-few : (s : Settings) → InRange s → s .«blast_diameter» * disturbers s ≤ 16704
-added-few s ok =
-    let wide : s .«blast_diameter» ≤ 4 = ⊎-elim (λ e. omega arith) (λ e. omega arith) (ok .diameter) in
-    omega (arith, mul-le-mul wide (disturbers-few s ok))
+added-few s ok = omega (arith, mul-le-mul (diameter-most s ok) (disturbers-few s ok))
 
 -- no bound of an accepted device, whatever its C, comes near 2^63
 pub bound-small : (s : Settings) (c : ℕ) → InRange s → bound-of (with-counters s c) < 2 ^ 28

@@ -1,7 +1,7 @@
 // The bound on disturbance and the least counter count, for Rattle and for C.
 use device::Settings;
 ghost use mathlib.Core.Path.{_≡_};
-ghost use Prim.Native.Nat.{_+_, _*_, _≤_, _<_};
+ghost use Prim.Native.Nat.{_+_, _*_, _/_, _^_, _≤_, _<_};
 ghost use Rattle.device.specs.Refusal.{first-failed};
 ghost use Rattle.device.specs.Acceptance.{settings-tests-but-counters};
 ghost use Rattle.bound.specs.Totals.{size as size-of, total as total-of, bound-of};
@@ -23,6 +23,14 @@ fn size(volume: u64, counters: u64, j: u64) -> u64
     if linear < most { linear } else { most }
 }
 
+// One step of the total: a number is added, and the total replaced by total × below / at, rounded down.
+fn step(t: u64, added: u64, below: u64, at: u64) -> u64
+    requires { ⌜ (t + added < 2 ^ 64) × ((t + added) * below < 2 ^ 64) × (0 < at) ⌝ }
+    ensures { λ r. ⌜ r ≡ (t + added) * below / at ⌝ }
+{
+    (t + added) * below / at
+}
+
 // The total of so many steps, from 0.
 fn total(volume: u64, counters: u64, added: u64, steps: u64) -> u64
     requires { ⌜ (volume ≤ 16) × (counters ≤ 2048) × (added ≤ 16704) × (steps ≤ 8191) ⌝ }
@@ -31,7 +39,12 @@ fn total(volume: u64, counters: u64, added: u64, steps: u64) -> u64
     let mut t: u64 = 0;
     let mut j = steps;
     while 0 < j {
-        t = (t + added) * size(volume, counters, j - 1) / size(volume, counters, j);
+        t = step(
+            t,
+            added,
+            size(volume, counters, j - 1),
+            size(volume, counters, j),
+        );
         j = j - 1;
     }
     t

@@ -1,20 +1,28 @@
 -- `bound::bound_with` meets its contract: the settings' ranges keep every sum and product small.
-use mathlib.Core.Path.{_≡_}
-use Prim.Native.Nat.{_+_, _*_, _≤_, _<_, _^_}
+use Prim.Native.Nat.{ℕ, _+_, _*_, _≤_}
+use native.Mathlib.Nat.{mul-le-mul}
 use native.Mathlib.Omega.{arith}
 use borrow.Author.Needs.{needs}
-use Rattle.device.proofs.Accepted.{InRange, accepted-but-counters}
+use Rattle.device.proofs.Accepted.{accepted-but-counters}
 use Rattle.bound.specs.Totals.{bound-of, bound-at, disturbers}
 use Rattle.bound.specs.Least.{with-counters}
-use Rattle.bound.proofs.Growth.{added-few, bound-small}
+use Rattle.bound.proofs.Growth.{diameter-most, bound-small}
 use Rattle.bound.proofs.bound_with.Statement.{statement}
 use Rattle.bound.proofs.bound_with.Tie as tie
 
+returns : tie.Need-returns
+unfolding bound-of bound-at with-counters disturbers
+returns c = rw (c .total .ensures)
+
+added-most : {b d : ℕ} → b ≤ 4 → d ≤ 4176 → b * d ≤ 16704
+added-most hb hd = omega (arith, mul-le-mul hb hd)
+
 mul-added : tie.Need-mul-added
-unfolding disturbers
 mul-added c =
     let a = c .before .before .before .before in
-    omega (arith, added-few (a .args .s) (accepted-but-counters (a .args .s) (a .pre .0)))
+    let ok = accepted-but-counters (a .args .s) (a .pre .0) in
+    let few : a .args .s .interval + a .args .s .volume + a .args .s .block ≤ 4176 = omega arith in
+    omega (arith, added-most (diameter-most (a .args .s) ok) few)
 
 sub-total : tie.Need-sub-total
 sub-total c =
@@ -22,15 +30,10 @@ sub-total c =
     omega (arith, accepted-but-counters (a .args .s) (a .pre .0) .window .least)
 
 total-requires : tie.Need-total-requires
-unfolding disturbers
 total-requires c κs =
     let a = c .before .before .before .before .before .before in
     let ok = accepted-but-counters (a .args .s) (a .pre .0) in
-    (ok .volume .most, a .pre .1, added-few (a .args .s) ok, omega arith)
-
-returns : tie.Need-returns
-unfolding bound-of bound-at with-counters disturbers
-returns c = rw (c .total .ensures)
+    (ok .volume .most, a .pre .1, added-most (diameter-most (a .args .s) ok) (omega arith), omega arith)
 
 add-result : tie.Need-add-result
 add-result c =

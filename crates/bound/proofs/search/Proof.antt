@@ -35,7 +35,7 @@ unfolding least-of
 loop-holds c = record { same = refl; most = omega (arith, accepted-but-counters (c .args .s) (c .pre) .volume .most) }
 
 bound-with-requires : tie.Need-bound-with-requires Inv-loop μ-loop
-bound-with-requires c κs = (c .before .before .pre, c .loop-test .taken)
+bound-with-requires c κs = (c .before .before .pre, omega arith)
 
 mul-if1 : tie.Need-mul-if1 Inv-loop μ-loop
 mul-if1 c =
@@ -73,7 +73,7 @@ loop-again c =
 
 returns-2 : tie.Need-returns-2 Inv-loop μ-loop
 unfolding outcome
-returns-2 c = done (c .before .loop .c) (c .before .loop .inv) (c .loop-test .left)
+returns-2 c = done (c .before .loop .c) (c .before .loop .inv) (omega arith)
 
 pub search-spec : {M : Type 1} → statement M
 search-spec =

@@ -49,29 +49,25 @@ done (suc j) l h = absurd (omega arith)
 loop-holds : tie.Need-loop-holds Inv-loop μ-loop
 loop-holds c = record { same = refl; fewer = omega arith; small = omega arith }
 
-add-t : tie.Need-add-t Inv-loop μ-loop
-add-t c = omega (arith, below (c .before .loop .inv) (omega arith) (omega arith))
-
 sub-size : tie.Need-sub-size Inv-loop μ-loop
 sub-size c = omega arith
 
 size-requires : tie.Need-size-requires Inv-loop μ-loop
 size-requires c κs = omega (arith, c .before .loop .inv .fewer)
 
-mul-t : tie.Need-mul-t Inv-loop μ-loop
-mul-t c =
-    let l = c .before .before .loop .inv in
-    let a = c .before .before .before .args in
-    let most : c .size .result ≤ a .counters + 1 = rw (c .size .ensures) (size-most (a .volume) (a .counters) (c .before .before .loop .j - 1)) in
-    record { fits = product (c .before .before .loop .t + a .added) (c .size .result) (a .counters) (below l (omega arith) (omega arith)) most (omega arith) }
-
 size-requires-2 : tie.Need-size-requires-2 Inv-loop μ-loop
 size-requires-2 c κs = omega (arith, c .before .before .loop .inv .fewer)
 
-div-t : tie.Need-div-t Inv-loop μ-loop
-div-t c =
+step-requires : tie.Need-step-requires Inv-loop μ-loop
+step-requires c κs =
     let a = c .before .before .before .before .args in
-    rw (c .size2 .ensures) (size-positive (a .volume) (a .counters) (c .before .before .before .loop .j))
+    let l = c .before .before .before .loop in
+    let small = below (l .inv) (omega arith) (omega arith) in
+    let most : c .before .size .result ≤ a .counters + 1 = rw (c .before .size .ensures) (size-most (a .volume) (a .counters) (l .j - 1)) in (
+      omega arith,
+      product (l .t + a .added) (c .before .size .result) (a .counters) small most (omega arith),
+      rw (c .size2 .ensures) (size-positive (a .volume) (a .counters) (l .j)),
+    )
 
 sub-j : tie.Need-sub-j Inv-loop μ-loop
 sub-j c = omega arith
@@ -81,7 +77,8 @@ loop-less c = omega arith
 
 loop-again : tie.Need-loop-again Inv-loop μ-loop
 loop-again c =
-    rw (c .size2 .ensures, c .before .size .ensures) (again (c .before .before .before .loop .j) (c .before .before .before .loop .inv) (omega arith))
+    let l = c .before .before .before .before .loop in
+    rw (c .step .ensures, c .before .size2 .ensures, c .before .before .size .ensures) (again (l .j) (l .inv) (omega arith))
 
 returns : tie.Need-returns Inv-loop μ-loop
 returns c = done (c .before .loop .j) (c .before .loop .inv) (c .loop-test .left)
@@ -93,12 +90,10 @@ total-spec =
     Inv-loop
     μ-loop
     loop-holds
-    add-t
     sub-size
     size-requires
-    mul-t
     size-requires-2
-    div-t
+    step-requires
     sub-j
     loop-less
     loop-again

@@ -1,0 +1,52 @@
+-- The shared theorem of the table: every figure in it is what the definitions give, by one test that is computed over the whole table.
+use mathlib.Core.Path.{_≡_, refl, subst, sym}
+use mathlib.Core.Bool.{Bool, true, false, _&&_}
+use mathlib.Core.Logic.{⊎-elim}
+use mathlib.Core.List.{List, [], _∷_, List·Memᴰ, List·Memᴰ·not-nil, List·Memᴰ·cases-cons}
+use Prim.Native.Nat.{ℕ}
+use lib.Dec.{T, eqb, eqb→eq}
+use Rattle.device.proofs.Table.{both-left, both-right}
+use Rattle.device.specs.Refusal.{first-failed, unless, refuse, tested}
+use Rattle.device.specs.Acceptance.{within, rows-allowed, diameter-allowed, block-allowed, settings-tests-with, settings-tests, settings-tests-but-counters}
+use Rattle.device.specs.Remap.{remap-table, physical}
+use Rattle.bound.specs.Totals.{size, total, disturbers, bound-at, bound-of}
+use Rattle.bound.specs.Least.{with-counters, meets, or-else, first-from, least-of}
+use Rattle.bound.specs.Answers.{bound-answer, least-answer, settings-of}
+use Rattle.figures.specs.Table.{Figure, numbers, remap-figure, bound-figure, least-figure, figures}
+
+same : List ℕ → List ℕ → Bool
+same [] [] = true
+same [] (y ∷ ys) = false
+same (x ∷ xs) [] = false
+same (x ∷ xs) (y ∷ ys) = eqb x y && same xs ys
+
+same-equal : (xs ys : List ℕ) → T (same xs ys) → xs ≡ ys
+unfolding same
+same-equal [] [] t = refl
+same-equal [] (y ∷ ys) t = absurd t
+same-equal (x ∷ xs) [] t = absurd t
+same-equal (x ∷ xs) (y ∷ ys) t =
+    rw (eqb→eq x y (both-left (eqb x y) (same xs ys) t), same-equal xs ys (both-right (eqb x y) (same xs ys) t))
+
+every : List Figure → Bool
+every [] = true
+every (f ∷ fs) = same (f .defined) (f .given) && every fs
+
+each : (fs : List Figure) → T (every fs) → (f : Figure) → List·Memᴰ f fs → f .defined ≡ f .given
+unfolding every
+each [] t f m = absurd (List·Memᴰ·not-nil m)
+each (g ∷ gs) t f m =
+    ⊎-elim
+    (λ e. subst (λ (h : Figure). h .defined ≡ h .given) (sym e) (same-equal (g .defined) (g .given) (both-left (same (g .defined) (g .given)) (every gs) t)))
+    (λ later. each gs (both-right (same (g .defined) (g .given)) (every gs) t) f later)
+    (List·Memᴰ·cases-cons m)
+
+all-pass : T (every figures)
+unfolding
+    every same figures numbers remap-figure bound-figure least-figure
+    first-failed unless refuse tested within rows-allowed diameter-allowed block-allowed settings-tests-with settings-tests settings-tests-but-counters
+    remap-table physical size total disturbers bound-at bound-of with-counters meets or-else first-from least-of bound-answer least-answer settings-of
+all-pass = tt
+
+pub figures-hold : (f : Figure) → List·Memᴰ f figures → f .defined ≡ f .given
+figures-hold = each figures all-pass

@@ -1,0 +1,2 @@
+-- Every figure of the table holds.
+pub mod Holds

@@ -1,0 +1,7 @@
+//! Plain model of the row refresh tracker, for comparison in tests.
+//! It is written from document 01 alone, step by step, and shares no code with the product.
+
+pub mod bound;
+pub mod refusal;
+pub mod remap;
+pub mod settings;
