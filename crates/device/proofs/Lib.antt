@@ -5,3 +5,4 @@ pub mod Table
 pub mod Permutation
 pub mod Accepted
 pub mod Neighbours
+pub mod Times

@@ -1,0 +1,51 @@
+-- How often a row stands in a list of rows.
+use mathlib.Core.Path.{_≡_, refl}
+use mathlib.Core.Bool.{Bool, true, false, cond}
+use mathlib.Core.List.{List, [], _∷_, _++_}
+use Prim.Native.Nat.{ℕ, suc, _+_, _≤_, _<_}
+use native.Mathlib.Omega.{arith}
+use borrow.Author.Tests.{eqb-true, ne-eqb}
+use lib.Dec.{eqb}
+use Rattle.device.proofs.Cases.{split}
+use Rattle.device.proofs.Neighbours.{Ascends, none, more, victims-ascend}
+use Rattle.device.specs.Victims.{victims}
+
+-- 1 where two rows are the same, else 0
+unfoldable pub hit : ℕ → ℕ → ℕ
+hit v row = cond (eqb v row) 1 0
+
+unfoldable pub times : ℕ → List ℕ → ℕ
+times row [] = 0
+times row (v ∷ vs) = hit v row + times row vs
+
+pub hit-most : (v row : ℕ) → hit v row ≤ 1
+unfolding hit
+hit-most v row = split (eqb v row) (λ e. rw e (omega arith)) (λ e. rw e (omega arith))
+
+pub hit-other : (v row : ℕ) → (v ≡ row → ⊥) → hit v row ≡ 0
+unfolding hit
+hit-other v row h = rw (ne-eqb v row h)
+
+pub times-append : (row : ℕ) (xs ys : List ℕ) → times row (xs ++ ys) ≡ times row xs + times row ys
+unfolding times
+times-append row [] ys = omega arith
+times-append row (x ∷ xs) ys = omega (arith, times-append row xs ys)
+
+-- a row below the range is not in it, and none is in it twice
+times-below : (row : ℕ) {low high : ℕ} {vs : List ℕ} → Ascends low high vs → row < low → times row vs ≡ 0
+unfolding times
+times-below row none h = omega arith
+times-below row (more {row = v} later from below) h =
+    omega (arith, hit-other v row (λ e. omega arith), times-below row later (omega arith))
+
+times-once : (row : ℕ) {low high : ℕ} {vs : List ℕ} → Ascends low high vs → times row vs ≤ 1
+unfolding times hit
+times-once row none = omega arith
+times-once row (more {row = v} later from below) =
+    split (eqb v row)
+    (λ e. let same = eqb-true v row e in rw e (omega (arith, times-below row later (omega arith))))
+    (λ e. rw e (omega (arith, times-once row later)))
+
+-- a row disturbs another at most once
+pub victims-once : (rows diameter row v : ℕ) → row < rows → times v (victims rows diameter row) ≤ 1
+victims-once rows diameter row v h = times-once v (victims-ascend rows diameter row h)

@@ -1,0 +1,95 @@
+-- Levels: 'the D largest slots sum to at most M', said by a level t at or above the spillover with D × t and the excess of the counts over t
+-- at most M. A disturbance raises M by at most 1, a drop does not, and each pick takes its share.
+use mathlib.Core.Path.{_≡_, refl}
+use mathlib.Core.Bool.{Bool, true, false}
+use mathlib.Core.Logic.{_⊎_, inl, inr, ⊎-elim}
+use mathlib.Core.List.{List, [], _∷_}
+use Prim.Native.Nat.{ℕ, zero, suc, _+_, _-_, _*_, _/_, _≤_, _<_}
+use native.Mathlib.Omega.{arith}
+use borrow.Author.Tests.{eqb-true, ltb-true, ltb-false}
+use lib.Dec.{eqb, ltb}
+use lib.ListN.{length}
+use Rattle.device.proofs.Cases.{split, le-or-lt}
+use Rattle.summary.specs.Entries.{Entry, has, without, without-all, raised, entered, has-count, without-count}
+use Rattle.summary.specs.Steps.{Summary, disturb, disturb-each, drop-rows}
+use Rattle.summary.proofs.Floor.{Floor, none, more, floor-rises}
+
+-- the sum of the counts' excess over a level
+unfoldable pub excess : ℕ → List Entry → ℕ
+excess t [] = 0
+excess t (x ∷ xs) = (x .count - t) + excess t xs
+
+pub record Level (size most : ℕ) (s : Summary) : Type 0 where
+  pub level : ℕ
+  pub above : s .spillover ≤ level
+  pub small : size * level + excess level (s .entries) ≤ most
+
+module _ (t : ℕ) where
+  pub excess-without : (row : ℕ) (es : List Entry) → excess t (without row es) ≤ excess t es
+  unfolding excess without
+  excess-without row [] = omega arith
+  excess-without row (x ∷ xs) = split (eqb (x .row) row) (λ e. rw e (omega arith)) (λ e. rw e (omega (arith, excess-without row xs)))
+
+  excess-raised : (row : ℕ) (es : List Entry) → excess t (raised row es) ≤ excess t es + 1
+  unfolding excess raised
+  excess-raised row [] = omega arith
+  excess-raised row (x ∷ xs) = split (eqb (x .row) row) (λ e. rw e (omega arith)) (λ e. rw e (omega (arith, excess-raised row xs)))
+
+  excess-entered : (row count : ℕ) (es : List Entry) → excess t (entered row count es) ≡ (count - t) + excess t es
+  unfolding excess entered
+  excess-entered row count [] = refl
+  excess-entered row count (x ∷ xs) =
+      split (ltb row (x .row)) (λ e. rw e) (λ e. rw e (omega (arith, excess-entered row count xs)))
+
+  excess-without-count : (count : ℕ) (es : List Entry) → excess t (without-count count es) ≤ excess t es
+  unfolding excess without-count
+  excess-without-count count [] = omega arith
+  excess-without-count count (x ∷ xs) =
+      split (eqb (x .count) count) (λ e. rw e (omega arith)) (λ e. rw e (omega (arith, excess-without-count count xs)))
+
+  -- where every count is above the level, one level more takes 1 from each
+  excess-above : {es : List Entry} → Floor (suc t) es → excess (suc t) es + length es ≡ excess t es
+  unfolding excess
+  excess-above none = omega arith
+  excess-above (more x {xs} f l) = omega (arith, excess-above f)
+
+pub level-more : {size most most′ : ℕ} {s : Summary} → Level size most s → most ≤ most′ → Level size most′ s
+level-more l h = record { level = l .level; above = l .above; small = omega arith }
+
+module _ {size most : ℕ} where
+  -- a disturbance raises the sum by at most 1
+  pub level-disturb : (counters row : ℕ) (s : Summary) → size ≤ counters + 1 → Floor (s .spillover) (s .entries) → Level size most s → Level size (most + 1) (disturb counters row s)
+  unfolding disturb
+  level-disturb counters row s few floor l =
+      split (has row (s .entries))
+      (λ tracked. rw tracked (record { level = t; above = l .above; small = omega (arith, excess-raised t row es) }))
+      (λ untracked.
+      split (ltb (length es) counters)
+      (λ free. rw (untracked, free) (record { level = t; above = l .above; small = omega (arith, excess-entered t row (spill + 1) es) }))
+      (λ full.
+      split (has-count spill es)
+      (λ low.
+      rw (untracked, full, low)
+      (record {
+        level = t;
+        above = l .above;
+        small = omega (arith, excess-entered t row (spill + 1) (without-count spill es), excess-without-count t spill es);
+      }))
+      (λ high. rw (untracked, full, high) (⊎-elim (risen (floor-rises floor high) (ltb-false (length es) counters full)) stays (le-or-lt t spill)))))
+    where
+      t : ℕ
+      t = l .level
+
+      spill : ℕ
+      spill = s .spillover
+
+      es : List Entry
+      es = s .entries
+
+      stays : spill < t → Level size (most + 1) (record { entries = es; spillover = spill + 1 })
+      stays h = record { level = t; above = omega arith; small = omega arith }
+
+      risen : Floor (suc spill) es → counters ≤ length es → t ≤ spill → Level size (most + 1) (record { entries = es; spillover = spill + 1 })
+      risen above full h =
+          let same : t ≡ spill = omega arith in
+          record { level = suc t; above = omega arith; small = omega (arith, excess-above t (rw (← same) at above)) }

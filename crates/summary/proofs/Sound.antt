@@ -1,0 +1,117 @@
+-- The rules of a summary's own: counts at least the spillover and at least 1, rows ascending below the bank's end, no more than
+-- there are places. Every step keeps them.
+use mathlib.Core.Path.{_≡_, refl, ap}
+use mathlib.Core.Bool.{Bool, true, false, _||_}
+use mathlib.Core.List.{List, [], _∷_}
+use Prim.Native.Nat.{ℕ, zero, suc, _+_, _≤_, _<_}
+use native.Mathlib.Omega.{arith}
+use borrow.Author.Tests.{ltb-true}
+use lib.Dec.{eqb, ltb}
+use lib.ListN.{length}
+use Rattle.device.proofs.Cases.{split}
+use Rattle.summary.specs.Entries.{Entry, has, without, without-all, raised, entered, has-count, without-count}
+use Rattle.summary.specs.Steps.{Summary, empty, disturb, disturb-each, drop-rows}
+use Rattle.summary.proofs.Floor as Floor
+use Rattle.summary.proofs.Floor.{Floor, floor-lower, floor-without-all, floor-raised, floor-entered, floor-without-count, floor-rises}
+use Rattle.summary.proofs.Order as Order
+use Rattle.summary.proofs.Order.{Ordered, ordered-without-all, ordered-raised, ordered-entered, ordered-without-count, untracked-without-count}
+
+pub record Sound (high counters : ℕ) (s : Summary) : Type 0 where
+  pub floor : Floor (s .spillover) (s .entries)
+  pub positive : Floor 1 (s .entries)
+  pub ordered : Ordered high 0 (s .entries)
+  pub fits : length (s .entries) ≤ counters
+
+-- rows that are all below the bank's end
+pub data Below (high : ℕ) : List ℕ → Type 0 where
+  none : Below high []
+  more : (row : ℕ) {rows : List ℕ} → Below high rows → row < high → Below high (row ∷ rows)
+
+length-raised : (row : ℕ) (es : List Entry) → length (raised row es) ≡ length es
+unfolding raised
+length-raised row [] = refl
+length-raised row (x ∷ xs) = split (eqb (x .row) row) (λ e. rw e) (λ e. rw e (ap suc (length-raised row xs)))
+
+length-entered : (row count : ℕ) (es : List Entry) → length (entered row count es) ≡ suc (length es)
+unfolding entered
+length-entered row count [] = refl
+length-entered row count (x ∷ xs) = split (ltb row (x .row)) (λ e. rw e) (λ e. rw e (ap suc (length-entered row count xs)))
+
+length-exchanged : (count : ℕ) (es : List Entry) → has-count count es ≡ true → suc (length (without-count count es)) ≡ length es
+unfolding has-count without-count
+length-exchanged count [] e = absurd (let z : _≡_ {A = ℕ} 0 1 = cc in omega arith)
+length-exchanged count (x ∷ xs) e =
+    split (eqb (x .count) count) (λ on. rw on) (λ off. rw off (ap suc (length-exchanged count xs (rw off at e))))
+
+length-without : (row : ℕ) (es : List Entry) → length (without row es) ≤ length es
+unfolding without
+length-without row [] = omega arith
+length-without row (x ∷ xs) = split (eqb (x .row) row) (λ e. rw e (omega arith)) (λ e. rw e (omega (arith, length-without row xs)))
+
+length-without-all : (rows : List ℕ) (es : List Entry) → length (without-all rows es) ≤ length es
+unfolding without-all
+length-without-all [] es = omega arith
+length-without-all (row ∷ rows) es = omega (arith, length-without row es, length-without-all rows (without row es))
+
+pub sound-empty : {high counters : ℕ} → Sound high counters empty
+unfolding empty
+sound-empty = record { floor = Floor.none; positive = Floor.none; ordered = Order.none; fits = omega arith }
+
+module _ {high counters : ℕ} where
+  pub sound-drop : (rows : List ℕ) {s : Summary} → Sound high counters s → Sound high counters (drop-rows rows s)
+  unfolding drop-rows
+  sound-drop rows {s} k =
+      record {
+        floor = floor-without-all rows (k .floor);
+        positive = floor-without-all rows (k .positive);
+        ordered = ordered-without-all rows (k .ordered);
+        fits = omega (arith, length-without-all rows (s .entries));
+      }
+
+  pub sound-disturb : (row : ℕ) (s : Summary) → row < high → Sound high counters s → Sound high counters (disturb counters row s)
+  unfolding disturb
+  sound-disturb row s h k =
+      split (has row es)
+      (λ tracked.
+      rw tracked
+      (record {
+        floor = floor-raised row (k .floor);
+        positive = floor-raised row (k .positive);
+        ordered = ordered-raised row (k .ordered);
+        fits = omega (arith, length-raised row es);
+      }))
+      (λ untracked.
+      split (ltb (length es) counters)
+      (λ free.
+      rw (untracked, free)
+      (record {
+        floor = floor-entered row (spill + 1) (k .floor) (omega arith);
+        positive = floor-entered row (spill + 1) (k .positive) (omega arith);
+        ordered = ordered-entered row (spill + 1) (k .ordered) untracked (omega arith) h;
+        fits = omega (arith, length-entered row (spill + 1) es, ltb-true (length es) counters free);
+      }))
+      (λ full.
+      split (has-count spill es)
+      (λ low.
+      rw (untracked, full, low)
+      (record {
+        floor = floor-entered row (spill + 1) (floor-without-count spill (k .floor)) (omega arith);
+        positive = floor-entered row (spill + 1) (floor-without-count spill (k .positive)) (omega arith);
+        ordered =
+            ordered-entered row (spill + 1) (ordered-without-count spill (k .ordered)) (untracked-without-count row spill es untracked) (omega arith) h;
+        fits = omega (arith, length-entered row (spill + 1) (without-count spill es), length-exchanged spill es low);
+      }))
+      (λ up.
+      rw (untracked, full, up)
+      (record { floor = floor-lower (omega arith) (floor-rises (k .floor) up); positive = k .positive; ordered = k .ordered; fits = k .fits }))))
+    where
+      spill : ℕ
+      spill = s .spillover
+
+      es : List Entry
+      es = s .entries
+
+  pub sound-each : {rows : List ℕ} → Below high rows → {s : Summary} → Sound high counters s → Sound high counters (disturb-each counters rows s)
+  unfolding disturb-each
+  sound-each none k = k
+  sound-each (more row b h) {s} k = sound-each b (sound-disturb row s h k)

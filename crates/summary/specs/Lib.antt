@@ -1,0 +1,3 @@
+-- The summary of disturbed rows and the steps on it.
+pub mod Entries
+pub mod Steps

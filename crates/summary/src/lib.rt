@@ -1,0 +1,1 @@
+// The Misra-Gries summary of disturbed rows.
