@@ -78,6 +78,11 @@ unfolding bound-of bound-at with-counters disturbers
 bound-counters s {c} {c′} h =
     omega (arith, total-counters (s .volume) (s .«blast_diameter» * (s .interval + s .volume + s .block)) h (s .window - 1) (le-refl 0))
 
+-- T' counts every row that can disturb its victims between two events
+pub disturbers-cover : (s : Settings) → s .interval + s .volume + s .block ≤ disturbers s
+unfolding disturbers
+disturbers-cover s = omega arith
+
 -- what an accepted device adds in a step, and its T'
 pub disturbers-few : (s : Settings) → InRange s → disturbers s ≤ 4176
 unfolding disturbers

@@ -1,4 +1,5 @@
 -- The sizes D(j): at least 1, growing with j, at most C + 1; and rounded quotients keep the order.
+use mathlib.Core.Path.{_≡_}
 use mathlib.Core.Logic.{⊎-elim}
 use Prim.Native.Nat.{ℕ, zero, suc, _+_, _*_, _/_, _≤_, _<_, min}
 use native.Mathlib.Nat.{div-zero, le-div-iff-mul-le, div-mul-le-self, le-trans, le-refl, mul-le-mul, mul-le-mul-right, mul-comm, mul-right-comm, le-of-mul-le-mul-right, zero-lt-suc}
@@ -17,6 +18,15 @@ size-most v c j = omega arith
 pub size-grows : (v c j : ℕ) → size v c j ≤ size v c (suc j)
 unfolding size
 size-grows v c j = omega arith
+
+pub size-first : (v c : ℕ) → size v c 0 ≡ 1
+unfolding size
+size-first v c = omega arith
+
+-- an event more is at most V slots more
+pub size-steps : (v c j : ℕ) → size v c (suc j) ≤ size v c j + v
+unfolding size
+size-steps v c j = omega arith
 
 pub div-mono : (k : ℕ) {a b : ℕ} → a ≤ b → a / k ≤ b / k
 div-mono zero {a} {b} h = rw (div-zero a, div-zero b) (le-refl 0)

@@ -2,12 +2,13 @@
 use mathlib.Core.Path.{_≡_, refl}
 use mathlib.Core.Bool.{Bool, true, false, _&&_, _||_, not}
 use mathlib.Core.Logic.{_⊎_, inl, inr, ⊎-map}
-use Prim.Native.Nat.{ℕ, suc, _*_, _%_, _≤_}
+use mathlib.Core.List.{List, [], _∷_, _++_}
+use Prim.Native.Nat.{ℕ, zero, suc, _*_, _%_, _≤_}
 use native.Mathlib.Omega.{arith}
 use borrow.Author.Tests.{leb-true, eqb-true}
 use lib.Dec.{leb, eqb, lit≤}
 use Rattle.device.specs.declared.Settings.{Settings}
-use Rattle.device.specs.Refusal.{refuse, first-failed, unless}
+use Rattle.device.specs.Refusal.{Test, refuse, first-failed, unless}
 use Rattle.device.specs.Acceptance.{within, rows-allowed, diameter-allowed, block-allowed, settings-tests-with, settings-tests, settings-tests-but-counters}
 
 -- a number from low to high
@@ -119,3 +120,27 @@ refusals s = refusals-with (within (s .volume) 2048 (s .counters)) s
 pub refusals-but-counters : (s : Settings) → first-failed (settings-tests-but-counters s) ≤ 7
 unfolding settings-tests-but-counters
 refusals-but-counters s = refusals-with true s
+
+-- a refusal, or where there is none what later tests say
+unfoldable pub or-later : ℕ → ℕ → ℕ
+or-later zero later = later
+or-later (suc k) later = suc k
+
+later-refuse : (failed : Bool) (k l later : ℕ) → or-later (refuse failed (suc k) l) later ≡ refuse failed (suc k) (or-later l later)
+unfolding refuse or-later
+later-refuse true k l later = refl
+later-refuse false k l later = refl
+
+-- tests behind the settings' are heard where the settings are accepted
+pub settings-then : (s : Settings) (later : List Test) → first-failed (settings-tests s ++ later) ≡ or-later (first-failed (settings-tests s)) (first-failed later)
+unfolding first-failed unless settings-tests settings-tests-with or-later
+settings-then s later =
+    simp (
+      later-refuse (not (rows-allowed (s .rows))) 0,
+      later-refuse (not (diameter-allowed (s .«blast_diameter»))) 1,
+      later-refuse (not (within 1 16 (s .volume))) 2,
+      later-refuse (not (within (s .volume) 2048 (s .counters))) 3,
+      later-refuse (not (within 1 4096 (s .interval))) 4,
+      later-refuse (not (within 1 8192 (s .window))) 5,
+      later-refuse (not (block-allowed (s .block) (s .window) (s .rows))) 6,
+    )

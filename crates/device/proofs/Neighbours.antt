@@ -35,6 +35,19 @@ unfolding rows-from
 from-length zero low = omega arith
 from-length (suc k) low = omega (arith, from-length k (suc low))
 
+-- a run of rows below a row ascends, and is as long as the rows are apart
+pub between-ascends : (low high : ℕ) {top : ℕ} → high ≤ top → Ascends low top (rows-between low high)
+unfolding rows-between rows-from
+between-ascends low high {top} h =
+    ⊎-elim
+    (λ apart. from-ascends (high - low) low top (omega arith))
+    (λ past. let nothing : high - low ≡ 0 = omega arith in rw nothing none)
+    (le-or-lt low high)
+
+pub between-length : (low high : ℕ) → length (rows-between low high) ≡ high - low
+unfolding rows-between
+between-length low high = from-length (high - low) low
+
 -- membership: exactly the rows from low on and below low + k
 in-from : (k low v : ℕ) → List·Memᴰ v (rows-from k low) → (low ≤ v) × (v < low + k)
 unfolding rows-from

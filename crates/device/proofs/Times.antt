@@ -2,13 +2,13 @@
 use mathlib.Core.Path.{_≡_, refl}
 use mathlib.Core.Bool.{Bool, true, false, cond}
 use mathlib.Core.List.{List, [], _∷_, _++_}
-use Prim.Native.Nat.{ℕ, suc, _+_, _≤_, _<_}
+use Prim.Native.Nat.{ℕ, zero, suc, _+_, _-_, _≤_, _<_}
 use native.Mathlib.Omega.{arith}
-use borrow.Author.Tests.{eqb-true, ne-eqb}
+use borrow.Author.Tests.{eqb-true, eqb-false, ne-eqb}
 use lib.Dec.{eqb}
 use Rattle.device.proofs.Cases.{split}
 use Rattle.device.proofs.Neighbours.{Ascends, none, more, victims-ascend}
-use Rattle.device.specs.Victims.{victims}
+use Rattle.device.specs.Victims.{rows-from, rows-between, victims}
 
 -- 1 where two rows are the same, else 0
 unfoldable pub hit : ℕ → ℕ → ℕ
@@ -32,7 +32,7 @@ times-append row [] ys = omega arith
 times-append row (x ∷ xs) ys = omega (arith, times-append row xs ys)
 
 -- a row below the range is not in it, and none is in it twice
-times-below : (row : ℕ) {low high : ℕ} {vs : List ℕ} → Ascends low high vs → row < low → times row vs ≡ 0
+pub times-below : (row : ℕ) {low high : ℕ} {vs : List ℕ} → Ascends low high vs → row < low → times row vs ≡ 0
 unfolding times
 times-below row none h = omega arith
 times-below row (more {row = v} later from below) h =
@@ -49,3 +49,18 @@ times-once row (more {row = v} later from below) =
 -- a row disturbs another at most once
 pub victims-once : (rows diameter row v : ℕ) → row < rows → times v (victims rows diameter row) ≤ 1
 victims-once rows diameter row v h = times-once v (victims-ascend rows diameter row h)
+
+-- a row of a run of rows stands in it
+times-from : (v k low : ℕ) → low ≤ v → v < low + k → 1 ≤ times v (rows-from k low)
+unfolding rows-from times hit
+times-from v zero low l h = absurd (omega arith)
+times-from v (suc k) low l h =
+    split (eqb low v)
+    (λ on. rw on (omega arith))
+    (λ off.
+    let other = eqb-false low v off in
+    rw off (omega (arith, times-from v k (suc low) (omega arith) (omega arith))))
+
+pub times-between : (v low high : ℕ) → low ≤ v → v < high → 1 ≤ times v (rows-between low high)
+unfolding rows-between
+times-between v low high l h = times-from v (high - low) low l (omega arith)

@@ -14,6 +14,9 @@ pub data Floor (low : ℕ) : List Entry → Type 0 where
   none : Floor low []
   more : (x : Entry) {xs : List Entry} → Floor low xs → low ≤ x .count → Floor low (x ∷ xs)
 
+pub floor-parts : {low : ℕ} {x : Entry} {xs : List Entry} → Floor low (x ∷ xs) → (low ≤ x .count) × Floor low xs
+floor-parts (more x f l) = (l, f)
+
 pub floor-lower : {low low′ : ℕ} {es : List Entry} → low′ ≤ low → Floor low es → Floor low′ es
 floor-lower h none = none
 floor-lower h (more x f l) = more x (floor-lower h f) (omega arith)

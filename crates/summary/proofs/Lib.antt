@@ -1,6 +1,7 @@
 -- Laws of the summary.
 pub mod Floor
 pub mod Level
+pub mod Ceiling
 pub mod Order
 pub mod Share
 pub mod Estimates

@@ -13,12 +13,8 @@ use Rattle.device.proofs.Cases.{split, le-or-lt}
 use Rattle.summary.specs.Entries.{Entry, without, without-all, top, picks}
 use Rattle.summary.specs.Steps.{Summary, drop-rows}
 use Rattle.summary.proofs.Level.{excess, Level, excess-without}
+use Rattle.summary.proofs.Ceiling.{Ceiling, bare, under}
 use Rattle.summary.proofs.Order.{Ordered, none, more, ordered-without, ordered-member}
-
--- every count is at most high
-data Ceiling (high : ℕ) : List Entry → Type 0 where
-  bare : Ceiling high []
-  under : (x : Entry) {xs : List Entry} → Ceiling high xs → x .count ≤ high → Ceiling high (x ∷ xs)
 
 -- how many counts are above a level
 above : ℕ → List Entry → ℕ

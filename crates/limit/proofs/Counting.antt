@@ -1,0 +1,116 @@
+-- The plain counter's operations, in numbers: what setting to 0 and adding 1 do to each row, and which rows an event refreshes.
+use mathlib.Core.Path.{_≡_, refl, _∙_, sym, ap}
+use mathlib.Core.Bool.{Bool, true, false, _||_, cond}
+use mathlib.Core.Logic.{_⊎_, inl, inr, ⊎-elim}
+use mathlib.Core.List.{List, [], _∷_, _++_}
+use Prim.Native.Nat.{ℕ, zero, suc, _+_, _≤_, _<_}
+use native.Mathlib.Omega.{arith}
+use borrow.Author.Tests.{eqb-true, eqb-false, ne-eqb}
+use lib.Dec.{eqb}
+use Rattle.device.specs.declared.Settings.{Settings}
+use Rattle.device.proofs.Cases.{split}
+use Rattle.device.proofs.Times.{hit, times, hit-other, times-below}
+use Rattle.device.proofs.Neighbours as Neighbours
+use Rattle.device.proofs.Neighbours.{Ascends}
+use Rattle.summary.specs.Steps.{in-rows, besides}
+use Rattle.summary.proofs.Event.{reached}
+use Rattle.summary.proofs.Distinct as Distinct
+use Rattle.summary.proofs.Distinct.{Distinct}
+use Rattle.tracker.specs.Calls.{victims-in}
+use Rattle.limit.specs.Exact.{zeroed, one-more, disturbed-by, once}
+
+one-more-times : (vs : List ℕ) (d : ℕ → ℕ) (v : ℕ) → one-more vs d v ≡ d v + times v vs
+unfolding one-more times hit
+one-more-times [] d v = omega arith
+one-more-times (x ∷ xs) d v = omega (arith, one-more-times xs d v)
+
+-- each row's number rises by how often it is disturbed
+pub disturbed-reached : (s : Settings) (rows : List ℕ) (d : ℕ → ℕ) (v : ℕ) → disturbed-by s rows d v ≡ d v + reached (victims-in s) v rows
+unfolding disturbed-by reached
+disturbed-reached s [] d v = omega arith
+disturbed-reached s (x ∷ xs) d v =
+    omega (arith, disturbed-reached s xs (one-more (victims-in s x) d) v, one-more-times (victims-in s x) d v)
+
+-- a row that is set to 0, or one that is not among them and keeps its number
+pub zeroed-cases : (rows : List ℕ) (d : ℕ → ℕ) (v : ℕ) → (zeroed rows d v ≡ 0) ⊎ ((times v rows ≡ 0) × (zeroed rows d v ≡ d v))
+unfolding zeroed times hit
+zeroed-cases [] d v = inr (refl, refl)
+zeroed-cases (x ∷ xs) d v =
+    split (eqb x v)
+    (λ on. inl (rw on))
+    (λ off.
+    ⊎-elim
+    (λ gone. inl (rw off gone))
+    (λ kept. inr (rw off (omega (arith, kept .0)), rw off (kept .1)))
+    (zeroed-cases xs d v))
+
+-- setting to 0 lowers every number or keeps it
+pub zeroed-most : (rows : List ℕ) (d : ℕ → ℕ) (v : ℕ) → zeroed rows d v ≤ d v
+zeroed-most rows d v = ⊎-elim (λ gone. omega (arith, gone)) (λ kept. omega (arith, kept .1)) (zeroed-cases rows d v)
+
+-- it goes through a sum
+pub zeroed-sum : (rows : List ℕ) (a b c : ℕ → ℕ) (v : ℕ) → a v ≤ b v + c v → zeroed rows a v ≤ zeroed rows b v + zeroed rows c v
+unfolding zeroed
+zeroed-sum [] a b c v h = h
+zeroed-sum (x ∷ xs) a b c v h = split (eqb x v) (λ on. rw on (omega arith)) (λ off. rw off (zeroed-sum xs a b c v h))
+
+-- a row that stands nowhere in a list
+absent : (row : ℕ) (rows : List ℕ) → times row rows ≡ 0 → in-rows row rows ≡ false
+unfolding times hit in-rows
+absent row [] e = refl
+absent row (x ∷ xs) e =
+    split (eqb x row)
+    (λ on. absurd (let e′ = rw on at e in omega arith))
+    (λ off. rw off (absent row xs (omega (arith, rw off at e))))
+
+besides-nothing : (xs : List ℕ) → besides [] xs ≡ xs
+unfolding besides in-rows
+besides-nothing [] = refl
+besides-nothing (x ∷ xs) = ap (λ (ys : List ℕ). x ∷ ys) (besides-nothing xs)
+
+besides-append : (rows xs ys : List ℕ) → besides rows (xs ++ ys) ≡ besides rows xs ++ besides rows ys
+unfolding besides
+besides-append rows [] ys = refl
+besides-append rows (x ∷ xs) ys =
+    split (in-rows x rows)
+    (λ on. rw on (besides-append rows xs ys))
+    (λ off. rw off (ap (λ (zs : List ℕ). x ∷ zs) (besides-append rows xs ys)))
+
+-- one row out, where it does not stand
+besides-absent : (row : ℕ) (xs : List ℕ) → times row xs ≡ 0 → besides (row ∷ []) xs ≡ xs
+unfolding besides in-rows times hit
+besides-absent row [] e = refl
+besides-absent row (x ∷ xs) e =
+    split (eqb x row)
+    (λ on. absurd (let e′ = rw on at e in omega arith))
+    (λ off.
+    let other : eqb row x ≡ false = ne-eqb row x (λ q. eqb-false x row off (sym q)) in
+    rw other (ap (λ (zs : List ℕ). x ∷ zs) (besides-absent row xs (omega (arith, rw off at e)))))
+
+-- one row out, then others: all of them out
+besides-both : (row : ℕ) (rows xs : List ℕ) → besides (row ∷ []) (besides rows xs) ≡ besides (row ∷ rows) xs
+unfolding besides in-rows
+besides-both row rows [] = refl
+besides-both row rows (x ∷ xs) =
+    split (eqb row x)
+    (λ on.
+    split (in-rows x rows)
+    (λ inside. rw (inside, on) (besides-both row rows xs))
+    (λ outside. rw (outside, on) (besides-both row rows xs)))
+    (λ off.
+    split (in-rows x rows)
+    (λ inside. rw (inside, off) (besides-both row rows xs))
+    (λ outside. rw (outside, off) (ap (λ (zs : List ℕ). x ∷ zs) (besides-both row rows xs))))
+
+once-ascending : {low high : ℕ} {xs : List ℕ} → Ascends low high xs → once xs ≡ xs
+unfolding once
+once-ascending Neighbours.none = refl
+once-ascending (Neighbours.more {row} {rows} later from below) =
+    rw (once-ascending later) (ap (λ (zs : List ℕ). row ∷ zs) (besides-absent row rows (times-below row later (omega arith))))
+
+-- the named rows and then the block rows not among them are the named and block rows, each once
+pub once-sources : {names : List ℕ} → Distinct names → {low high : ℕ} {block : List ℕ} → Ascends low high block → once (names ++ block) ≡ names ++ besides names block
+unfolding once
+once-sources Distinct.none {block} a = once-ascending a ∙ sym (besides-nothing block)
+once-sources (Distinct.more row {rows = names} d e) {block} a =
+    rw (once-sources d a, besides-append (row ∷ []) names (besides names block), besides-absent row names e, besides-both row names block)

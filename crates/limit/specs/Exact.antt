@@ -1,0 +1,73 @@
+-- 'True disturbance': a plain counter beside the tracker, fed what happened and nothing else.
+use Prim.Native.Nat.{ℕ, _+_, _%_}
+use mathlib.Core.Bool.{Bool, true, false, cond}
+use mathlib.Core.List.{List, [], _∷_, _++_}
+use lib.Dec.{eqb}
+use Rattle.device.specs.declared.Settings.{Settings}
+use Rattle.device.specs.Remap.{physical}
+use Rattle.summary.specs.Steps.{besides}
+use Rattle.tracker.specs.Calls.{victims-in, block-rows}
+
+-- a call, as the counter is told of it: a logical row and whether the activation was accepted; whether an event was, and the rows it named
+pub data Happened : Type 0 where
+  activated : ℕ → Bool → Happened
+  refreshed : Bool → List ℕ → Happened
+
+-- 'one number for each die row, and f, the accepted events so far'
+pub record Exact : Type 0 where
+  pub disturbance : ℕ → ℕ
+  pub refreshes : ℕ
+
+-- 'an accepted setting up makes all of these 0'
+unfoldable pub at-rest : Exact
+at-rest = record { disturbance = λ row. 0; refreshes = 0 }
+
+-- rows are set to 0
+unfoldable pub zeroed : List ℕ → (ℕ → ℕ) → ℕ → ℕ
+zeroed [] d row = d row
+zeroed (x ∷ xs) d row = cond (eqb x row) 0 (zeroed xs d row)
+
+-- 1 is added at each row of a list
+unfoldable pub one-more : List ℕ → (ℕ → ℕ) → ℕ → ℕ
+one-more [] d row = d row
+one-more (x ∷ xs) d row = cond (eqb x row) 1 0 + one-more xs d row
+
+-- 1 is added at each victim of each row of a list
+unfoldable pub disturbed-by : Settings → List ℕ → (ℕ → ℕ) → ℕ → ℕ
+disturbed-by s [] d = d
+disturbed-by s (x ∷ xs) d = disturbed-by s xs (one-more (victims-in s x) d)
+
+-- each row of a list once, where it stands first
+unfoldable pub once : List ℕ → List ℕ
+once [] = []
+once (x ∷ xs) = x ∷ besides (x ∷ []) (once xs)
+
+-- an accepted event: 'the remainder of f by n as e' gives the block; 'every named and every block row' is set to 0, then
+-- 1 is added 'to each neighbour of each of them, once per such row'
+unfoldable pub after-event : Settings → List ℕ → Exact → Exact
+after-event s named x =
+    let rows = named ++ block-rows s (x .refreshes % s .window) in
+    record {
+      disturbance = disturbed-by s (once rows) (zeroed rows (x .disturbance));
+      refreshes = x .refreshes + 1;
+    }
+
+-- one call: 'a refused call changes nothing'
+unfoldable pub after : Settings → Happened → Exact → Exact
+after s (activated row true) x =
+    record {
+      disturbance = disturbed-by s (physical row ∷ []) (zeroed (physical row ∷ []) (x .disturbance));
+      refreshes = x .refreshes;
+    }
+after s (activated row false) x = x
+after s (refreshed true named) x = after-event s named x
+after s (refreshed false named) x = x
+
+-- the calls in their order
+unfoldable pub after-all : Settings → List Happened → Exact → Exact
+after-all s [] x = x
+after-all s (h ∷ hs) x = after-all s hs (after s h x)
+
+-- the exact disturbance ('true disturbance') after all that happened since setting up
+unfoldable pub exact : Settings → List Happened → Exact
+exact s happened = after-all s happened at-rest

@@ -1,0 +1,46 @@
+-- Runs: any list of activations and events after an accepted setting up.
+use Prim.Native.Nat.{ℕ}
+use mathlib.Core.Path.{_≡_}
+use mathlib.Core.Bool.{Bool}
+use mathlib.Core.List.{List, [], _∷_}
+use lib.Dec.{eqb}
+use lib.ListN.{take}
+use Rattle.device.specs.declared.Settings.{Settings}
+use Rattle.device.specs.Refusal.{accepted}
+use Rattle.tracker.specs.declared.Position.{Position}
+use Rattle.tracker.specs.State.{State}
+use Rattle.tracker.specs.Calls.{set-up, activate, refresh}
+use Rattle.limit.specs.Exact.{Happened, activated, refreshed}
+
+-- a call of the list: an activation of any logical row, or an event with any lent list
+pub data Command : Type 0 where
+  activation-of : ℕ → Command
+  refresh-into : List ℕ → Command
+
+-- the state that a call leaves, and what the counter is told of it
+unfoldable pub left-by : Settings → Command → State → State
+left-by s (activation-of row) st = activate s st row .state
+left-by s (refresh-into picks) st = refresh s st picks .state
+
+unfoldable pub told-by : Settings → Command → State → Happened
+told-by s (activation-of row) st = activated row (eqb (activate s st row .refusal) 0)
+told-by s (refresh-into picks) st =
+    let call = refresh s st picks in
+    refreshed (eqb (call .refusal) 0) (take (call .count) (call .picks))
+
+-- each call gets the tables and position that the call before left
+unfoldable pub state-after : Settings → List Command → State → State
+state-after s [] st = st
+state-after s (c ∷ cs) st = state-after s cs (left-by s c st)
+
+unfoldable pub happened : Settings → List Command → State → List Happened
+happened s [] st = []
+happened s (c ∷ cs) st = told-by s c st ∷ happened s cs (left-by s c st)
+
+-- 'an accepted setting up', whatever the lent tables held, and the state that it left
+pub record Begun (s : Settings) (st : State) : Type 0 where
+  pub rows : List ℕ
+  pub counts : List ℕ
+  pub accepts : set-up s rows counts .answer ≡ accepted (st .position)
+  pub rows-left : st .rows ≡ set-up s rows counts .rows
+  pub counts-left : st .counts ≡ set-up s rows counts .counts

@@ -1,0 +1,27 @@
+-- Counts that are nowhere above a number: a level of one slot gives one.
+use mathlib.Core.List.{List, [], _∷_}
+use Prim.Native.Nat.{ℕ, _+_, _-_, _*_, _≤_}
+use native.Mathlib.Omega.{arith}
+use Rattle.summary.specs.Entries.{Entry}
+use Rattle.summary.specs.Steps.{Summary}
+use Rattle.summary.proofs.Level.{Level, excess}
+
+-- every count is at most high
+pub data Ceiling (high : ℕ) : List Entry → Type 0 where
+  bare : Ceiling high []
+  under : (x : Entry) {xs : List Entry} → Ceiling high xs → x .count ≤ high → Ceiling high (x ∷ xs)
+
+pub ceiling-higher : {high high′ : ℕ} {es : List Entry} → Ceiling high es → high ≤ high′ → Ceiling high′ es
+ceiling-higher bare h = bare
+ceiling-higher (under x c l) h = under x (ceiling-higher c h) (omega arith)
+
+ceiling-excess : (t : ℕ) (es : List Entry) → Ceiling (t + excess t es) es
+unfolding excess
+ceiling-excess t [] = bare
+ceiling-excess t (x ∷ xs) = under x (ceiling-higher (ceiling-excess t xs) (omega arith)) (omega arith)
+
+pub ceiling-level : {most : ℕ} {s : Summary} → Level 1 most s → Ceiling most (s .entries)
+ceiling-level {s = s} l = ceiling-higher (ceiling-excess (l .level) (s .entries)) (omega (arith, l .small))
+
+pub spillover-level : {most : ℕ} {s : Summary} → Level 1 most s → s .spillover ≤ most
+spillover-level l = omega arith

@@ -1,0 +1,3 @@
+-- Laws of the tracker's state and calls.
+pub mod LaidOut
+pub mod Refusals

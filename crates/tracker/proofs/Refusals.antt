@@ -1,0 +1,40 @@
+-- The refusals of calls on a state that holds a sound summary of accepted settings: 9 and 22, or 10, and never 8 or 21.
+use mathlib.Core.Path.{_≡_, refl, _∙_}
+use mathlib.Core.Bool.{Bool, true, false, not}
+use mathlib.Core.List.{List, [], _∷_, _++_}
+use Prim.Native.Nat.{ℕ, _+_, _≤_, _<_}
+use lib.Dec.{leb, ltb}
+use lib.ListN.{length}
+use Rattle.device.specs.declared.Settings.{Settings}
+use Rattle.device.specs.Refusal.{first-failed, unless, refuse}
+use Rattle.device.specs.Acceptance.{settings-tests}
+use Rattle.device.proofs.Accepted.{or-later, settings-then}
+use Rattle.summary.specs.Steps.{Summary}
+use Rattle.summary.proofs.Ceiling.{Ceiling}
+use Rattle.summary.proofs.Sound.{Sound}
+use Rattle.tracker.specs.State.{State, state-of, valid}
+use Rattle.tracker.specs.Calls.{tables-long, activation-tests, refresh-tests}
+use Rattle.tracker.proofs.LaidOut.{long-enough, valid-state}
+
+-- a summary that a valid state can hold
+pub record Held (s : Settings) (e a : ℕ) (sum : Summary) : Type 0 where
+  pub sound : Sound (s .rows) (s .counters) sum
+  pub early : e < s .window
+  pub within : a ≤ s .interval
+  pub ceiling : Ceiling 2000000000 (sum .entries)
+  pub spilt : sum .spillover ≤ 2000000000
+
+module _ (s : Settings) (e a : ℕ) (sum : Summary) (ok : first-failed (settings-tests s) ≡ 0) (h : Held s e a sum) where
+  long : tables-long s (state-of s e a sum .rows) (state-of s e a sum .counts) ≡ true
+  long = long-enough s e a sum (h .sound .fits)
+
+  pub held-valid : valid s (state-of s e a sum) ≡ true
+  held-valid = valid-state s e a sum (h .sound) (h .early) (h .within) (h .ceiling) (h .spilt)
+
+  pub activation-refusals : (row : ℕ) → first-failed (activation-tests s (state-of s e a sum) row) ≡ refuse (not (ltb row (s .rows))) 9 (refuse (not (ltb a (s .interval))) 22 0)
+  unfolding activation-tests first-failed unless or-later refuse state-of
+  activation-refusals row = rw (settings-then s, ok, long, held-valid)
+
+  pub refresh-refusals : (picks : List ℕ) → first-failed (refresh-tests s (state-of s e a sum) picks) ≡ refuse (not (leb (s .volume) (length picks))) 10 0
+  unfolding refresh-tests first-failed unless or-later refuse
+  refresh-refusals picks = rw (settings-then s, ok, long, held-valid)

@@ -1,0 +1,43 @@
+-- What the calls' answers say: for each case the paper's number and the values it carries.
+use Prim.Native.Nat.{ℕ}
+use mathlib.Core.Bool.{Bool}
+use Rattle.device.specs.Refusal.{Outcome, accepted, refused}
+use Rattle.tracker.specs.declared.Position.{Position}
+use Rattle.tracker.specs.declared.SetUp.{SetUp}
+use Rattle.tracker.specs.declared.SetUp.the-variants.{Ready, Refused as SetUp-refused}
+use Rattle.tracker.specs.declared.Activation.{Activation}
+use Rattle.tracker.specs.declared.Activation.the-variants.{Accepted as Activation-accepted, Refused as Activation-refused}
+use Rattle.tracker.specs.declared.Refreshed.{Refreshed}
+use Rattle.tracker.specs.declared.Refreshed.the-variants.{Accepted as Refresh-accepted, Refused as Refresh-refused}
+use Rattle.tracker.specs.declared.Agreement.{Agreement}
+use Rattle.tracker.specs.declared.Agreement.the-variants.{Same, Refused as Agreement-refused}
+
+unfoldable pub set-up-outcome : SetUp → Outcome Position
+set-up-outcome (Ready p) = accepted p
+set-up-outcome (SetUp-refused k) = refused k
+
+-- the refusal, 0 where accepted, and the position left
+unfoldable pub activation-refusal : Activation → ℕ
+activation-refusal (Activation-accepted p) = 0
+activation-refusal (Activation-refused k p) = k
+
+unfoldable pub activation-position : Activation → Position
+activation-position (Activation-accepted p) = p
+activation-position (Activation-refused k p) = p
+
+-- the refusal, 0 where accepted, the number picked and the position left
+unfoldable pub refresh-refusal : Refreshed → ℕ
+refresh-refusal (Refresh-accepted v p) = 0
+refresh-refusal (Refresh-refused k p) = k
+
+unfoldable pub refresh-count : Refreshed → ℕ
+refresh-count (Refresh-accepted v p) = v
+refresh-count (Refresh-refused k p) = 0
+
+unfoldable pub refresh-position : Refreshed → Position
+refresh-position (Refresh-accepted v p) = p
+refresh-position (Refresh-refused k p) = p
+
+unfoldable pub agreement-outcome : Agreement → Outcome Bool
+agreement-outcome (Same b) = accepted b
+agreement-outcome (Agreement-refused k) = refused k

@@ -1,0 +1,130 @@
+-- The calls on raw state: the refusals in document 01's order, and what each call leaves, refused or not.
+use Prim.Native.Nat.{ℕ, zero, suc, _+_, _-_, _*_, min}
+use mathlib.Core.Bool.{Bool, true, false, _&&_, cond}
+use mathlib.Core.List.{List, [], _∷_, _++_}
+use lib.Dec.{leb, ltb, eqb}
+use lib.ListN.{length, drop, replicate}
+use Rattle.device.specs.declared.Settings.{Settings}
+use Rattle.device.specs.Refusal.{Test, unless, first-failed, Outcome, accepted, tested}
+use Rattle.device.specs.Acceptance.{settings-tests}
+use Rattle.device.specs.Remap.{physical}
+use Rattle.device.specs.Victims.{rows-between, victims}
+use Rattle.summary.specs.Steps.{Summary, empty, estimate, picked, activation, event}
+use Rattle.tracker.specs.declared.Position.{Position}
+use Rattle.tracker.specs.State.{State, summary-of, state-of, valid}
+
+-- the rows that a row disturbs
+unfoldable pub victims-in : Settings → ℕ → List ℕ
+victims-in s row = victims (s .rows) (s .«blast_diameter») row
+
+-- 'the regular block is rows e × P to e × P + P − 1, cut at N'
+unfoldable pub block-rows : Settings → ℕ → List ℕ
+block-rows s e = rows-between (e * s .block) (min (e * s .block + s .block) (s .rows))
+
+-- 'if e = n − 1'
+unfoldable pub ends-window : Settings → ℕ → Bool
+ends-window s e = eqb e (s .window - 1)
+
+-- the events in the window after one more: 'e becomes 0 .. else e rises by 1'
+unfoldable pub next-event : Settings → ℕ → ℕ
+next-event s e = cond (ends-window s e) 0 (e + 1)
+
+-- 8: 'a lent table is not C places long'
+unfoldable pub tables-long : Settings → List ℕ → List ℕ → Bool
+tables-long s rows counts = eqb (length rows) (s .counters) && eqb (length counts) (s .counters)
+
+-- the tests of each call, in their order
+unfoldable pub set-up-tests : Settings → List ℕ → List ℕ → List Test
+set-up-tests s rows counts = settings-tests s ++ unless (tables-long s rows counts) 8 ∷ []
+
+unfoldable pub activation-tests : Settings → State → ℕ → List Test
+activation-tests s st row =
+    settings-tests s ++
+    unless (tables-long s (st .rows) (st .counts)) 8 ∷
+    unless (ltb row (s .rows)) 9 ∷
+    unless (valid s st) 21 ∷
+    unless (ltb (st .position .activations) (s .interval)) 22 ∷ []
+
+unfoldable pub refresh-tests : Settings → State → List ℕ → List Test
+refresh-tests s st picks =
+    settings-tests s ++
+    unless (tables-long s (st .rows) (st .counts)) 8 ∷
+    unless (leb (s .volume) (length picks)) 10 ∷
+    unless (valid s st) 21 ∷ []
+
+unfoldable pub agreement-tests : Settings → State → Settings → State → List Test
+agreement-tests s st s′ st′ =
+    settings-tests s ++
+    settings-tests s′ ++
+    unless (tables-long s (st .rows) (st .counts) && tables-long s′ (st′ .rows) (st′ .counts)) 8 ∷
+    unless (valid s st && valid s′ st′) 21 ∷ []
+
+-- what came where a call is refused, else what it makes
+unfoldable pub kept-unless : {A : Type 0} → ℕ → A → A → A
+kept-unless zero came made = made
+kept-unless (suc k) came made = came
+
+-- 'setting up writes 0 everywhere'; refused, 'the lent tables keep what they held'
+pub record SetUp-call : Type 0 where
+  pub answer : Outcome Position
+  pub rows : List ℕ
+  pub counts : List ℕ
+
+unfoldable pub set-up : Settings → List ℕ → List ℕ → SetUp-call
+set-up s rows counts =
+    let k = first-failed (set-up-tests s rows counts) in
+    let begun = state-of s 0 0 empty in
+    record {
+      answer = tested k (accepted (begun .position));
+      rows = kept-unless k rows (begun .rows);
+      counts = kept-unless k counts (begun .counts);
+    }
+
+-- an activation: the refusal (0: accepted) and the state that it leaves
+pub record Activation-call : Type 0 where
+  pub refusal : ℕ
+  pub state : State
+
+unfoldable pub activate : Settings → State → ℕ → Activation-call
+activate s st row =
+    let k = first-failed (activation-tests s st row) in
+    record {
+      refusal = k;
+      state =
+          kept-unless k st
+          (state-of s (st .position .events) (st .position .activations + 1)
+          (activation (s .counters) (victims-in s) (physical row) (summary-of st)));
+    }
+
+-- an event: the refusal, the number picked, the state and the list that it leaves
+pub record Refresh-call : Type 0 where
+  pub refusal : ℕ
+  pub count : ℕ
+  pub state : State
+  pub picks : List ℕ
+
+unfoldable pub refresh : Settings → State → List ℕ → Refresh-call
+refresh s st picks =
+    let k = first-failed (refresh-tests s st picks) in
+    let e = st .position .events in
+    let named = picked (s .volume) (summary-of st) in
+    record {
+      refusal = k;
+      count = kept-unless k 0 (length named);
+      state =
+          kept-unless k st
+          (state-of s (next-event s e) 0
+          (event (s .counters) (victims-in s) (s .volume) (block-rows s e) (ends-window s e) (summary-of st)));
+      picks = kept-unless k picks (named ++ drop (length named) picks);
+    }
+
+-- rows 0 to high, without high, all have the same estimate
+unfoldable pub same-estimates : ℕ → Summary → Summary → Bool
+same-estimates zero a b = true
+same-estimates (suc row) a b = eqb (estimate a row) (estimate b row) && same-estimates row a b
+
+-- 'two summaries agree when N is the same and every row has the same estimate in both'
+unfoldable pub agree : Settings → State → Settings → State → Outcome Bool
+agree s st s′ st′ =
+    tested (first-failed (agreement-tests s st s′ st′))
+    (accepted (eqb (s .rows) (s′ .rows) && same-estimates (s .rows) (summary-of st) (summary-of st′)))

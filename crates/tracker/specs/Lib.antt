@@ -1,0 +1,4 @@
+-- The tracker: its state, its calls and their answers.
+pub mod State
+pub mod Calls
+pub mod Answers

@@ -1,0 +1,77 @@
+-- The state that the caller lends: two tables and a position, the summary that they hold, and the rules of a valid state.
+use Prim.Native.Nat.{ℕ, zero, suc, _-_}
+use mathlib.Core.Bool.{Bool, true, false, _&&_}
+use mathlib.Core.List.{List, [], _∷_, _++_}
+use lib.Dec.{leb, ltb, eqb}
+use lib.ListN.{length, take, drop, replicate}
+use Rattle.device.specs.declared.Settings.{Settings}
+use Rattle.summary.specs.Entries.{Entry, rows-of, counts-of}
+use Rattle.summary.specs.Steps.{Summary}
+use Rattle.tracker.specs.declared.Position.{Position}
+
+-- 'the caller lends two number tables ..: rows and counts'; the position goes with them
+pub record State : Type 0 where
+  pub rows : List ℕ
+  pub counts : List ℕ
+  pub position : Position
+
+-- the entries at the front of both tables, so many
+unfoldable pub entries-of : ℕ → List ℕ → List ℕ → List Entry
+entries-of zero rows counts = []
+entries-of (suc k) [] counts = []
+entries-of (suc k) (row ∷ rows) [] = []
+entries-of (suc k) (row ∷ rows) (count ∷ counts) = record { row = row; count = count } ∷ entries-of k rows counts
+
+-- the summary that a state holds
+unfoldable pub summary-of : State → Summary
+summary-of st =
+    record {
+      entries = entries-of (st .position .tracked) (st .rows) (st .counts);
+      spillover = st .position .spillover;
+    }
+
+-- a table of so many places: numbers at the front, 'all places behind hold 0'
+unfoldable pub table : ℕ → List ℕ → List ℕ
+table places xs = xs ++ replicate (places - length xs) 0
+
+-- the state that holds a summary, after so many events in the window and activations since the last
+unfoldable pub state-of : Settings → ℕ → ℕ → Summary → State
+state-of s events activations sum =
+    record {
+      rows = table (s .counters) (rows-of (sum .entries));
+      counts = table (s .counters) (counts-of (sum .entries));
+      position = record {
+        events = events;
+        activations = activations;
+        tracked = length (sum .entries);
+        spillover = sum .spillover;
+      };
+    }
+
+-- only zeros
+unfoldable pub zeros : List ℕ → Bool
+zeros [] = true
+zeros (x ∷ xs) = eqb x 0 && zeros xs
+
+-- 'strictly ascending by row': from low on, below high
+unfoldable pub ascending : ℕ → ℕ → List ℕ → Bool
+ascending low high [] = true
+ascending low high (row ∷ rows) = leb low row && ltb row high && ascending (suc row) high rows
+
+-- no count 'is 0 or below the spill' or 'exceeds 2,000,000,000'
+unfoldable pub counts-allowed : ℕ → List ℕ → Bool
+counts-allowed spillover [] = true
+counts-allowed spillover (count ∷ counts) =
+    leb 1 count && leb spillover count && leb count 2000000000 && counts-allowed spillover counts
+
+-- the rules of a valid state, of which 21 is the breach
+unfoldable pub valid : Settings → State → Bool
+valid s st =
+    ltb (st .position .events) (s .window) &&
+    leb (st .position .activations) (s .interval) &&
+    leb (st .position .tracked) (s .counters) &&
+    ascending 0 (s .rows) (take (st .position .tracked) (st .rows)) &&
+    zeros (drop (st .position .tracked) (st .rows)) &&
+    zeros (drop (st .position .tracked) (st .counts)) &&
+    counts-allowed (st .position .spillover) (take (st .position .tracked) (st .counts)) &&
+    leb (st .position .spillover) 2000000000
