@@ -76,7 +76,7 @@ bound-grows s {i} {k} h =
 pub bound-counters : (s : Settings) {c c′ : ℕ} → c ≤ c′ → bound-of (with-counters s c′) ≤ bound-of (with-counters s c)
 unfolding bound-of bound-at with-counters disturbers
 bound-counters s {c} {c′} h =
-    omega (arith, total-counters (s .volume) (s .«blast_diameter» * (s .interval + s .volume + s .block)) h (s .window - 1) (le-refl 0))
+    omega (arith, total-counters (s .volume) (s .«blast_diameter» * disturbers s) h (s .window - 1) (le-refl 0))
 
 -- T' counts every row that can disturb its victims between two events
 pub disturbers-cover : (s : Settings) → s .interval + s .volume + s .block ≤ disturbers s

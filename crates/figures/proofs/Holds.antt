@@ -9,10 +9,16 @@ use Rattle.device.proofs.Table.{both-left, both-right}
 use Rattle.device.specs.Refusal.{first-failed, unless, refuse, tested}
 use Rattle.device.specs.Acceptance.{within, rows-allowed, diameter-allowed, block-allowed, settings-tests-with, settings-tests, settings-tests-but-counters}
 use Rattle.device.specs.Remap.{remap-table, physical}
+use Rattle.device.specs.Victims.{rows-from, rows-between, victims}
+use Rattle.summary.specs.Entries.{rows-of, counts-of, has, count-or, without, without-all, raised, entered, has-count, without-count, top, picks}
+use Rattle.summary.specs.Steps.{empty, in-rows, disturb, disturb-each, drop-rows, spread, activation, besides, picked, taken-out, cleared-if, sources, event}
+use Rattle.tracker.specs.State.{entries-of, summary-of, table, state-of, zeros, ascending, counts-allowed, valid}
+use Rattle.tracker.specs.Calls.{victims-in, block-rows, ends-window, next-event, tables-long, set-up-tests, activation-tests, refresh-tests, kept-unless, set-up, activate, refresh}
+use Rattle.limit.specs.Run.{left-by, state-after}
 use Rattle.bound.specs.Totals.{size, total, disturbers, bound-at, bound-of}
 use Rattle.bound.specs.Least.{with-counters, meets, or-else, first-from, least-of}
 use Rattle.bound.specs.Answers.{bound-answer, least-answer, settings-of}
-use Rattle.figures.specs.Table.{Figure, numbers, remap-figure, bound-figure, least-figure, figures}
+use Rattle.figures.specs.Table.{Figure, numbers, remap-figure, bound-figure, least-figure, position-of, begun, state-numbers, traced, line-4, line-5, line-6, activations, shown, figures}
 
 same : List ℕ → List ℕ → Bool
 same [] [] = true
@@ -43,9 +49,15 @@ each (g ∷ gs) t f m =
 
 all-pass : T (every figures)
 unfolding
-    every same figures numbers remap-figure bound-figure least-figure
+    every same figures numbers remap-figure bound-figure least-figure position-of begun state-numbers traced line-4 line-5 line-6 activations shown
     first-failed unless refuse tested within rows-allowed diameter-allowed block-allowed settings-tests-with settings-tests settings-tests-but-counters
-    remap-table physical size total disturbers bound-at bound-of with-counters meets or-else first-from least-of bound-answer least-answer settings-of
+    remap-table physical rows-from rows-between victims
+    size total disturbers bound-at bound-of with-counters meets or-else first-from least-of bound-answer least-answer settings-of
+    rows-of counts-of has count-or without without-all raised entered has-count without-count top picks
+    empty in-rows disturb disturb-each drop-rows spread activation besides picked taken-out cleared-if sources event
+    entries-of summary-of table state-of zeros ascending counts-allowed valid
+    victims-in block-rows ends-window next-event tables-long set-up-tests activation-tests refresh-tests kept-unless set-up activate refresh
+    left-by state-after
 all-pass = tt
 
 pub figures-hold : (f : Figure) → List·Memᴰ f figures → f .defined ≡ f .given

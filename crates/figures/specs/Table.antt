@@ -1,9 +1,14 @@
 -- 'Edge figures', those marked *: what document 01 gives, and what the definitions give, as numbers.
-use Prim.Native.Nat.{ℕ}
-use mathlib.Core.List.{List, [], _∷_}
+use Prim.Native.Nat.{ℕ, zero, suc}
+use mathlib.Core.List.{List, [], _∷_, _++_}
+use lib.ListN.{replicate}
 use Rattle.device.specs.declared.Settings.{Settings}
 use Rattle.device.specs.Refusal.{Outcome, accepted, refused}
 use Rattle.device.specs.Remap.{physical}
+use Rattle.tracker.specs.declared.Position.{Position}
+use Rattle.tracker.specs.State.{State}
+use Rattle.tracker.specs.Calls.{Refresh-call, Activation-call, set-up, activate, refresh}
+use Rattle.limit.specs.Run.{activation-of, state-after}
 use Rattle.bound.specs.Answers.{bound-answer, least-answer, settings-of}
 
 pub record Figure : Type 0 where
@@ -28,10 +33,57 @@ unfoldable pub least-figure : ℕ → List ℕ → Figure
 least-figure threshold given =
     record { given = given; defined = numbers (least-answer (settings-of 16 2 1 0 4 4 4) threshold) }
 
+-- the position of an answer
+unfoldable pub position-of : Outcome Position → Position
+position-of (accepted p) = p
+position-of (refused k) = record { events = k; activations = k; tracked = k; spillover = k }
+
+-- the state that setting up leaves, whatever the tables held
+unfoldable pub begun : Settings → State
+begun s =
+    let call = set-up s (replicate (s .counters) 7) (replicate (s .counters) 7) in
+    record { rows = call .rows; counts = call .counts; position = position-of (call .answer) }
+
+-- a state as numbers: rows, counts, e, a, tracked, spill
+unfoldable pub state-numbers : State → List ℕ
+state-numbers st =
+    st .rows ++ st .counts ++
+    st .position .events ∷ st .position .activations ∷ st .position .tracked ∷ st .position .spillover ∷ []
+
+-- the trace's device, and its lines 2 to 4: `A     5`, `A     5`, `A     2`
+unfoldable pub traced : Settings
+traced = settings-of 16 2 1 2 4 4 4
+
+unfoldable pub line-4 : State
+line-4 = state-after traced (activation-of 5 ∷ activation-of 5 ∷ activation-of 2 ∷ []) (begun traced)
+
+-- line 5, `R`, with a list of three places, and line 6, `A    16`
+unfoldable pub line-5 : Refresh-call
+line-5 = refresh traced line-4 (9 ∷ 9 ∷ 9 ∷ [])
+
+unfoldable pub line-6 : Activation-call
+line-6 = activate traced (line-5 .state) 16
+
+-- 'activation 4 of an interval with T = 4 accepted, activation 5 refused 22'
+unfoldable pub activations : ℕ → State
+activations zero = begun traced
+activations (suc k) = activate traced (activations k) 8 .state
+
+-- what document 01 gives, and what the definitions give
+unfoldable pub shown : List ℕ → List ℕ → Figure
+shown given defined = record { given = given; defined = defined }
+
 unfoldable pub figures : List Figure
 figures =
     remap-figure 2 3 ∷
     remap-figure 17 17 ∷
+    shown (4 ∷ 6 ∷ 3 ∷ 2 ∷ 0 ∷ 3 ∷ 2 ∷ 1 ∷ []) (state-numbers line-4) ∷
+    shown (0 ∷ 1 ∷ 4 ∷ 9 ∷ 9 ∷ []) (line-5 .refusal ∷ line-5 .count ∷ line-5 .picks) ∷
+    shown (3 ∷ 4 ∷ 4 ∷ 5 ∷ 1 ∷ 0 ∷ 2 ∷ 4 ∷ []) (state-numbers (line-5 .state)) ∷
+    shown (9 ∷ []) (line-6 .refusal ∷ []) ∷
+    shown (0 ∷ []) (activate traced (activations 3) 8 .refusal ∷ []) ∷
+    shown (22 ∷ []) (activate traced (activations 4) 8 .refusal ∷ []) ∷
+    bound-figure traced 30 ∷
     bound-figure (settings-of 16 2 1 1 1 1 16) 18 ∷
     bound-figure (settings-of 16 2 1 1 4 2 8) 26 ∷
     bound-figure (settings-of 16 2 2 2 4 2 8) 23 ∷

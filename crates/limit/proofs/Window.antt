@@ -11,7 +11,7 @@ use Rattle.device.proofs.Times.{times}
 use Rattle.bound.specs.Totals.{total}
 use Rattle.summary.specs.Steps.{Summary, empty, estimate, activation, picked, taken-out, cleared-if, sources, event}
 use Rattle.summary.proofs.Level.{Level, level-more}
-use Rattle.summary.proofs.Estimates.{estimate-level}
+use Rattle.summary.proofs.Ceiling.{estimate-level}
 use Rattle.summary.proofs.Sound.{Sound, Below, none, more, sound-empty}
 use Rattle.summary.proofs.Distinct.{sources-below}
 use Rattle.summary.proofs.Event.{Reach, reached, level-empty, sound-activation, level-activation, estimate-activation, estimate-activated, level-taken-out, sound-taken-out, estimate-taken-out, sound-event, level-event, estimate-event}

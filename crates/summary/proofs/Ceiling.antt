@@ -1,9 +1,11 @@
--- Counts that are nowhere above a number: a level of one slot gives one.
+-- Counts that are nowhere above a number: a level of one slot bounds every count, every estimate and the spillover.
 use mathlib.Core.List.{List, [], _∷_}
 use Prim.Native.Nat.{ℕ, _+_, _-_, _*_, _≤_}
 use native.Mathlib.Omega.{arith}
-use Rattle.summary.specs.Entries.{Entry}
-use Rattle.summary.specs.Steps.{Summary}
+use lib.Dec.{eqb}
+use Rattle.device.proofs.Cases.{split}
+use Rattle.summary.specs.Entries.{Entry, count-or}
+use Rattle.summary.specs.Steps.{Summary, estimate}
 use Rattle.summary.proofs.Level.{Level, excess}
 
 -- every count is at most high
@@ -25,3 +27,13 @@ ceiling-level {s = s} l = ceiling-higher (ceiling-excess (l .level) (s .entries)
 
 pub spillover-level : {most : ℕ} {s : Summary} → Level 1 most s → s .spillover ≤ most
 spillover-level l = omega arith
+
+count-level : (t row spill : ℕ) (es : List Entry) → spill ≤ t → count-or spill row es ≤ t + excess t es
+unfolding count-or excess
+count-level t row spill [] h = omega arith
+count-level t row spill (x ∷ xs) h =
+    split (eqb (x .row) row) (λ on. rw on (omega arith)) (λ off. rw off (omega (arith, count-level t row spill xs h)))
+
+pub estimate-level : {most : ℕ} {s : Summary} → Level 1 most s → (row : ℕ) → estimate s row ≤ most
+unfolding estimate
+estimate-level {s} l row = omega (arith, count-level (l .level) row (s .spillover) (s .entries) (l .above))

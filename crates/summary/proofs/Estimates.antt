@@ -1,5 +1,4 @@
--- Estimates: a disturbance raises the disturbed row's by at least 1 and lowers none; a drop leaves the other rows' as they are;
--- a level bounds them all.
+-- Estimates: a disturbance raises the disturbed row's by at least 1 and lowers none; a drop leaves the other rows' as they are.
 use mathlib.Core.Path.{_≡_, refl, _∙_, sym}
 use mathlib.Core.Bool.{Bool, true, false, _||_, cond}
 use mathlib.Core.List.{List, [], _∷_}
@@ -13,7 +12,6 @@ use Rattle.device.proofs.Times.{hit, times, hit-most, hit-other}
 use Rattle.summary.specs.Entries.{Entry, has, count-or, without, without-all, raised, entered, has-count, without-count}
 use Rattle.summary.specs.Steps.{Summary, estimate, disturb, disturb-each, drop-rows}
 use Rattle.summary.proofs.Floor.{Floor, none, more, neither}
-use Rattle.summary.proofs.Level.{Level, excess}
 use Rattle.summary.proofs.Order.{untracked-without-count}
 
 module _ (other row : ℕ) where
@@ -129,14 +127,3 @@ estimate-disturb counters v row s f =
 pub estimate-drop : (row : ℕ) (rows : List ℕ) (s : Summary) → times row rows ≡ 0 → estimate (drop-rows rows s) row ≡ estimate s row
 unfolding estimate drop-rows
 estimate-drop row rows s e = count-without-all (s .spillover) row rows (s .entries) e
-
--- at size 1, a level bounds every estimate, every count and the spillover
-count-level : (t row spill : ℕ) (es : List Entry) → spill ≤ t → count-or spill row es ≤ t + excess t es
-unfolding count-or excess
-count-level t row spill [] h = omega arith
-count-level t row spill (x ∷ xs) h =
-    split (eqb (x .row) row) (λ on. rw on (omega arith)) (λ off. rw off (omega (arith, count-level t row spill xs h)))
-
-pub estimate-level : {most : ℕ} {s : Summary} → Level 1 most s → (row : ℕ) → estimate s row ≤ most
-unfolding estimate
-estimate-level {s} l row = omega (arith, count-level (l .level) row (s .spillover) (s .entries) (l .above))

@@ -52,7 +52,7 @@ module _ {high counters : ℕ} where
   pub level-taken-out : (volume : ℕ) (block : List ℕ) {E D M : ℕ} {s : Summary} → Sound high counters s → 0 < E → D ≤ E → E ≤ D + volume → Level E M s → Level D (M * D / E) (taken-out volume block s)
   unfolding taken-out picked drop-rows
   level-taken-out volume block {s} k pos l few h =
-      rw (without-append (picks volume (s .entries)) block (s .entries)) (level-drop block (level-picks volume (k .ordered) pos l few h))
+      rw without-append (level-drop block (level-picks volume (k .ordered) pos l few h))
 
   pub sound-taken-out : (volume : ℕ) (block : List ℕ) {s : Summary} → Sound high counters s → Sound high counters (taken-out volume block s)
   unfolding taken-out
@@ -117,6 +117,10 @@ module _ {high counters reach : ℕ} {victims-of : ℕ → List ℕ} where
 
   -- an event, from the summary that steps 1 to 4 leave
   module _ (volume : ℕ) (block : List ℕ) (last : Bool) (w : Reach high reach victims-of) (s : Summary) (inside : Below high (sources volume block s)) (k : Sound high counters (cleared-if last (taken-out volume block s))) where
+    pub estimate-event : (v : ℕ) → estimate (cleared-if last (taken-out volume block s)) v + reached victims-of v (sources volume block s) ≤ estimate (event counters victims-of volume block last s) v
+    unfolding event
+    estimate-event v = estimate-spread v w inside k
+
     pub sound-event : Sound high counters (event counters victims-of volume block last s)
     unfolding event
     sound-event = sound-spread w inside k
@@ -124,7 +128,3 @@ module _ {high counters reach : ℕ} {victims-of : ℕ → List ℕ} where
     pub level-event : {size most : ℕ} → size ≤ counters + 1 → Level size most (cleared-if last (taken-out volume block s)) → Level size (most + reach * length (sources volume block s)) (event counters victims-of volume block last s)
     unfolding event
     level-event few l = level-spread w inside k few l
-
-    pub estimate-event : (v : ℕ) → estimate (cleared-if last (taken-out volume block s)) v + reached victims-of v (sources volume block s) ≤ estimate (event counters victims-of volume block last s) v
-    unfolding event
-    estimate-event v = estimate-spread v w inside k

@@ -65,7 +65,7 @@ module _ {size most : ℕ} where
       (λ tracked. rw tracked (record { level = t; above = l .above; small = omega (arith, excess-raised t row es) }))
       (λ untracked.
       split (ltb (length es) counters)
-      (λ free. rw (untracked, free) (record { level = t; above = l .above; small = omega (arith, excess-entered t row (spill + 1) es) }))
+      (λ free. rw (untracked, free) (record { level = t; above = l .above; small = rw excess-entered (omega arith) }))
       (λ full.
       split (has-count spill es)
       (λ low.
@@ -73,7 +73,7 @@ module _ {size most : ℕ} where
       (record {
         level = t;
         above = l .above;
-        small = omega (arith, excess-entered t row (spill + 1) (without-count spill es), excess-without-count t spill es);
+        small = rw excess-entered (omega (arith, excess-without-count t spill es));
       }))
       (λ high. rw (untracked, full, high) (⊎-elim (risen (floor-rises floor high) (ltb-false (length es) counters full)) stays (le-or-lt t spill)))))
     where

@@ -1,10 +1,10 @@
 -- Laws of the summary.
 pub mod Floor
+pub mod Order
+pub mod Estimates
 pub mod Level
 pub mod Ceiling
-pub mod Order
 pub mod Share
-pub mod Estimates
 pub mod Sound
 pub mod Event
 pub mod Distinct

@@ -56,22 +56,14 @@ raise size high {es} c (suc fuel) t h =
     record { level = r .level; up = omega arith; sum = omega (arith, excess-up t es); few = r .few })
     (le-or-lt (above t es) size)
 
--- the first entry of the highest count is among the entries, and no count is higher
-pub top-in : (best : Entry) (xs : List Entry) → List·Memᴰ (top best xs) (best ∷ xs)
-unfolding top
-top-in best [] = List·Memᴰ·head refl
-top-in best (x ∷ xs) =
-    split (ltb (best .count) (x .count))
-    (λ e. rw e (List·Memᴰ·tail (top-in x xs)))
-    (λ e. rw e (⊎-elim (λ same. List·Memᴰ·head same) (λ m. List·Memᴰ·tail (List·Memᴰ·tail m)) (List·Memᴰ·cases-cons (top-in best xs))))
-
+-- no count is higher than that of the first entry of the highest count, which is among the entries
 top-best : (best : Entry) (xs : List Entry) → best .count ≤ top best xs .count
 unfolding top
 top-best best [] = omega arith
 top-best best (x ∷ xs) =
     split (ltb (best .count) (x .count))
-    (λ e. let less = ltb-true (best .count) (x .count) e in rw e (omega (arith, top-best x xs)))
-    (λ e. rw e (top-best best xs))
+    (λ e. let less = ltb-true (best .count) (x .count) e in rw e (omega (arith, top-best x xs, top-best best xs)))
+    (λ e. let less = ltb-false (best .count) (x .count) e in rw e (omega (arith, top-best x xs, top-best best xs)))
 
 top-ceiling : (best : Entry) (xs : List Entry) → Ceiling (top best xs .count) xs
 unfolding top
@@ -82,6 +74,14 @@ top-ceiling best (x ∷ xs) =
     (λ e.
     let less = ltb-false (best .count) (x .count) e in
     rw e (under x (top-ceiling best xs) (omega (arith, top-best best xs))))
+
+pub top-in : (best : Entry) (xs : List Entry) → List·Memᴰ (top best xs) (best ∷ xs)
+unfolding top
+top-in best [] = List·Memᴰ·head refl
+top-in best (x ∷ xs) =
+    split (ltb (best .count) (x .count))
+    (λ e. rw e (List·Memᴰ·tail (top-in x xs)))
+    (λ e. rw e (⊎-elim (λ same. List·Memᴰ·head same) (λ m. List·Memᴰ·tail (List·Memᴰ·tail m)) (List·Memᴰ·cases-cons (top-in best xs))))
 
 -- what a drop of a tracked row takes away
 excess-taken : (t : ℕ) (x : Entry) {high low : ℕ} {es : List Entry} → Ordered high low es → List·Memᴰ x es → excess t (without (x .row) es) + (x .count - t) ≡ excess t es
