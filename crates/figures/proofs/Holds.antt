@@ -12,7 +12,8 @@ use Rattle.device.specs.Remap.{remap-table, physical}
 use Rattle.device.specs.Victims.{rows-from, rows-between, victims}
 use Rattle.summary.specs.Entries.{rows-of, counts-of, has, count-or, without, without-all, raised, entered, has-count, without-count, top, picks}
 use Rattle.summary.specs.Steps.{empty, in-rows, disturb, disturb-each, drop-rows, spread, activation, besides, picked, taken-out, cleared-if, sources, event}
-use Rattle.tracker.specs.State.{entries-of, summary-of, table, state-of, zeros, ascending, counts-allowed, valid}
+use Rattle.summary.specs.Tables.{table, entries-of, read}
+use Rattle.tracker.specs.State.{summary-of, state-of, zeros, ascending, counts-allowed, valid}
 use Rattle.tracker.specs.Calls.{victims-in, block-rows, ends-window, next-event, tables-long, set-up-tests, activation-tests, refresh-tests, kept-unless, set-up, activate, refresh}
 use Rattle.limit.specs.Run.{left-by, state-after}
 use Rattle.bound.specs.Totals.{size, total, disturbers, bound-at, bound-of}
@@ -55,7 +56,7 @@ unfolding
     size total disturbers bound-at bound-of with-counters meets or-else first-from least-of bound-answer least-answer settings-of
     rows-of counts-of has count-or without without-all raised entered has-count without-count top picks
     empty in-rows disturb disturb-each drop-rows spread activation besides picked taken-out cleared-if sources event
-    entries-of summary-of table state-of zeros ascending counts-allowed valid
+    table entries-of read summary-of state-of zeros ascending counts-allowed valid
     victims-in block-rows ends-window next-event tables-long set-up-tests activation-tests refresh-tests kept-unless set-up activate refresh
     left-by state-after
 all-pass = tt

@@ -14,11 +14,10 @@ use Rattle.device.proofs.Times.{times, victims-once}
 use Rattle.bound.specs.Totals.{size, total, disturbers, bound-at, bound-of}
 use Rattle.bound.proofs.Sizes.{size-first, size-positive, size-grows, size-steps, size-most}
 use Rattle.bound.proofs.Growth.{disturbers-cover, added-few, total-small}
-use Rattle.summary.proofs.Ceiling.{Ceiling, ceiling-level, ceiling-higher, spillover-level}
+use Rattle.summary.proofs.Ceiling.{ceiling-level, ceiling-higher, spillover-level}
 use Rattle.summary.proofs.Level.{Level, level-more}
 use Rattle.summary.proofs.Event.{Reach}
-use Rattle.summary.proofs.Sound as Sound
-use Rattle.summary.proofs.Sound.{Below}
+use Rattle.summary.specs.Rules.{Below, below-none, below-more}
 use Rattle.summary.specs.Steps.{Summary}
 use Rattle.tracker.specs.Calls.{victims-in, block-rows}
 use Rattle.tracker.proofs.Refusals.{Held}
@@ -26,8 +25,8 @@ use Rattle.limit.proofs.Scheme.{Scheme, total-of, total-of-grows}
 use Rattle.limit.proofs.Window.{Window}
 
 pub below-ascends : {low high : ℕ} {rows : List ℕ} → Ascends low high rows → Below high rows
-below-ascends Neighbours.none = Sound.none
-below-ascends (Neighbours.more {row} later from below) = Sound.more row (below-ascends later) below
+below-ascends Neighbours.none = below-none
+below-ascends (Neighbours.more {row} later from below) = below-more row (below-ascends later) below
 
 pub reach-in : (s : Settings) → Reach (s .rows) (s .«blast_diameter») (victims-in s)
 unfolding victims-in

@@ -12,7 +12,8 @@ use Rattle.bound.specs.Totals.{total}
 use Rattle.summary.specs.Steps.{Summary, empty, estimate, activation, picked, taken-out, cleared-if, sources, event}
 use Rattle.summary.proofs.Level.{Level, level-more}
 use Rattle.summary.proofs.Ceiling.{estimate-level}
-use Rattle.summary.proofs.Sound.{Sound, Below, none, more, sound-empty}
+use Rattle.summary.specs.Rules.{Sound, Below, below-none, below-more}
+use Rattle.summary.proofs.Sound.{sound-empty}
 use Rattle.summary.proofs.Distinct.{sources-below}
 use Rattle.summary.proofs.Event.{Reach, reached, level-empty, sound-activation, level-activation, estimate-activation, estimate-activated, level-taken-out, sound-taken-out, estimate-taken-out, sound-event, level-event, estimate-event}
 use Rattle.limit.proofs.Scheme.{Scheme, total-from, total-of}
@@ -74,8 +75,8 @@ window-activation c row {e} {g} {cur} {cur′} {s} h w step =
 -- rows of the bank disturb a row at most once each
 reached-most : (c : Scheme) (v : ℕ) {rows : List ℕ} → Below (c .rows) rows → reached (c .victims-of) v rows ≤ length rows
 unfolding reached
-reached-most c v none = omega arith
-reached-most c v (more row b h) = omega (arith, c .once row v h, reached-most c v b)
+reached-most c v below-none = omega arith
+reached-most c v (below-more row b h) = omega (arith, c .once row v h, reached-most c v b)
 
 -- steps 1 and 3 of an event: one more event, and nobody has disturbed anything since
 taken : (c : Scheme) (block : List ℕ) {e g : ℕ} {cur : ℕ → ℕ} {s : Summary} → Window c e g cur s → g ≤ c .disturbers → (j : ℕ) → j + suc e < c .window → At c j (suc e) 0 (taken-out (c .volume) block s)

@@ -6,12 +6,8 @@ use lib.Dec.{eqb}
 use Rattle.device.proofs.Cases.{split}
 use Rattle.summary.specs.Entries.{Entry, count-or}
 use Rattle.summary.specs.Steps.{Summary, estimate}
+use Rattle.summary.specs.Rules.{Ceiling, bare, under}
 use Rattle.summary.proofs.Level.{Level, excess}
-
--- every count is at most high
-pub data Ceiling (high : ℕ) : List Entry → Type 0 where
-  bare : Ceiling high []
-  under : (x : Entry) {xs : List Entry} → Ceiling high xs → x .count ≤ high → Ceiling high (x ∷ xs)
 
 pub ceiling-higher : {high high′ : ℕ} {es : List Entry} → Ceiling high es → high ≤ high′ → Ceiling high′ es
 ceiling-higher bare h = bare

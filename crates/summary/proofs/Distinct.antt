@@ -13,11 +13,9 @@ use Rattle.device.proofs.Times.{hit, times, hit-other}
 use Rattle.summary.specs.Entries.{Entry, has, without, top, picks}
 use Rattle.summary.specs.Steps.{Summary, in-rows, besides, picked, sources}
 use Rattle.summary.proofs.Floor.{neither}
-use Rattle.summary.proofs.Order as Order
-use Rattle.summary.proofs.Order.{Ordered, ordered-without, ordered-member}
+use Rattle.summary.specs.Rules.{Ordered, ordered-none, ordered-more, Below, below-none, below-more}
+use Rattle.summary.proofs.Order.{ordered-without, ordered-member}
 use Rattle.summary.proofs.Share.{top-in}
-use Rattle.summary.proofs.Sound as Sound
-use Rattle.summary.proofs.Sound.{Below}
 
 -- no row twice
 pub data Distinct : List ℕ → Type 0 where
@@ -27,15 +25,15 @@ pub data Distinct : List ℕ → Type 0 where
 -- a row below the range is not tracked
 has-below : (row : ℕ) {high low : ℕ} {es : List Entry} → Ordered high low es → row < low → has row es ≡ false
 unfolding has
-has-below row Order.none h = refl
-has-below row (Order.more low x o l b) h =
+has-below row ordered-none h = refl
+has-below row (ordered-more low x o l b) h =
     rw (ne-eqb (x .row) row (λ e. omega arith)) (has-below row o (omega arith))
 
 -- a dropped row is not tracked any more
 pub has-dropped : (row : ℕ) {high low : ℕ} {es : List Entry} → Ordered high low es → has row (without row es) ≡ false
 unfolding has without
-has-dropped row Order.none = refl
-has-dropped row (Order.more low x o l b) =
+has-dropped row ordered-none = refl
+has-dropped row (ordered-more low x o l b) =
     split (eqb (x .row) row)
     (λ on. let same = eqb-true (x .row) row on in rw on (has-below row o (omega arith)))
     (λ off. rw (off, off) (has-dropped row o))
@@ -86,10 +84,10 @@ module _ {high low : ℕ} where
 
   pub picks-below : (k : ℕ) (es : List Entry) → Ordered high low es → Below high (picks k es)
   unfolding picks
-  picks-below zero es o = Sound.none
-  picks-below (suc k) [] o = Sound.none
+  picks-below zero es o = below-none
+  picks-below (suc k) [] o = below-none
   picks-below (suc k) (x ∷ xs) o =
-      Sound.more (top x xs .row) (picks-below k (without (top x xs .row) (x ∷ xs)) (ordered-without (top x xs .row) o))
+      below-more (top x xs .row) (picks-below k (without (top x xs .row) (x ∷ xs)) (ordered-without (top x xs .row) o))
       (ordered-member o (top x xs) (top-in x xs) .1)
 
 pub picks-few : (k : ℕ) (es : List Entry) → length (picks k es) ≤ k
@@ -99,14 +97,14 @@ picks-few (suc k) [] = omega arith
 picks-few (suc k) (x ∷ xs) = omega (arith, picks-few k (without (top x xs .row) (x ∷ xs)))
 
 pub below-append : {high : ℕ} {xs ys : List ℕ} → Below high xs → Below high ys → Below high (xs ++ ys)
-below-append Sound.none b = b
-below-append (Sound.more row a h) b = Sound.more row (below-append a b) h
+below-append below-none b = b
+below-append (below-more row a h) b = below-more row (below-append a b) h
 
 besides-below : {high : ℕ} (rows : List ℕ) {xs : List ℕ} → Below high xs → Below high (besides rows xs)
 unfolding besides
-besides-below rows Sound.none = Sound.none
-besides-below rows (Sound.more row b h) =
-    split (in-rows row rows) (λ on. rw on (besides-below rows b)) (λ off. rw off (Sound.more row (besides-below rows b) h))
+besides-below rows below-none = below-none
+besides-below rows (below-more row b h) =
+    split (in-rows row rows) (λ on. rw on (besides-below rows b)) (λ off. rw off (below-more row (besides-below rows b) h))
 
 besides-few : (rows xs : List ℕ) → length (besides rows xs) ≤ length xs
 unfolding besides

@@ -11,7 +11,8 @@ use Rattle.device.proofs.Cases.{split}
 use Rattle.device.proofs.Times.{hit, times, hit-most, hit-other}
 use Rattle.summary.specs.Entries.{Entry, has, count-or, without, without-all, raised, entered, has-count, without-count}
 use Rattle.summary.specs.Steps.{Summary, estimate, disturb, disturb-each, drop-rows}
-use Rattle.summary.proofs.Floor.{Floor, none, more, neither}
+use Rattle.summary.specs.Rules.{Floor, floor-none, floor-more}
+use Rattle.summary.proofs.Floor.{neither}
 use Rattle.summary.proofs.Order.{untracked-without-count}
 
 module _ (other row : ℕ) where
@@ -24,8 +25,8 @@ module _ (other row : ℕ) where
 
   count-floor : {es : List Entry} → Floor other es → other ≤ count-or other row es
   unfolding count-or
-  count-floor none = omega arith
-  count-floor (more x f l) = split (eqb (x .row) row) (λ e. rw e l) (λ e. rw e (count-floor f))
+  count-floor floor-none = omega arith
+  count-floor (floor-more x f l) = split (eqb (x .row) row) (λ e. rw e l) (λ e. rw e (count-floor f))
 
   count-raised : (v : ℕ) (es : List Entry) → has v es ≡ true → count-or other row es + hit v row ≤ count-or other row (raised v es)
   unfolding has count-or raised
@@ -63,8 +64,8 @@ module _ (other row : ℕ) where
 
   count-exchanged : {es : List Entry} → Floor other es → count-or other row es ≤ count-or other row (without-count other es)
   unfolding count-or without-count
-  count-exchanged none = omega arith
-  count-exchanged (more x {xs} f l) =
+  count-exchanged floor-none = omega arith
+  count-exchanged (floor-more x {xs} f l) =
       split (eqb (x .count) other)
       (λ low.
       let same = eqb-true (x .count) other low in

@@ -9,11 +9,11 @@ use lib.ListN.{length}
 use Rattle.device.proofs.Times.{hit, times, hit-other}
 use Rattle.summary.specs.Entries.{Entry, without, without-all, picks}
 use Rattle.summary.specs.Steps.{Summary, empty, estimate, disturb, disturb-each, drop-rows, spread, activation, picked, taken-out, cleared-if, sources, event}
-use Rattle.summary.proofs.Floor.{Floor}
 use Rattle.summary.proofs.Level.{Level, excess, excess-without, level-more, level-disturb}
 use Rattle.summary.proofs.Share.{level-picks}
 use Rattle.summary.proofs.Estimates.{estimate-disturb, estimate-drop}
-use Rattle.summary.proofs.Sound.{Sound, Below, none, more, sound-disturb, sound-drop, sound-each, sound-empty}
+use Rattle.summary.specs.Rules.{Below, below-none, below-more, Sound}
+use Rattle.summary.proofs.Sound.{sound-disturb, sound-drop, sound-each, sound-empty}
 
 excess-without-all : (t : ℕ) (rows : List ℕ) (es : List Entry) → excess t (without-all rows es) ≤ excess t es
 unfolding without-all
@@ -38,14 +38,14 @@ without-append (x ∷ xs) ys es = without-append xs ys (without x es)
 module _ {high counters : ℕ} where
   pub level-each : {rows : List ℕ} {size most : ℕ} → Below high rows → {s : Summary} → Sound high counters s → size ≤ counters + 1 → Level size most s → Level size (most + length rows) (disturb-each counters rows s)
   unfolding disturb-each
-  level-each none k few l = level-more l (omega arith)
-  level-each (more row b h) {s} k few l =
+  level-each below-none k few l = level-more l (omega arith)
+  level-each (below-more row b h) {s} k few l =
       level-more (level-each b (sound-disturb row s h k) few (level-disturb counters row s few (k .floor) l)) (omega arith)
 
   pub estimate-each : (v : ℕ) {rows : List ℕ} → Below high rows → {s : Summary} → Sound high counters s → estimate s v + times v rows ≤ estimate (disturb-each counters rows s) v
   unfolding disturb-each times
-  estimate-each v none k = omega arith
-  estimate-each v (more row b h) {s} k =
+  estimate-each v below-none k = omega arith
+  estimate-each v (below-more row b h) {s} k =
       omega (arith, estimate-disturb counters row v s (k .floor), estimate-each v b (sound-disturb row s h k))
 
   -- steps 1 and 3 of an event, at the level of D slots before and after
@@ -75,20 +75,20 @@ reached victims-of v (row ∷ rows) = times v (victims-of row) + reached victims
 module _ {high counters reach : ℕ} {victims-of : ℕ → List ℕ} where
   pub sound-spread : Reach high reach victims-of → {rows : List ℕ} → Below high rows → {s : Summary} → Sound high counters s → Sound high counters (spread counters victims-of rows s)
   unfolding spread
-  sound-spread w none k = k
-  sound-spread w (more row b h) {s} k = sound-spread w b (sound-each (w .inside row h) k)
+  sound-spread w below-none k = k
+  sound-spread w (below-more row b h) {s} k = sound-spread w b (sound-each (w .inside row h) k)
 
   level-spread : {size most : ℕ} → Reach high reach victims-of → {rows : List ℕ} → Below high rows → {s : Summary} → Sound high counters s → size ≤ counters + 1 → Level size most s → Level size (most + reach * length rows) (spread counters victims-of rows s)
   unfolding spread
-  level-spread w none k few l = level-more l (omega arith)
-  level-spread {size} {most} w (more row {rows} b h) {s} k few l =
+  level-spread w below-none k few l = level-more l (omega arith)
+  level-spread {size} {most} w (below-more row {rows} b h) {s} k few l =
       let one : most + length (victims-of row) ≤ most + reach = omega (arith, w .few row) in
       level-more (level-spread w b (sound-each (w .inside row h) k) few (level-more (level-each (w .inside row h) k few l) one)) (omega arith)
 
   estimate-spread : (v : ℕ) → Reach high reach victims-of → {rows : List ℕ} → Below high rows → {s : Summary} → Sound high counters s → estimate s v + reached victims-of v rows ≤ estimate (spread counters victims-of rows s) v
   unfolding spread reached
-  estimate-spread v w none k = omega arith
-  estimate-spread v w (more row b h) {s} k =
+  estimate-spread v w below-none k = omega arith
+  estimate-spread v w (below-more row b h) {s} k =
       omega (arith, estimate-each v (w .inside row h) k, estimate-spread v w b (sound-each (w .inside row h) k))
 
   -- an activation: one row disturbs its victims

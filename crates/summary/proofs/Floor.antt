@@ -7,19 +7,15 @@ use native.Mathlib.Omega.{arith}
 use borrow.Author.Tests.{eqb-false}
 use lib.Dec.{eqb, ltb}
 use Rattle.device.proofs.Cases.{split}
+use Rattle.summary.specs.Rules.{Floor, floor-none, floor-more}
 use Rattle.summary.specs.Entries.{Entry, has, without, without-all, raised, entered, has-count, without-count}
 
--- every count is at least low
-pub data Floor (low : ℕ) : List Entry → Type 0 where
-  none : Floor low []
-  more : (x : Entry) {xs : List Entry} → Floor low xs → low ≤ x .count → Floor low (x ∷ xs)
-
 pub floor-parts : {low : ℕ} {x : Entry} {xs : List Entry} → Floor low (x ∷ xs) → (low ≤ x .count) × Floor low xs
-floor-parts (more x f l) = (l, f)
+floor-parts (floor-more x f l) = (l, f)
 
 pub floor-lower : {low low′ : ℕ} {es : List Entry} → low′ ≤ low → Floor low es → Floor low′ es
-floor-lower h none = none
-floor-lower h (more x f l) = more x (floor-lower h f) (omega arith)
+floor-lower h floor-none = floor-none
+floor-lower h (floor-more x f l) = floor-more x (floor-lower h f) (omega arith)
 
 -- of a test and a later one, neither holds
 pub neither : (a b : Bool) → (a || b) ≡ false → (a ≡ false) × (b ≡ false)
@@ -29,8 +25,8 @@ neither false b e = (refl, e)
 module _ {low : ℕ} where
   pub floor-without : (row : ℕ) {es : List Entry} → Floor low es → Floor low (without row es)
   unfolding without
-  floor-without row none = none
-  floor-without row (more x {xs} f l) = split (eqb (x .row) row) (λ e. rw e f) (λ e. rw e (more x (floor-without row f) l))
+  floor-without row floor-none = floor-none
+  floor-without row (floor-more x {xs} f l) = split (eqb (x .row) row) (λ e. rw e f) (λ e. rw e (floor-more x (floor-without row f) l))
 
   pub floor-without-all : (rows : List ℕ) {es : List Entry} → Floor low es → Floor low (without-all rows es)
   unfolding without-all
@@ -39,31 +35,31 @@ module _ {low : ℕ} where
 
   pub floor-raised : (row : ℕ) {es : List Entry} → Floor low es → Floor low (raised row es)
   unfolding raised
-  floor-raised row none = none
-  floor-raised row (more x {xs} f l) =
+  floor-raised row floor-none = floor-none
+  floor-raised row (floor-more x {xs} f l) =
       split (eqb (x .row) row)
-      (λ e. rw e (more (record { row = x .row; count = x .count + 1 }) f (omega arith)))
-      (λ e. rw e (more x (floor-raised row f) l))
+      (λ e. rw e (floor-more (record { row = x .row; count = x .count + 1 }) f (omega arith)))
+      (λ e. rw e (floor-more x (floor-raised row f) l))
 
   pub floor-entered : (row count : ℕ) {es : List Entry} → Floor low es → low ≤ count → Floor low (entered row count es)
   unfolding entered
-  floor-entered row count none h = more (record { row = row; count = count }) none h
-  floor-entered row count (more x {xs} f l) h =
+  floor-entered row count floor-none h = floor-more (record { row = row; count = count }) floor-none h
+  floor-entered row count (floor-more x {xs} f l) h =
       split (ltb row (x .row))
-      (λ e. rw e (more (record { row = row; count = count }) (more x f l) h))
-      (λ e. rw e (more x (floor-entered row count f h) l))
+      (λ e. rw e (floor-more (record { row = row; count = count }) (floor-more x f l) h))
+      (λ e. rw e (floor-more x (floor-entered row count f h) l))
 
   pub floor-without-count : (count : ℕ) {es : List Entry} → Floor low es → Floor low (without-count count es)
   unfolding without-count
-  floor-without-count count none = none
-  floor-without-count count (more x {xs} f l) =
-      split (eqb (x .count) count) (λ e. rw e f) (λ e. rw e (more x (floor-without-count count f) l))
+  floor-without-count count floor-none = floor-none
+  floor-without-count count (floor-more x {xs} f l) =
+      split (eqb (x .count) count) (λ e. rw e f) (λ e. rw e (floor-more x (floor-without-count count f) l))
 
   -- where no count is at the floor, the floor is one higher
   pub floor-rises : {es : List Entry} → Floor low es → has-count low es ≡ false → Floor (suc low) es
   unfolding has-count
-  floor-rises none e = none
-  floor-rises (more x {xs} f l) e =
+  floor-rises floor-none e = floor-none
+  floor-rises (floor-more x {xs} f l) e =
       let parts = neither (eqb (x .count) low) (has-count low xs) e in
       let other = eqb-false (x .count) low (parts .0) in
-      more x (floor-rises f (parts .1)) (omega arith)
+      floor-more x (floor-rises f (parts .1)) (omega arith)

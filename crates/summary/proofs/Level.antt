@@ -12,7 +12,8 @@ use lib.ListN.{length}
 use Rattle.device.proofs.Cases.{split, le-or-lt}
 use Rattle.summary.specs.Entries.{Entry, has, without, without-all, raised, entered, has-count, without-count}
 use Rattle.summary.specs.Steps.{Summary, disturb, disturb-each, drop-rows}
-use Rattle.summary.proofs.Floor.{Floor, none, more, floor-rises}
+use Rattle.summary.specs.Rules.{Floor, floor-none, floor-more}
+use Rattle.summary.proofs.Floor.{floor-rises}
 
 -- the sum of the counts' excess over a level
 unfoldable pub excess : ℕ → List Entry → ℕ
@@ -50,8 +51,8 @@ module _ (t : ℕ) where
   -- where every count is above the level, one level more takes 1 from each
   excess-above : {es : List Entry} → Floor (suc t) es → excess (suc t) es + length es ≡ excess t es
   unfolding excess
-  excess-above none = omega arith
-  excess-above (more x {xs} f l) = omega (arith, excess-above f)
+  excess-above floor-none = omega arith
+  excess-above (floor-more x {xs} f l) = omega (arith, excess-above f)
 
 pub level-more : {size most most′ : ℕ} {s : Summary} → Level size most s → most ≤ most′ → Level size most′ s
 level-more l h = record { level = l .level; above = l .above; small = omega arith }

@@ -8,3 +8,4 @@ pub mod Share
 pub mod Sound
 pub mod Event
 pub mod Distinct
+pub mod Laid

@@ -9,23 +9,19 @@ use borrow.Author.Tests.{eqb-false, ltb-true, ltb-false}
 use lib.Dec.{eqb, ltb}
 use Rattle.device.proofs.Cases.{split}
 use Rattle.summary.specs.Entries.{Entry, has, without, without-all, raised, entered, has-count, without-count}
+use Rattle.summary.specs.Rules.{Ordered, ordered-none, ordered-more}
 use Rattle.summary.proofs.Floor.{neither}
 
--- rows from low on and below high, each above the one before
-pub data Ordered (high : ℕ) : ℕ → List Entry → Type 0 where
-  none : {low : ℕ} → Ordered high low []
-  more : (low : ℕ) (x : Entry) {xs : List Entry} → Ordered high (suc (x .row)) xs → low ≤ x .row → x .row < high → Ordered high low (x ∷ xs)
-
 pub ordered-from : {high low : ℕ} (low′ : ℕ) {es : List Entry} → Ordered high low es → low′ ≤ low → Ordered high low′ es
-ordered-from low′ none h = none
-ordered-from low′ (more low x o l b) h = more low′ x o (omega arith) b
+ordered-from low′ ordered-none h = ordered-none
+ordered-from low′ (ordered-more low x o l b) h = ordered-more low′ x o (omega arith) b
 
 module _ {high : ℕ} where
   pub ordered-without : (row : ℕ) {low : ℕ} {es : List Entry} → Ordered high low es → Ordered high low (without row es)
   unfolding without
-  ordered-without row none = none
-  ordered-without row (more low x {xs} o l b) =
-      split (eqb (x .row) row) (λ e. rw e (ordered-from low o (omega arith))) (λ e. rw e (more low x (ordered-without row o) l b))
+  ordered-without row ordered-none = ordered-none
+  ordered-without row (ordered-more low x {xs} o l b) =
+      split (eqb (x .row) row) (λ e. rw e (ordered-from low o (omega arith))) (λ e. rw e (ordered-more low x (ordered-without row o) l b))
 
   pub ordered-without-all : (rows : List ℕ) {low : ℕ} {es : List Entry} → Ordered high low es → Ordered high low (without-all rows es)
   unfolding without-all
@@ -34,34 +30,34 @@ module _ {high : ℕ} where
 
   pub ordered-raised : (row : ℕ) {low : ℕ} {es : List Entry} → Ordered high low es → Ordered high low (raised row es)
   unfolding raised
-  ordered-raised row none = none
-  ordered-raised row (more low x {xs} o l b) =
+  ordered-raised row ordered-none = ordered-none
+  ordered-raised row (ordered-more low x {xs} o l b) =
       split (eqb (x .row) row)
-      (λ e. rw e (more low (record { row = x .row; count = x .count + 1 }) o l b))
-      (λ e. rw e (more low x (ordered-raised row o) l b))
+      (λ e. rw e (ordered-more low (record { row = x .row; count = x .count + 1 }) o l b))
+      (λ e. rw e (ordered-more low x (ordered-raised row o) l b))
 
   pub ordered-without-count : (count : ℕ) {low : ℕ} {es : List Entry} → Ordered high low es → Ordered high low (without-count count es)
   unfolding without-count
-  ordered-without-count count none = none
-  ordered-without-count count (more low x {xs} o l b) =
+  ordered-without-count count ordered-none = ordered-none
+  ordered-without-count count (ordered-more low x {xs} o l b) =
       split (eqb (x .count) count)
       (λ e. rw e (ordered-from low o (omega arith)))
-      (λ e. rw e (more low x (ordered-without-count count o) l b))
+      (λ e. rw e (ordered-more low x (ordered-without-count count o) l b))
 
   -- a row that is not tracked is entered in its place
   pub ordered-entered : (row count : ℕ) {low : ℕ} {es : List Entry} → Ordered high low es → has row es ≡ false → low ≤ row → row < high → Ordered high low (entered row count es)
   unfolding entered has
-  ordered-entered row count {low} none e l b = more low (record { row = row; count = count }) none l b
-  ordered-entered row count (more low x {xs} o lx bx) e l b =
+  ordered-entered row count {low} ordered-none e l b = ordered-more low (record { row = row; count = count }) ordered-none l b
+  ordered-entered row count (ordered-more low x {xs} o lx bx) e l b =
       let parts = neither (eqb (x .row) row) (has row xs) e in
       let other = eqb-false (x .row) row (parts .0) in
       split (ltb row (x .row))
       (λ t.
       let before = ltb-true row (x .row) t in
-      rw t (more low (record { row = row; count = count }) (more (suc row) x o before bx) l b))
+      rw t (ordered-more low (record { row = row; count = count }) (ordered-more (suc row) x o before bx) l b))
       (λ t.
       let behind = ltb-false row (x .row) t in
-      rw t (more low x (ordered-entered row count o (parts .1) (omega arith) b) lx bx))
+      rw t (ordered-more low x (ordered-entered row count o (parts .1) (omega arith) b) lx bx))
 
 -- a row that is not tracked is not tracked after another is dropped
 pub untracked-without-count : (row count : ℕ) (es : List Entry) → has row es ≡ false → has row (without-count count es) ≡ false
@@ -75,8 +71,8 @@ untracked-without-count row count (x ∷ xs) e =
 
 -- a tracked row is in the range
 pub ordered-member : {high low : ℕ} {es : List Entry} → Ordered high low es → (x : Entry) → List·Memᴰ x es → (low ≤ x .row) × (x .row < high)
-ordered-member none x m = absurd (List·Memᴰ·not-nil m)
-ordered-member (more low y o l b) x m =
+ordered-member ordered-none x m = absurd (List·Memᴰ·not-nil m)
+ordered-member (ordered-more low y o l b) x m =
     ⊎-elim
     (λ e. let same = ap (λ (z : Entry). z .row) e in omega arith)
     (λ later. let r = ordered-member o x later in omega arith)

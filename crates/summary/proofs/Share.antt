@@ -13,8 +13,8 @@ use Rattle.device.proofs.Cases.{split, le-or-lt}
 use Rattle.summary.specs.Entries.{Entry, without, without-all, top, picks}
 use Rattle.summary.specs.Steps.{Summary, drop-rows}
 use Rattle.summary.proofs.Level.{excess, Level, excess-without}
-use Rattle.summary.proofs.Ceiling.{Ceiling, bare, under}
-use Rattle.summary.proofs.Order.{Ordered, none, more, ordered-without, ordered-member}
+use Rattle.summary.specs.Rules.{Ceiling, bare, under, Ordered, ordered-none, ordered-more}
+use Rattle.summary.proofs.Order.{ordered-without, ordered-member}
 
 -- how many counts are above a level
 above : ℕ → List Entry → ℕ
@@ -86,8 +86,8 @@ top-in best (x ∷ xs) =
 -- what a drop of a tracked row takes away
 excess-taken : (t : ℕ) (x : Entry) {high low : ℕ} {es : List Entry} → Ordered high low es → List·Memᴰ x es → excess t (without (x .row) es) + (x .count - t) ≡ excess t es
 unfolding excess without
-excess-taken t x none m = absurd (List·Memᴰ·not-nil m)
-excess-taken t x (more low y o l b) m =
+excess-taken t x ordered-none m = absurd (List·Memᴰ·not-nil m)
+excess-taken t x (ordered-more low y o l b) m =
     ⊎-elim
     (λ same. rw same (rw (eq-eqb (y .row) (y .row) refl) (omega arith)))
     (λ later.

@@ -11,21 +11,9 @@ use lib.ListN.{length}
 use Rattle.device.proofs.Cases.{split}
 use Rattle.summary.specs.Entries.{Entry, has, without, without-all, raised, entered, has-count, without-count}
 use Rattle.summary.specs.Steps.{Summary, empty, disturb, disturb-each, drop-rows}
-use Rattle.summary.proofs.Floor as Floor
-use Rattle.summary.proofs.Floor.{Floor, floor-lower, floor-without-all, floor-raised, floor-entered, floor-without-count, floor-rises}
-use Rattle.summary.proofs.Order as Order
-use Rattle.summary.proofs.Order.{Ordered, ordered-without-all, ordered-raised, ordered-entered, ordered-without-count, untracked-without-count}
-
-pub record Sound (high counters : ℕ) (s : Summary) : Type 0 where
-  pub floor : Floor (s .spillover) (s .entries)
-  pub positive : Floor 1 (s .entries)
-  pub ordered : Ordered high 0 (s .entries)
-  pub fits : length (s .entries) ≤ counters
-
--- rows that are all below the bank's end
-pub data Below (high : ℕ) : List ℕ → Type 0 where
-  none : Below high []
-  more : (row : ℕ) {rows : List ℕ} → Below high rows → row < high → Below high (row ∷ rows)
+use Rattle.summary.specs.Rules.{Floor, floor-none, Ordered, ordered-none, Below, below-none, below-more, Sound}
+use Rattle.summary.proofs.Floor.{floor-lower, floor-without-all, floor-raised, floor-entered, floor-without-count, floor-rises}
+use Rattle.summary.proofs.Order.{ordered-without-all, ordered-raised, ordered-entered, ordered-without-count, untracked-without-count}
 
 length-raised : (row : ℕ) (es : List Entry) → length (raised row es) ≡ length es
 unfolding raised
@@ -55,7 +43,7 @@ length-without-all (row ∷ rows) es = omega (arith, length-without row es, leng
 
 pub sound-empty : {high counters : ℕ} → Sound high counters empty
 unfolding empty
-sound-empty = record { floor = Floor.none; positive = Floor.none; ordered = Order.none; fits = omega arith }
+sound-empty = record { floor = floor-none; positive = floor-none; ordered = ordered-none; fits = omega arith }
 
 module _ {high counters : ℕ} where
   pub sound-drop : (rows : List ℕ) {s : Summary} → Sound high counters s → Sound high counters (drop-rows rows s)
@@ -113,5 +101,5 @@ module _ {high counters : ℕ} where
 
   pub sound-each : {rows : List ℕ} → Below high rows → {s : Summary} → Sound high counters s → Sound high counters (disturb-each counters rows s)
   unfolding disturb-each
-  sound-each none k = k
-  sound-each (more row b h) {s} k = sound-each b (sound-disturb row s h k)
+  sound-each below-none k = k
+  sound-each (below-more row b h) {s} k = sound-each b (sound-disturb row s h k)

@@ -11,37 +11,17 @@ use lib.Seq.{take-at, drop-at}
 use Rattle.device.specs.declared.Settings.{Settings}
 use Rattle.summary.specs.Entries.{Entry, rows-of, counts-of}
 use Rattle.summary.specs.Steps.{Summary}
-use Rattle.summary.proofs.Floor.{Floor, floor-parts}
-use Rattle.summary.proofs.Ceiling.{Ceiling, bare, under}
-use Rattle.summary.proofs.Order as Order
-use Rattle.summary.proofs.Order.{Ordered}
-use Rattle.summary.proofs.Sound.{Sound}
-use Rattle.tracker.specs.State.{State, entries-of, summary-of, table, state-of, zeros, ascending, counts-allowed, valid}
+use Rattle.summary.specs.Tables.{table, read}
+use Rattle.summary.proofs.Laid.{length-rows, length-counts, length-table, entries-back}
+use Rattle.summary.specs.Rules.{Floor, Ceiling, bare, under, Ordered, ordered-none, ordered-more, Sound}
+use Rattle.summary.proofs.Floor.{floor-parts}
+use Rattle.tracker.specs.State.{State, summary-of, state-of, zeros, ascending, counts-allowed, valid}
 use Rattle.tracker.specs.Calls.{tables-long}
-
-pub length-rows : (es : List Entry) → length (rows-of es) ≡ length es
-unfolding rows-of
-length-rows [] = refl
-length-rows (x ∷ xs) = ap suc (length-rows xs)
-
-pub length-counts : (es : List Entry) → length (counts-of es) ≡ length es
-unfolding counts-of
-length-counts [] = refl
-length-counts (x ∷ xs) = ap suc (length-counts xs)
-
-entries-back : (es : List Entry) (behind behind′ : List ℕ) → entries-of (length es) (rows-of es ++ behind) (counts-of es ++ behind′) ≡ es
-unfolding entries-of rows-of counts-of
-entries-back [] behind behind′ = refl
-entries-back (x ∷ xs) behind behind′ = ap (λ (es : List Entry). x ∷ es) (entries-back xs behind behind′)
 
 -- what was laid out is read back
 pub read-back : (s : Settings) (e a : ℕ) (sum : Summary) → summary-of (state-of s e a sum) ≡ sum
-unfolding summary-of state-of table
+unfolding summary-of state-of read table
 read-back s e a sum = rw (entries-back (sum .entries) (replicate (s .counters - length (rows-of (sum .entries))) 0) (replicate (s .counters - length (counts-of (sum .entries))) 0))
-
-length-table : (places : ℕ) (xs : List ℕ) → length xs ≤ places → length (table places xs) ≡ places
-unfolding table
-length-table places xs h = rw (length-append xs (replicate (places - length xs) 0), length-replicate {A = ℕ} (places - length xs) 0) (omega arith)
 
 pub long-enough : (s : Settings) (e a : ℕ) (sum : Summary) → length (sum .entries) ≤ s .counters → tables-long s (state-of s e a sum .rows) (state-of s e a sum .counts) ≡ true
 unfolding tables-long state-of
@@ -52,8 +32,8 @@ long-enough s e a sum h =
 
 ascending-rows : {high low : ℕ} {es : List Entry} → Ordered high low es → ascending low high (rows-of es) ≡ true
 unfolding ascending rows-of
-ascending-rows Order.none = refl
-ascending-rows {high} (Order.more low x o l b) = rw (le-leb low (x .row) l, lt-ltb (x .row) high b) (ascending-rows o)
+ascending-rows ordered-none = refl
+ascending-rows {high} (ordered-more low x o l b) = rw (le-leb low (x .row) l, lt-ltb (x .row) high b) (ascending-rows o)
 
 zeros-behind : (k : ℕ) → zeros (replicate k 0) ≡ true
 unfolding zeros

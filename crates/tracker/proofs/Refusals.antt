@@ -10,8 +10,7 @@ use Rattle.device.specs.Refusal.{first-failed, unless, refuse}
 use Rattle.device.specs.Acceptance.{settings-tests}
 use Rattle.device.proofs.Accepted.{or-later, settings-then}
 use Rattle.summary.specs.Steps.{Summary}
-use Rattle.summary.proofs.Ceiling.{Ceiling}
-use Rattle.summary.proofs.Sound.{Sound}
+use Rattle.summary.specs.Rules.{Ceiling, Sound}
 use Rattle.tracker.specs.State.{State, state-of, valid}
 use Rattle.tracker.specs.Calls.{tables-long, activation-tests, refresh-tests}
 use Rattle.tracker.proofs.LaidOut.{long-enough, valid-state}

@@ -1,12 +1,13 @@
 -- The state that the caller lends: two tables and a position, the summary that they hold, and the rules of a valid state.
-use Prim.Native.Nat.{ℕ, zero, suc, _-_}
+use Prim.Native.Nat.{ℕ, suc}
 use mathlib.Core.Bool.{Bool, true, false, _&&_}
-use mathlib.Core.List.{List, [], _∷_, _++_}
+use mathlib.Core.List.{List, [], _∷_}
 use lib.Dec.{leb, ltb, eqb}
-use lib.ListN.{length, take, drop, replicate}
+use lib.ListN.{length, take, drop}
 use Rattle.device.specs.declared.Settings.{Settings}
-use Rattle.summary.specs.Entries.{Entry, rows-of, counts-of}
+use Rattle.summary.specs.Entries.{rows-of, counts-of}
 use Rattle.summary.specs.Steps.{Summary}
+use Rattle.summary.specs.Tables.{table, read}
 use Rattle.tracker.specs.declared.Position.{Position}
 
 -- 'the caller lends two number tables ..: rows and counts'; the position goes with them
@@ -15,24 +16,9 @@ pub record State : Type 0 where
   pub counts : List ℕ
   pub position : Position
 
--- the entries at the front of both tables, so many
-unfoldable pub entries-of : ℕ → List ℕ → List ℕ → List Entry
-entries-of zero rows counts = []
-entries-of (suc k) [] counts = []
-entries-of (suc k) (row ∷ rows) [] = []
-entries-of (suc k) (row ∷ rows) (count ∷ counts) = record { row = row; count = count } ∷ entries-of k rows counts
-
 -- the summary that a state holds
 unfoldable pub summary-of : State → Summary
-summary-of st =
-    record {
-      entries = entries-of (st .position .tracked) (st .rows) (st .counts);
-      spillover = st .position .spillover;
-    }
-
--- a table of so many places: numbers at the front, 'all places behind hold 0'
-unfoldable pub table : ℕ → List ℕ → List ℕ
-table places xs = xs ++ replicate (places - length xs) 0
+summary-of st = read (st .rows) (st .counts) (st .position .tracked) (st .position .spillover)
 
 -- the state that holds a summary, after so many events in the window and activations since the last
 unfoldable pub state-of : Settings → ℕ → ℕ → Summary → State
