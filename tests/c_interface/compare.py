@@ -19,123 +19,56 @@ import random
 import subprocess
 import sys
 
-ROOT = pathlib.Path(__file__).resolve().parents[2]
+sys.dont_write_bytecode = True
+sys.path.insert(0, str(pathlib.Path(__file__).resolve().parents[1]))
+from comparison import (
+    BLOCK, BUILD_MODEL, COUNTERS, C_FLAGS, FIXED_SEED, MAX_COUNTERS, MAX_WINDOW, MODEL, ROOT,
+    ROWS, Run, TIME_LIMIT, Tally, U32, U64, VOLUME, WINDOW, accepted_settings,
+    arguments_with_seeds, build, changed, faulty_settings, give_up, limit_values, read_figures,
+    spread,
+)
+
 HERE = "tests/c_interface"
 OUT = "target/c_interface"
-MODEL = "target/model/release/model"
 ANSWERS = f"{OUT}/answers"
 EXAMPLES = (f"{OUT}/example_c", f"{OUT}/example_cxx")
-
-FIXED_SEED = 1
-TIME_LIMIT = 600  # seconds for one run of a program
-SHOWN = 10  # differences printed for one part
-
-# Settings are tuples of seven numbers in document 01's order.
-ROWS, DIAMETER, VOLUME, COUNTERS, INTERVAL, WINDOW, BLOCK = range(7)
-MAX_COUNTERS = 2048
-MAX_WINDOW = 8192
-U32 = 2**32 - 1
-U64 = 2**64 - 1
-
-
-def give_up(message):
-    print(f"compare.py: {message}", file=sys.stderr)
-    sys.exit(2)
-
-
-class Tally:
-    """Counts checks and prints the first failures of each part."""
-
-    def __init__(self):
-        self.passed = 0
-        self.failed = 0
-        self.shown = 0
-
-    def begin(self, title):
-        print(title)
-        self.shown = 0
-
-    def check(self, good, message):
-        if good:
-            self.passed += 1
-            return
-        self.failed += 1
-        self.shown += 1
-        if self.shown <= SHOWN:
-            print(f"  FAILED {message}")
-        elif self.shown == SHOWN + 1:
-            print("  FAILED and more, not shown")
-
 
 # Building and running
 
 
-def build(archive):
+def build_all(archive):
     if not os.path.exists(archive):
         give_up(f"{archive} is missing; `rt staticlib bound` writes it")
-    os.makedirs(OUT, exist_ok=True)
-    flags = ["-O2", "-Wall", "-Wextra", "-Werror", "-Iinclude"]
+    flags = (*C_FLAGS, "-Iinclude")
     example = "examples/bound.c"
-    for command in (
-        ["cargo", "build", "--release", "--offline", "--quiet",
-         "--manifest-path", "tests/model/Cargo.toml", "--target-dir", "target/model"],
+    build(
+        OUT,
+        BUILD_MODEL,
         ["cc", "-std=c99", *flags, f"{HERE}/answers.c", archive, "-o", ANSWERS],
         ["cc", "-std=c99", *flags, example, archive, "-o", EXAMPLES[0]],
         ["g++", *flags, "-x", "c++", example, "-x", "none", archive, "-o", EXAMPLES[1]],
-    ):
-        if subprocess.run(command).returncode != 0:
-            give_up(f"this failed: {' '.join(command)}")
+    )
 
 
-class Run:
-    """A program started on a list of queries."""
-
-    def __init__(self, program, queries, name):
-        self.name = name
-        with open(f"{OUT}/{name}.queries", "w") as file:
-            file.writelines(query + "\n" for query in queries)
-        with open(f"{OUT}/{name}.queries") as source, open(f"{OUT}/{name}.answers", "w") as sink:
-            self.process = subprocess.Popen([program], stdin=source, stdout=sink)
-
-    def finish(self):
-        """The answers as texts, and what went wrong with the run, if anything."""
-        problem = None
-        try:
-            status = self.process.wait(timeout=TIME_LIMIT)
-            if status != 0:
-                problem = f"exit status {status}"
-        except subprocess.TimeoutExpired:
-            self.process.kill()
-            self.process.wait()
-            problem = f"no end within {TIME_LIMIT} seconds"
-        with open(f"{OUT}/{self.name}.answers") as file:
-            return file.read().split(), problem
+def start_model(queries, name):
+    return Run([MODEL, "queries"], queries, f"{OUT}/{name}.model")
 
 
-def finish_model(run, queries):
-    answers, problem = run.finish()
-    if problem or len(answers) != len(queries):
-        give_up(f"the model failed on {run.name}: {problem or 'answers are missing'}")
-    return [int(answer) for answer in answers]
-
-
-def finish_library(run, queries):
-    """One answer for each query: a number, or None behind the point where the program stopped."""
-    answers, problem = run.finish()
-    if problem:
-        print(f"  answers.c: {problem} after {len(answers)} of {len(queries)} answers")
-    numbers = [int(answer) for answer in answers[:len(queries)]]
-    return numbers + [None] * (len(queries) - len(numbers))
+def start_library(queries, name):
+    return Run([ANSWERS], queries, f"{OUT}/{name}.library")
 
 
 def model_answers(queries, name):
-    return finish_model(Run(MODEL, queries, f"{name}.model"), queries)
+    return [int(answer) for answer in start_model(queries, name).finish_model()]
+
+
+def library_answers(run):
+    return [None if answer is None else int(answer) for answer in run.finish_library()]
 
 
 def both_answers(queries, name):
-    model = Run(MODEL, queries, f"{name}.model")
-    library = Run(ANSWERS, queries, f"{name}.library")
-    return finish_model(model, queries), finish_library(library, queries)
+    library = start_library(queries, name)
+    return model_answers(queries, name), library_answers(library)
 
 
 # Queries
@@ -148,14 +81,6 @@ def bound_query(settings):
 def least_query(settings, threshold):
     given = settings[:COUNTERS] + settings[COUNTERS + 1:]
     return "least " + " ".join(map(str, given + (threshold,)))
-
-
-def changed(settings, *changes):
-    """The settings with each (field, value) put in."""
-    result = list(settings)
-    for field, value in changes:
-        result[field] = value
-    return tuple(result)
 
 
 def with_bounds(many_settings, name):
@@ -172,19 +97,12 @@ def distinct(queries):
 
 def check_figures(tally):
     tally.begin("figures of document 01")
-    queries, expected = [], []
-    with open(f"{HERE}/figures.txt") as file:
-        for line in file:
-            line = line.split("#")[0].strip()
-            if line:
-                query, answer = line.split(" = ")
-                queries.append(query)
-                expected.append(answer)
+    queries, expected = read_figures(f"{HERE}/figures.txt")
     compare_figures(tally, "model", queries, expected, model_answers(queries, "figures"))
     exported = [(q, a) for q, a in zip(queries, expected) if not q.startswith("physical")]
     queries, expected = map(list, zip(*exported))
-    run = Run(ANSWERS, queries, "figures.library")
-    compare_figures(tally, "library", queries, expected, finish_library(run, queries))
+    answers = library_answers(start_library(queries, "figures"))
+    compare_figures(tally, "library", queries, expected, answers)
 
 
 def compare_figures(tally, side, queries, expected, answers):
@@ -227,24 +145,6 @@ SMALL = ((16, 2, 1, 2, 4, 4, 4), (16, 2, 2, 2, 1, 6, 3), (32, 4, 1, 1, 2, 9, 4))
 LARGE = ((65536, 4, 1, 2048, 4096, 8192, 64), (16, 2, 1, 2048, 4096, 8192, 1))
 
 
-def limit_values(settings, field):
-    """Values of a field at and around its limits, and larger ones with the same low bits."""
-    volume = settings[VOLUME]
-    values = {
-        ROWS: [0, 1, 8, 15, 16, 17, 31, 32, 33, 65519, 65520, 65521, 65535, 65536, 65537, 65552,
-               2**32 - 16],
-        DIAMETER: [0, 1, 2, 3, 4, 5, 6, 8],
-        VOLUME: [0, 1, 2, 15, 16, 17],
-        COUNTERS: [0, max(volume - 1, 0), volume, volume + 1, 2047, 2048, 2049],
-        INTERVAL: [0, 1, 2, 4095, 4096, 4097],
-        WINDOW: [0, 1, 2, 8191, 8192, 8193],
-        BLOCK: [0, 1, 2, 63, 64, 65],
-    }[field]
-    own = settings[field]
-    values += [own + 2**8, own + 2**16, own + 2**31, 2**31, U32]
-    return [value for value in values if value <= U32]
-
-
 def limit_settings():
     """One field at a time around every base, and the products."""
     for base in BASES:
@@ -282,35 +182,6 @@ def limit_queries():
 
 
 # Random inputs
-
-
-def spread(rng, low, high):
-    """A number from low to high, small ones as likely as large ones."""
-    return min(high, max(low, int(low * ((high + 1) / low) ** rng.random())))
-
-
-def accepted_settings(rng, window):
-    """Settings that pass every test, at times with block x window just enough."""
-    block = rng.randint(-(-16 // window), 64)
-    most = min(4096, block * window // 16)
-    rows = 16 * (most if rng.random() < 0.3 else rng.randint(1, most))
-    volume = rng.randint(1, 16)
-    reached = min(MAX_COUNTERS, volume * window + 1)
-    counters = rng.randint(volume, rng.choice((reached, MAX_COUNTERS)))
-    return (rows, rng.choice((2, 4)), volume, counters, spread(rng, 1, 4096), window, block)
-
-
-def faulty_settings(rng):
-    """Mostly refused: some fields are replaced by values that are seldom allowed."""
-    settings = accepted_settings(rng, spread(rng, 1, 64))
-    for field in rng.sample(range(7), rng.choice((1, 1, 1, 2, 2, 3, 4, 7))):
-        value = rng.choice((
-            rng.choice(limit_values(settings, field)),
-            rng.randint(0, 100_000),
-            rng.randint(0, U32),
-        ))
-        settings = changed(settings, (field, value))
-    return settings
 
 
 def wild_settings(rng):
@@ -385,15 +256,6 @@ def compare(tally, kinds, queries, name):
         tally.check(answer == wanted, f"{query}: the model gives {wanted}, the library {answer}")
 
 
-def check_kinds(tally, kinds):
-    tally.begin("how often each kind of answer occurred")
-    for name in EXPECTED_KINDS:
-        print(f"  {kinds[name]:6} {name}")
-        tally.check(kinds[name] > 0, f"never occurred: {name}")
-    for name in kinds.keys() - set(EXPECTED_KINDS):
-        tally.check(False, f"ought not to occur: {name}")
-
-
 # The example program
 
 
@@ -423,18 +285,13 @@ def check_examples(tally):
 
 def main():
     parser = argparse.ArgumentParser(description="Compares the C interface with the model.")
-    parser.add_argument("--seed", type=int, help="in place of a fresh seed")
     parser.add_argument("--archive", default=ROOT / "target/staticlib/libbound.a",
                         help="in place of target/staticlib/libbound.a")
-    arguments = parser.parse_args()
+    arguments, fresh_seed = arguments_with_seeds(parser)
     archive = os.path.abspath(arguments.archive)
-    fresh_seed = arguments.seed
-    if fresh_seed is None:
-        fresh_seed = random.SystemRandom().randint(0, 10**9)
 
     os.chdir(ROOT)
-    build(archive)
-    print(f"seeds: fixed {FIXED_SEED}, fresh {fresh_seed}")
+    build_all(archive)
     tally = Tally()
     kinds = collections.Counter()
     check_figures(tally)
@@ -442,9 +299,9 @@ def main():
     compare(tally, kinds, limit_queries(), "limits")
     compare(tally, kinds, random_queries(random.Random(FIXED_SEED), 1, "fixed"), "fixed")
     compare(tally, kinds, random_queries(random.Random(fresh_seed), 0.25, "fresh"), "fresh")
-    check_kinds(tally, kinds)
-    print(f"c_interface: {tally.passed} passed, {tally.failed} failed")
-    return 1 if tally.failed else 0
+    tally.begin("how often each kind of answer occurred")
+    tally.check_kinds(kinds, EXPECTED_KINDS)
+    return tally.close("c_interface")
 
 
 if __name__ == "__main__":

@@ -2,6 +2,14 @@
 //! It is written from document 01 alone, step by step, and shares no code with the product.
 
 pub mod bound;
+pub mod disturbance;
+pub mod limit;
+pub mod listing;
+pub mod random;
 pub mod refusal;
 pub mod remap;
 pub mod settings;
+pub mod summary;
+pub mod trace;
+pub mod tracker;
+pub mod victims;

@@ -9,8 +9,20 @@ pub enum Refusal {
     Interval = 5,
     Window = 6,
     Block = 7,
+    /// A lent table has not exactly `counters` entries.
+    TableLength = 8,
+    /// The logical row is not in the bank.
+    LogicalRow = 9,
+    /// The lent list of picks is shorter than `volume`.
+    PicksLength = 10,
+    /// A trace line of another form, or without its byte 10, or that needs a tracker and has none.
+    Line = 11,
     /// No counter count meets the threshold.
     Threshold = 12,
+    /// The tables or the position break a rule.
+    State = 21,
+    /// An activation in an interval that has had all of its activations.
+    IntervalFull = 22,
 }
 
 impl Refusal {

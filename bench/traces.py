@@ -1,0 +1,96 @@
+#!/usr/bin/env python3
+"""Writes traces of one whole window for measurements: 8,192 intervals of 166 activations each.
+
+    python3 bench/traces.py [--folder FOLDER] [--blast-diameter B] [--volume V]
+
+Writes PATTERN-COUNTERS.trace for each pattern of rows (uniform, hot, feinting) and for 64, 677 and
+2,048 counters, about 11 MB each, into target/traces/ unless told otherwise. They are the same
+every time.
+"""
+
+import argparse
+import collections
+import itertools
+import pathlib
+import random
+
+ROWS, INTERVAL, WINDOW, BLOCK = 65_536, 166, 8_192, 8
+COUNTERS = (64, 677, 2_048)
+HOT_ROWS = 64
+
+
+def remap(row):
+    """Physical to logical row, and back: remainders 2 and 3, 6 and 7 and so on change places."""
+    return row ^ 1 if row % 4 >= 2 else row
+
+
+# Patterns: the logical rows of each interval
+
+
+def uniform(rng, *_):
+    while True:
+        yield [rng.randrange(ROWS) for _ in range(INTERVAL)]
+
+
+def hot(rng, *_):
+    """Nine activations of ten go to a few rows."""
+    hot_rows = [rng.randrange(ROWS) for _ in range(HOT_ROWS)]
+    while True:
+        yield [rng.choice(hot_rows) if rng.random() < 0.9 else rng.randrange(ROWS)
+               for _ in range(INTERVAL)]
+
+
+def feinting(_, blast_diameter, volume, counters):
+    """The attack FEINTING-Ghost of source document 000: as many decoys as the remaining events
+    cannot all refresh, one more than the counters at most, are disturbed in unison. Each
+    aggressor has its own victims; the one activated last is given up at the event, and as long
+    as the counters limit the decoys another takes its place."""
+    apart = range(blast_diameter // 2, ROWS, blast_diameter + 1)
+    fresh = itertools.cycle(remap(row) for row in apart)
+    aggressors = collections.deque()  # the least activated first
+    for event in range(WINDOW):
+        decoys = min((WINDOW - 1 - event) * volume, counters) + 1
+        wanted = -(-decoys // blast_diameter)
+        while len(aggressors) > wanted:
+            aggressors.pop()
+        while len(aggressors) < wanted:
+            aggressors.appendleft(next(fresh))
+        rows = []
+        for _ in range(INTERVAL):
+            rows.append(aggressors[0])
+            aggressors.rotate(-1)
+        yield rows
+        if decoys > counters and len(aggressors) > 1:
+            for _ in range(max(1, volume // blast_diameter)):
+                aggressors.pop()
+
+
+PATTERNS = (uniform, hot, feinting)
+
+
+def write(path, pattern, blast_diameter, volume, counters):
+    settings = (ROWS, blast_diameter, volume, counters, INTERVAL, WINDOW, BLOCK)
+    intervals = pattern(random.Random(1), blast_diameter, volume, counters)
+    with open(path, "w") as file:
+        file.write("S" + "".join(f"{number:6}" for number in settings) + "\n")
+        for _ in range(WINDOW):
+            file.write("".join(f"A{row:6}\n" for row in next(intervals)) + "R\n")
+
+
+def main():
+    root = pathlib.Path(__file__).resolve().parents[1]
+    parser = argparse.ArgumentParser(description="Writes traces of one whole window.")
+    parser.add_argument("--folder", type=pathlib.Path, default=root / "target/traces")
+    parser.add_argument("--blast-diameter", type=int, default=2, choices=(2, 4))
+    parser.add_argument("--volume", type=int, default=2)
+    arguments = parser.parse_args()
+    arguments.folder.mkdir(parents=True, exist_ok=True)
+    for pattern in PATTERNS:
+        for counters in COUNTERS:
+            path = arguments.folder / f"{pattern.__name__}-{counters}.trace"
+            write(path, pattern, arguments.blast_diameter, arguments.volume, counters)
+            print(path)
+
+
+if __name__ == "__main__":
+    main()

@@ -1,0 +1,232 @@
+#!/usr/bin/env python3
+"""Compares the listings that `rowlist` prints with the plain model's, byte for byte.
+
+    python3 tests/listing/compare.py [--seed N] [--program COMMAND]
+
+Builds the model, then compares on document 01's example (example.*), on edges with a listing
+written by hand (edges.*) and on random traces (traces.py), with one fixed and one fresh seed
+(--seed repeats a fresh one). Traces come from a file, through a pipe, or in small pieces through
+a pipe. What differs stays in target/listing/.
+Exit status: 0 all equal; 1 a difference; 2 something is missing or cannot be built.
+"""
+
+import argparse
+import collections
+import fcntl
+import glob
+import os
+import pathlib
+import random
+import shlex
+import struct
+import subprocess
+import sys
+import termios
+import time
+
+sys.dont_write_bytecode = True
+sys.path.insert(0, str(pathlib.Path(__file__).resolve().parents[1]))
+from comparison import (
+    BUILD_MODEL, FIXED_SEED, MODEL, ROOT, Run, Tally, arguments_with_seeds, build, give_up,
+    read_figures,
+)
+from traces import plain_trace, long_lines, random_traces
+
+HERE = "tests/listing"
+OUT = "target/listing"
+MODEL_LISTING = [MODEL, "listing"]
+
+TRICKLES = 15  # traces in small pieces for each seed
+RUN_LIMIT = 20  # seconds for one run of the program
+TAKEN_LIMIT = 5  # seconds in which the program has to take a piece from the pipe
+
+REFUSALS = (1, 2, 3, 4, 5, 6, 7, 9, 11, 22)  # those that a trace can earn
+
+
+# Running
+
+
+def run(command, **input):
+    """The output of a program and what went wrong, if anything."""
+    try:
+        done = subprocess.run(command, **input, stdout=subprocess.PIPE, timeout=RUN_LIMIT)
+    except subprocess.TimeoutExpired as expired:
+        return expired.stdout or b"", f"no end within {RUN_LIMIT} seconds"
+    return done.stdout, f"exit status {done.returncode}" if done.returncode else None
+
+
+def through_pipe(command, text):
+    return run(command, input=text)
+
+
+def from_file(command, text):
+    with open(f"{OUT}/trace", "wb") as file:
+        file.write(text)
+    with open(f"{OUT}/trace", "rb") as file:
+        return run(command, stdin=file)
+
+
+def in_pieces(sizes):
+    """Feeds pieces of these sizes, each when the program has taken the one before."""
+    def feed(command, text):
+        with open(f"{OUT}/listing", "wb") as sink:
+            process = subprocess.Popen(command, stdin=subprocess.PIPE, stdout=sink, bufsize=0)
+        place = 0
+        try:
+            for size in sizes:
+                process.stdin.write(text[place:place + size])
+                place += size
+                wait_until_taken(process)
+            process.stdin.close()
+        except BrokenPipeError:
+            pass
+        try:
+            status = process.wait(timeout=RUN_LIMIT)
+            problem = f"exit status {status}" if status else None
+        except subprocess.TimeoutExpired:
+            process.kill()
+            process.wait()
+            problem = f"no end within {RUN_LIMIT} seconds"
+        with open(f"{OUT}/listing", "rb") as file:
+            return file.read(), problem
+    return feed
+
+
+def wait_until_taken(process):
+    start = time.monotonic()
+    while time.monotonic() < start + TAKEN_LIMIT and process.poll() is None:
+        waiting = fcntl.ioctl(process.stdin, termios.FIONREAD, b"\0" * 4)
+        if struct.unpack("i", waiting) == (0,):
+            return
+        time.sleep(0.00005)
+
+
+def random_pieces(rng, length):
+    sizes = []
+    most = rng.choice((1, 3, 10, 50)) if length < 3000 else length // 200
+    while length > 0:
+        size = rng.randint(1, min(most, length))
+        sizes.append(size)
+        length -= size
+    return sizes
+
+
+# Comparing
+
+
+def model_listing(text):
+    listing, problem = through_pipe(MODEL_LISTING, text)
+    if problem:
+        with open(f"{OUT}/trace", "wb") as file:
+            file.write(text)
+        give_up(f"the model failed on {OUT}/trace: {problem}")
+    return listing
+
+
+def difference(wanted, listing):
+    """The first line that departs."""
+    wanted, listing = wanted.split(b"\n"), listing.split(b"\n")
+    for number in range(max(len(wanted), len(listing))):
+        one, other = wanted[number:number + 1], listing[number:number + 1]
+        if one != other:
+            return f"listing line {number + 1} is {other} and ought to be {one}"
+    return None
+
+
+def check_listing(tally, command, feed, name, text, wanted):
+    listing, problem = feed(command, text)
+    if listing == wanted and not problem:
+        tally.check(True, "")
+        return
+    kept = f"{OUT}/failed-{tally.failed + 1}"
+    for suffix, content in (("trace", text), ("model", wanted), ("listing", listing)):
+        with open(f"{kept}.{suffix}", "wb") as file:
+            file.write(content)
+    tally.check(False, f"{name}, {kept}.trace: {problem or difference(wanted, listing)}")
+
+
+def compare(tally, kinds, command, seed, name):
+    tally.begin(f"{name}: random traces")
+    rng = random.Random(seed)
+    count = 0
+    for kind, text in random_traces(rng):
+        feed = rng.choice((from_file, through_pipe))
+        count += 1
+        compare_one(tally, kinds, command, feed, f"{name} {count} ({kind})", text, kind)
+    for _ in range(TRICKLES):
+        text = plain_trace(rng, rng.randint(1, 60)) if rng.random() < 0.8 else long_lines(rng)
+        feed = in_pieces(random_pieces(rng, len(text)))
+        count += 1
+        compare_one(tally, kinds, command, feed, f"{name} {count} (in pieces)", text, "in pieces")
+    print(f"  {count} traces")
+
+
+def compare_one(tally, kinds, command, feed, name, text, kind):
+    wanted = model_listing(text)
+    kinds[kind] += 1
+    kinds.update(line_kinds(wanted))
+    check_listing(tally, command, feed, name, text, wanted)
+
+
+def line_kinds(listing):
+    for line in listing.decode().splitlines():
+        if line[0] == "X":
+            yield f"line refused with {int(line[11:17])}"
+        elif line[0] == "B":
+            yield "bound"
+        else:
+            yield f"event with {int(line[7:13])} picked rows"
+
+
+EXPECTED_KINDS = (
+    "empty input", "single byte", "plain", "several S", "settings at their limits", "no S",
+    "almost good lines", "damaged", "bytes 0, 13 and 255", "byte 13 before each byte 10",
+    "cut off", "noise", "long lines", "much output", "buffer boundary", "in pieces", "bound",
+    *(f"event with {picked} picked rows" for picked in range(17)),
+    *(f"line refused with {number}" for number in REFUSALS),
+)
+
+
+# What was written by hand
+
+
+def check_written(tally, command):
+    tally.begin("document 01's example, and edges written by hand")
+    queries, expected = read_figures(f"{HERE}/example.calls")
+    answers = Run([MODEL, "calls"], queries, f"{OUT}/example.model").finish_model()
+    for query, wanted, answer in zip(queries, expected, answers):
+        tally.check(answer == wanted, f"{query}: written is {wanted}, the model gives {answer}")
+    for name in ("example", "edges"):
+        text = pathlib.Path(f"{HERE}/{name}.trace").read_bytes()
+        wanted = pathlib.Path(f"{HERE}/{name}.listing").read_bytes()
+        check_listing(tally, MODEL_LISTING, from_file, f"{name} by the model", text, wanted)
+        for feed in (from_file, through_pipe, in_pieces([1] * len(text))):
+            check_listing(tally, command, feed, f"{name} by the program", text, wanted)
+
+
+def main():
+    parser = argparse.ArgumentParser(description="Compares the program's listings with the model's.")
+    parser.add_argument("--program", default=shlex.quote(str(ROOT / "target/bin/rowlist")),
+                        help="command in place of target/bin/rowlist")
+    arguments, fresh_seed = arguments_with_seeds(parser)
+    command = shlex.split(arguments.program)
+    command[0] = os.path.abspath(command[0])
+    if not os.path.exists(command[0]):
+        give_up(f"{command[0]} is missing")
+
+    os.chdir(ROOT)
+    build(OUT, BUILD_MODEL)
+    for path in glob.glob(f"{OUT}/failed-*"):
+        os.remove(path)
+    tally = Tally()
+    kinds = collections.Counter()
+    check_written(tally, command)
+    compare(tally, kinds, command, FIXED_SEED, "fixed")
+    compare(tally, kinds, command, fresh_seed, "fresh")
+    tally.begin("how often each kind of trace and of line occurred")
+    tally.check_kinds(kinds, EXPECTED_KINDS)
+    return tally.close("listing")
+
+
+if __name__ == "__main__":
+    sys.exit(main())

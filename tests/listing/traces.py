@@ -1,0 +1,278 @@
+"""Random traces for the comparison of listings; each is a kind and the bytes of an input."""
+
+from comparison import (
+    INTERVAL, ROWS, accepted_settings, changed, faulty_settings, limit_values, spread,
+)
+
+MOST = 999_999  # in six columns
+SPECIAL_BYTES = b"\x00\x01\t\n\r +-09ARSX\x7f\x80\xff"
+LINE_SIZES = (0, 1, 2, 6, 7, 8, 9, 42, 43, 44, 45, 63, 64, 65, 4095, 4096, 4097, 65_535, 65_536,
+              65_537, 131_072, 200_000)
+BOUNDARIES = (64, 4096, 65_536)
+
+
+# Lines
+
+
+def field(rng, number):
+    text = str(number)
+    if rng.random() < 0.1:
+        text = text.zfill(rng.randint(len(text), 6))
+    return text.rjust(6).encode()
+
+
+def settings_line(rng, settings):
+    return b"S" + b"".join(field(rng, number) for number in settings) + b"\n"
+
+
+def activation_line(rng, row):
+    return b"A" + field(rng, row) + b"\n"
+
+
+def small_settings(rng):
+    volume = rng.choice((1, 1, 2, 3, 16))
+    block = rng.choice((1, 3, 4, 8, 16, 64))
+    rows = 16 * rng.choice((1, 1, 2, 5))
+    window = -(-rows // block) + rng.choice((0, 0, 1, 4))
+    return (rows, rng.choice((2, 4)), volume, volume + rng.choice((0, 1, 2, 5, 30)),
+            rng.choice((1, 2, 4, 9, 30)), window, block)
+
+
+def any_settings(rng):
+    """Accepted settings, mostly of a small bank."""
+    if rng.random() < 0.8:
+        return small_settings(rng)
+    return accepted_settings(rng, spread(rng, 1, 8192))
+
+
+def body(rng, settings, count):
+    """Lines for a tracker with these settings, few of them refused."""
+    rows = settings[ROWS]
+    hot_rows = [rng.randrange(rows) for _ in range(rng.choice((1, 2, 4, 12)))]
+    lines, activations = [], 0
+    for _ in range(count):
+        chance = rng.random()
+        if chance < 0.03:
+            lines.append(b"\n")
+        elif chance < 0.05:
+            row = min(MOST, rng.choice((rows, rows + 1, MOST)))
+            lines.append(activation_line(rng, row))
+        elif chance < 0.1 or activations >= settings[INTERVAL] and chance < 0.9:
+            lines.append(b"R\n")
+            activations = 0
+        else:
+            row = rng.choice(hot_rows) if rng.random() < 0.8 else rng.randrange(rows)
+            lines.append(activation_line(rng, row))
+            activations += 1
+    return b"".join(lines)
+
+
+# Whole traces
+
+
+def plain_trace(rng, count=None):
+    """An `S` line and what follows it."""
+    settings = any_settings(rng)
+    return settings_line(rng, settings) + body(rng, settings, count or spread(rng, 1, 400))
+
+
+def many_settings(rng):
+    """Several `S` lines, accepted and refused, each with some lines behind it."""
+    text = b""
+    for _ in range(rng.randint(2, 12)):
+        settings = rng.choice((any_settings, faulty_settings))(rng)
+        settings = tuple(min(number, MOST) for number in settings)
+        text += settings_line(rng, settings)
+        text += body(rng, changed(any_settings(rng), (ROWS, max(1, settings[ROWS]))),
+                     rng.randint(0, 20))
+    return text
+
+
+def limit_settings(rng):
+    """`S` lines with one or two fields at their limits."""
+    text = b""
+    for _ in range(20):
+        settings = any_settings(rng)
+        for place in rng.sample(range(7), rng.choice((1, 1, 2))):
+            values = [value for value in limit_values(settings, place) if value <= MOST]
+            settings = changed(settings, (place, rng.choice((*values, MOST))))
+        text += settings_line(rng, settings) + b"A     0\nR\nA    15\nA    16\n"
+    return text
+
+
+def bad_field(rng):
+    """Almost a number in six columns."""
+    number = str(rng.randint(0, 99))
+    return rng.choice((
+        " " * 6, number.ljust(6), number.rjust(5) + " ", number.rjust(5), number.rjust(7),
+        f"{number} {number}".rjust(6), f"+{number}".rjust(6), f"-{number}".rjust(6),
+        f"{number}.0".rjust(6), f"0x{number}".rjust(6), f"{number}\t".rjust(6),
+        f"\t{number}".rjust(6), number.rjust(6, "\t"), number.rjust(6, "_"), "", "1234567",
+    )).encode()
+
+
+def near_misses(rng):
+    """Good lines between lines that are almost good."""
+    settings = small_settings(rng)
+    good = settings_line(rng, settings)[:-1]
+    text = good + b"\n"
+    for _ in range(rng.randint(5, 40)):
+        fields = [good[1 + 6 * place:7 + 6 * place] for place in range(7)]
+        fields[rng.randrange(7)] = bad_field(rng)
+        text += rng.choice((
+            b"A" + bad_field(rng), b"A" + bad_field(rng), b"S" + b"".join(fields),
+            good[:-6], good + b"     1", good + b" ", good[:-1], good.lower(), b" " + good,
+            b"a     1", b" A     1", b"A     1 ", b"A     1     1", b"A", b"S", b"r", b" R", b"R ",
+            b"R     1", b" ", b"      ", b"B        30        60",
+        )) + b"\n"
+        text += body(rng, settings, rng.randint(0, 3))
+    return text
+
+
+def no_settings(rng):
+    return body(rng, any_settings(rng), rng.randint(1, 50))
+
+
+def damaged(rng):
+    text = bytearray(rng.choice((plain_trace, many_settings))(rng))
+    for _ in range(rng.choice((1, 1, 3, 10, 40))):
+        place = rng.randrange(len(text))
+        byte = rng.choice((rng.choice(SPECIAL_BYTES), rng.randrange(256)))
+        change = rng.choice(("replace", "replace", "insert", "delete"))
+        if change == "replace":
+            text[place] = byte
+        elif change == "insert":
+            text.insert(place, byte)
+        elif len(text) > 1:
+            del text[place]
+    return bytes(text)
+
+
+def special_bytes(rng):
+    """Good lines between lines of bytes such as 0, 13 and 255."""
+    text = plain_trace(rng, 5)
+    for _ in range(rng.randint(1, 30)):
+        size = rng.choice((1, 2, 7, 8, 43))
+        text += rng.choice((
+            bytes(rng.choice(b"\x00\r\xff") for _ in range(size)) + b"\n",
+            bytes(rng.choice(SPECIAL_BYTES) for _ in range(size)) + b"\n",
+            b"R\r\n", b"A     1\r\n", b"\r\n", b"\x00\n", b"A     1\x00\n", b"R\n", b"A     1\n",
+        ))
+    return text
+
+
+def crlf(rng):
+    return plain_trace(rng).replace(b"\n", b"\r\n")
+
+
+def cut_off(rng):
+    """Ends anywhere, mostly within a line."""
+    text = plain_trace(rng)
+    return text[:rng.randint(1, len(text))] if rng.random() < 0.7 else text[:-1]
+
+
+def noise(rng):
+    return rng.randbytes(spread(rng, 1, 5000))
+
+
+def long_line(rng, size):
+    """A line of so many bytes, byte 10 not counted: at times good ones, and more behind."""
+    good = rng.choice((b"R", b"A     1", b"A000000", settings_line(rng, small_settings(rng))[:-1]))
+    filling = rng.choice((b" ", b"0", b"1", b"R", b"\x00", b"\xff", b"\r"))
+    return rng.choice((good, b"S", b"A", filling)).ljust(size, filling)[:size] + b"\n"
+
+
+def long_lines(rng):
+    text = plain_trace(rng, 5)
+    for _ in range(rng.randint(1, 4)):
+        size = rng.choice((rng.choice(LINE_SIZES), rng.randint(0, 200_000)))
+        text += long_line(rng, size) + body(rng, small_settings(rng), 5)
+    return text if rng.random() < 0.7 else text + long_line(rng, rng.choice(LINE_SIZES))[:-1]
+
+
+def much_output(rng):
+    """Long listings of events with many picked rows, or of refused lines."""
+    settings = (4096, 4, 16, rng.choice((16, 100, 2048)), 100, 8192, 64)
+    text = settings_line(rng, settings)
+    for _ in range(rng.randint(700, 1500)):
+        rows = [rng.randrange(0, 4096, 5) for _ in range(4)]
+        text += b"".join(activation_line(rng, row) for row in rows)
+        text += rng.choice((b"R\n", b"R\n", b"R\n", b"?\n" * 4))
+    return text
+
+
+# Sizes around buffer boundaries
+
+
+def filling(rng, size):
+    """Whole lines of exactly so many bytes."""
+    chance = rng.random()
+    if size == 0:
+        return b""
+    if chance < 0.3:
+        return b"\n" * size
+    if chance < 0.5:
+        return b"x" * (size - 1) + b"\n"
+    start = settings_line(rng, (16, 2, 1, 2, rng.choice((4, 4096)), 4, 4))
+    if size < len(start):
+        return b"\n" * size
+    lines = rng.choice((b"A     5\n", b"A     5\nA     2\nR\n", b"A     2\nR\n"))
+    count = (size - len(start)) // len(lines)
+    text = start + lines * count
+    return text + b"\n" * (size - len(text))
+
+
+def across(rng, boundary, before):
+    """A line with so many of its bytes before the boundary, and some behind it."""
+    settings = small_settings(rng)
+    line = settings_line(rng, settings) if before > 7 or rng.random() < 0.5 else b"A     5\n"
+    before = min(before, len(line), boundary)
+    return filling(rng, boundary - before) + line + body(rng, settings, 6)
+
+
+def exact_size(rng, size):
+    """So many bytes, the last one at times no byte 10 though all else is good."""
+    start = settings_line(rng, small_settings(rng))
+    end = start + rng.choice((b"R\n", b"A     5\n", b"A     5\nR\n", b"R\n" + start, b"\n"))
+    if rng.random() < 0.6:
+        end = end[:-1]
+    if len(end) > size:
+        return filling(rng, size)
+    return filling(rng, size - len(end)) + end
+
+
+def boundary_traces(rng):
+    for boundary in BOUNDARIES:
+        for before in range(0, 45) if boundary == 65_536 else rng.sample(range(45), 15):
+            yield across(rng, boundary * rng.choice((1, 1, 2)), before)
+        for difference in range(-3, 4):
+            for _ in range(5 if difference == 0 else 2):
+                yield exact_size(rng, boundary + difference)
+
+
+# All traces
+
+
+def random_traces(rng):
+    """Some hundred pairs of a kind and a trace."""
+    yield "empty input", b""
+    yield "single byte", b"\n"
+    yield "single byte", rng.choice((b"R", b"S", b"A", b" ", b"\x00", b"\r", b"\xff"))
+    for make, kind, count in (
+        (plain_trace, "plain", 100),
+        (many_settings, "several S", 40),
+        (limit_settings, "settings at their limits", 30),
+        (no_settings, "no S", 10),
+        (near_misses, "almost good lines", 40),
+        (damaged, "damaged", 100),
+        (special_bytes, "bytes 0, 13 and 255", 30),
+        (crlf, "byte 13 before each byte 10", 5),
+        (cut_off, "cut off", 40),
+        (noise, "noise", 10),
+        (long_lines, "long lines", 40),
+        (much_output, "much output", 3),
+    ):
+        for _ in range(count):
+            yield kind, make(rng)
+    for text in boundary_traces(rng):
+        yield "buffer boundary", text

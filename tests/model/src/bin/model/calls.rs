@@ -1,0 +1,117 @@
+//! Calls of the library with the memory that they are lent; refusal k is -k.
+//!
+//! A list is its length and its numbers, STATE is the seven settings and the lists of rows,
+//! counts and position (events, activations, tracked, spillover). Queries:
+//! `set_up STATE`, `activate STATE ROW`, `refresh STATE PICKS`, `agree STATE STATE`.
+//! The answer is the call's number and then every lent list as it is afterwards.
+
+use row_tracker_model::refusal::Refusal;
+use row_tracker_model::settings::Settings;
+use row_tracker_model::tracker::{activate, agree, refresh, set_up, Position};
+
+use crate::numbers::Words;
+
+/// None if the line is no query.
+pub fn answer(line: &str) -> Option<String> {
+    let mut words = Words::new(line);
+    let call = words.word()?;
+    let mut state = State::read(&mut words)?;
+    let State {
+        settings,
+        rows,
+        counts,
+        position,
+    } = &mut state;
+    let answer = match call {
+        "set_up" => {
+            let result = set_up(settings, rows, counts);
+            let number = signed(result.map(|_| 0));
+            *position = result.unwrap_or(*position);
+            format!("{number}{}", state.lists())
+        }
+        "activate" => {
+            let result = activate(settings, rows, counts, *position, words.number()?);
+            let number = signed(result.map(|_| 0));
+            *position = result.unwrap_or(*position);
+            format!("{number}{}", state.lists())
+        }
+        "refresh" => {
+            let mut picks = words.list()?;
+            let result = refresh(settings, rows, counts, *position, &mut picks);
+            let number = signed(result.map(|(_, picked)| picked as i64));
+            *position = result.map_or(*position, |(position, _)| position);
+            format!("{number}{}{}", state.lists(), list(&picks))
+        }
+        "agree" => {
+            let other = State::read(&mut words)?;
+            let result = agree(
+                settings,
+                rows,
+                counts,
+                *position,
+                &other.settings,
+                &other.rows,
+                &other.counts,
+                other.position,
+            );
+            let number = signed(result.map(i64::from));
+            format!("{number}{}{}", state.lists(), other.lists())
+        }
+        _ => return None,
+    };
+    words.last(answer)
+}
+
+struct State {
+    settings: Settings,
+    rows: Vec<u32>,
+    counts: Vec<u32>,
+    position: Position,
+}
+
+impl State {
+    fn read(words: &mut Words) -> Option<State> {
+        let settings = words.settings()?;
+        let rows = words.list()?;
+        let counts = words.list()?;
+        let [events, activations, tracked, spillover] = words.list()?.try_into().ok()?;
+        Some(State {
+            settings,
+            rows,
+            counts,
+            position: Position {
+                events,
+                activations,
+                tracked,
+                spillover,
+            },
+        })
+    }
+
+    fn lists(&self) -> String {
+        let Position {
+            events,
+            activations,
+            tracked,
+            spillover,
+        } = self.position;
+        let position = [events, activations, tracked, spillover];
+        list(&self.rows) + &list(&self.counts) + &list(&position)
+    }
+}
+
+/// The length and the numbers, each behind a blank.
+fn list(numbers: &[u32]) -> String {
+    let mut text = format!(" {}", numbers.len());
+    for number in numbers {
+        text += &format!(" {number}");
+    }
+    text
+}
+
+fn signed(result: Result<i64, Refusal>) -> i64 {
+    match result {
+        Ok(value) => value,
+        Err(refusal) => -refusal.number(),
+    }
+}

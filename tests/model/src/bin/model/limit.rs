@@ -1,0 +1,33 @@
+//! Plays random runs and prints how close they came to the limit on disturbance.
+
+use row_tracker_model::limit::{play, Report};
+use row_tracker_model::random::Random;
+
+/// The exit status: 0 if the limit held on every run.
+pub fn check(seed: u64, runs: u64) -> i32 {
+    let mut seeds = Random::new(seed);
+    let mut total = Report::default();
+    let mut failed = 0;
+    for _ in 0..runs {
+        match play(seeds.next()) {
+            Ok(report) => {
+                total.calls += report.calls;
+                total.refused += report.refused;
+                total.first_window_percent =
+                    total.first_window_percent.max(report.first_window_percent);
+                total.later_percent = total.later_percent.max(report.later_percent);
+            }
+            Err(what) => {
+                failed += 1;
+                println!("  FAILED {what}");
+            }
+        }
+    }
+    println!(
+        "seed {seed}: {} calls, {} refused; the highest disturbance is {} % of H in the first \
+         window and {} % of 2 x H later",
+        total.calls, total.refused, total.first_window_percent, total.later_percent
+    );
+    println!("limit: {} passed, {failed} failed", runs - failed);
+    i32::from(failed > 0)
+}

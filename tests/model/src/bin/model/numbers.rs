@@ -1,0 +1,44 @@
+//! Reads numbers, settings and lists of numbers from a query's words.
+
+use std::str::{FromStr, SplitWhitespace};
+
+use row_tracker_model::settings::Settings;
+
+pub struct Words<'a>(SplitWhitespace<'a>);
+
+impl<'a> Words<'a> {
+    pub fn new(line: &'a str) -> Words<'a> {
+        Words(line.split_whitespace())
+    }
+
+    pub fn word(&mut self) -> Option<&'a str> {
+        self.0.next()
+    }
+
+    pub fn number<T: FromStr>(&mut self) -> Option<T> {
+        self.word()?.parse().ok()
+    }
+
+    pub fn settings(&mut self) -> Option<Settings> {
+        Some(Settings {
+            rows: self.number()?,
+            blast_diameter: self.number()?,
+            volume: self.number()?,
+            counters: self.number()?,
+            interval: self.number()?,
+            window: self.number()?,
+            block: self.number()?,
+        })
+    }
+
+    /// The length, then that many numbers.
+    pub fn list(&mut self) -> Option<Vec<u32>> {
+        let length: usize = self.number()?;
+        (0..length).map(|_| self.number()).collect()
+    }
+
+    /// The value, if no word is left.
+    pub fn last<T>(&mut self, value: T) -> Option<T> {
+        self.word().is_none().then_some(value)
+    }
+}

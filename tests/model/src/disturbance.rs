@@ -1,0 +1,61 @@
+//! The exact disturbance of every row, counted beside a tracker without a look at its memory.
+
+use std::collections::BTreeSet;
+
+use crate::remap::physical_row;
+use crate::settings::Settings;
+use crate::victims::{regular_block, victims};
+
+/// 'True disturbance', kept by the 'plain counter'. It is told of accepted calls only, since a
+/// refused call changes nothing.
+pub struct Disturbance {
+    settings: Settings,
+    /// One number for each physical row.
+    counts: Vec<u64>,
+    /// 'f': refresh events since the set up.
+    events: u64,
+}
+
+impl Disturbance {
+    pub fn set_up(settings: &Settings) -> Disturbance {
+        Disturbance {
+            settings: *settings,
+            counts: vec![0; settings.rows as usize],
+            events: 0,
+        }
+    }
+
+    pub fn activate(&mut self, logical_row: u32) {
+        let row = physical_row(logical_row);
+        self.counts[row as usize] = 0;
+        self.disturb_victims(row);
+    }
+
+    /// `picked` holds the rows that the event named.
+    pub fn refresh(&mut self, picked: &[u32]) {
+        let event = self.events % u64::from(self.settings.window);
+        let mut refreshed = BTreeSet::from_iter(regular_block(&self.settings, event as u32));
+        refreshed.extend(picked);
+        for row in &refreshed {
+            self.counts[*row as usize] = 0;
+        }
+        for row in &refreshed {
+            self.disturb_victims(*row);
+        }
+        self.events += 1;
+    }
+
+    pub fn in_first_window(&self) -> bool {
+        self.events < u64::from(self.settings.window)
+    }
+
+    pub fn counts(&self) -> &[u64] {
+        &self.counts
+    }
+
+    fn disturb_victims(&mut self, row: u32) {
+        for victim in victims(&self.settings, row) {
+            self.counts[victim as usize] += 1;
+        }
+    }
+}

@@ -1,0 +1,241 @@
+//! Random runs of calls on which the limit on disturbance (demand 3) has to hold.
+
+use std::cmp::Reverse;
+
+use crate::bound::bound;
+use crate::disturbance::Disturbance;
+use crate::random::Random;
+use crate::refusal::Refusal;
+use crate::remap::physical_row;
+use crate::settings::Settings;
+use crate::tracker::{activate, refresh, set_up, Position};
+use crate::victims::victims;
+
+/// Once in so many calls.
+const HARDLY_EVER: u32 = 1_000_000;
+
+/// What a run did.
+#[derive(Clone, Copy, Debug, Default)]
+pub struct Report {
+    pub calls: u64,
+    pub refused: u64,
+    /// The highest disturbance, in percent of H during the first window and of 2 x H later.
+    pub first_window_percent: u64,
+    pub later_percent: u64,
+}
+
+/// How a run chooses the rows that it activates.
+enum Plan {
+    Uniform,
+    /// Logical rows, in random order.
+    Few(Vec<u32>),
+    /// Keeps that many of the most disturbed rows equally high.
+    Unison(usize),
+    /// The same, with just more rows than the events before this one of the window can refresh.
+    Feinting(u32),
+}
+
+/// Plays the run of this seed from its set up; an error says what did not hold.
+pub fn play(seed: u64) -> Result<Report, String> {
+    let mut random = Random::new(seed);
+    let settings = random_settings(&mut random);
+    let plan = random_plan(&mut random, &settings);
+    let early = random.choose(&[HARDLY_EVER, HARDLY_EVER, 20, 3]);
+    let faults = random.choose(&[HARDLY_EVER, 20]);
+    let windows = random.choose(&[1, 1, 2, 3, 5]);
+    let describe = |what: &str| format!("seed {seed}, {settings:?}: {what}");
+
+    let mut run = Run::set_up(settings, &mut random).map_err(|what| describe(&what))?;
+    for _ in 0..windows * settings.window * (settings.interval + 1) {
+        let full = run.position.activations == settings.interval;
+        let step = if random.once_in(faults) {
+            let logical_row = random.choose(&[settings.rows, settings.rows + 1, u32::MAX]);
+            run.activate(logical_row)
+        } else if random.once_in(faults) {
+            run.refresh(settings.volume - 1)
+        } else if random.once_in(early) || full && !random.once_in(faults) {
+            run.refresh(settings.volume + random.between(0, 2))
+        } else {
+            let logical_row = run.next_row(&plan, &mut random);
+            run.activate(logical_row)
+        };
+        step.map_err(|what| describe(&what))?;
+    }
+    Ok(run.report)
+}
+
+struct Run {
+    settings: Settings,
+    bound: u64,
+    rows: Vec<u32>,
+    counts: Vec<u32>,
+    position: Position,
+    disturbance: Disturbance,
+    report: Report,
+}
+
+impl Run {
+    fn set_up(settings: Settings, random: &mut Random) -> Result<Run, String> {
+        let garbage = random.next() as u32;
+        let mut rows = vec![garbage; settings.counters as usize];
+        let mut counts = rows.clone();
+        let position = set_up(&settings, &mut rows, &mut counts)
+            .map_err(|refusal| format!("set up refused: {refusal:?}"))?;
+        let mut run = Run {
+            settings,
+            bound: bound(&settings).map_err(|refusal| format!("no bound: {refusal:?}"))?,
+            rows,
+            counts,
+            position,
+            disturbance: Disturbance::set_up(&settings),
+            report: Report::default(),
+        };
+        run.check()?;
+        Ok(run)
+    }
+
+    fn activate(&mut self, logical_row: u32) -> Result<(), String> {
+        let expected = if logical_row >= self.settings.rows {
+            Err(Refusal::LogicalRow)
+        } else if self.position.activations == self.settings.interval {
+            Err(Refusal::IntervalFull)
+        } else {
+            Ok(())
+        };
+        let answer = activate(
+            &self.settings,
+            &mut self.rows,
+            &mut self.counts,
+            self.position,
+            logical_row,
+        );
+        self.check_answer("activation", answer.map(|_| ()), expected)?;
+        if let Ok(position) = answer {
+            self.position = position;
+            self.disturbance.activate(logical_row);
+        }
+        self.check()
+    }
+
+    fn refresh(&mut self, length: u32) -> Result<(), String> {
+        let expected = if length < self.settings.volume {
+            Err(Refusal::PicksLength)
+        } else {
+            Ok(())
+        };
+        let mut picks = vec![u32::MAX; length as usize];
+        let answer = refresh(
+            &self.settings,
+            &mut self.rows,
+            &mut self.counts,
+            self.position,
+            &mut picks,
+        );
+        self.check_answer("refresh event", answer.map(|_| ()), expected)?;
+        if let Ok((position, picked)) = answer {
+            self.position = position;
+            self.disturbance.refresh(&picks[..picked]);
+        }
+        self.check()
+    }
+
+    /// The only refusals on a run are those of the row, the list of picks and a full interval.
+    fn check_answer(
+        &mut self,
+        call: &str,
+        answer: Result<(), Refusal>,
+        expected: Result<(), Refusal>,
+    ) -> Result<(), String> {
+        self.report.calls += 1;
+        self.report.refused += u64::from(answer.is_err());
+        if answer == expected {
+            Ok(())
+        } else {
+            Err(format!(
+                "{call} at {:?}: {answer:?} in place of {expected:?}",
+                self.position
+            ))
+        }
+    }
+
+    fn check(&mut self) -> Result<(), String> {
+        let highest = *self.disturbance.counts().iter().max().unwrap_or(&0);
+        let (limit, percent) = if self.disturbance.in_first_window() {
+            (self.bound, &mut self.report.first_window_percent)
+        } else {
+            (2 * self.bound, &mut self.report.later_percent)
+        };
+        *percent = (*percent).max(100 * highest / limit);
+        if highest <= limit {
+            Ok(())
+        } else {
+            Err(format!(
+                "call {}: disturbance {highest} is above the limit {limit}",
+                self.report.calls
+            ))
+        }
+    }
+
+    fn next_row(&self, plan: &Plan, random: &mut Random) -> u32 {
+        match plan {
+            Plan::Uniform => random.between(0, self.settings.rows - 1),
+            Plan::Few(rows) => random.choose(rows),
+            Plan::Unison(size) => self.row_beside_rank(*size),
+            Plan::Feinting(last_event) => {
+                let window = self.settings.window;
+                let events_left = (window + last_event - self.position.events) % window;
+                let decoys = events_left * self.settings.volume + 1;
+                self.row_beside_rank(decoys.min(self.settings.counters + 1) as usize)
+            }
+        }
+    }
+
+    /// The logical row of the least disturbed victim of the row that is the `rank`th in
+    /// disturbance: to activate it costs the least.
+    fn row_beside_rank(&self, rank: usize) -> u32 {
+        let counts = self.disturbance.counts();
+        let mut order: Vec<u32> = (0..self.settings.rows).collect();
+        order.sort_by_key(|row| Reverse(counts[*row as usize]));
+        let target = order[rank.min(order.len()) - 1];
+        let beside = victims(&self.settings, target)
+            .into_iter()
+            .min_by_key(|row| counts[*row as usize]);
+        let wanted = beside.unwrap_or(target);
+        (0..self.settings.rows)
+            .find(|logical_row| physical_row(*logical_row) == wanted)
+            .unwrap_or(wanted)
+    }
+}
+
+fn random_settings(random: &mut Random) -> Settings {
+    let large = random.once_in(40);
+    let rows = 16 * random.between(1, if large { 32 } else { 3 });
+    let volume = random.choose(&[1, 1, 1, 2, 2, 3, 4, 16]);
+    let block = random.choose(&[1, 2, 3, 4, 8, 9, 16, 17, 33, 64]);
+    let shortest_window = rows.div_ceil(block);
+    Settings {
+        rows,
+        blast_diameter: random.choose(&[2, 4]),
+        volume,
+        counters: volume + random.between(0, if large { 200 } else { 10 }),
+        interval: random.choose(&[1, 2, 3, 4, 6, 9, 12, 40, 150]),
+        window: shortest_window + random.choose(&[0, 0, 1, 2, 5, 16]),
+        block,
+    }
+}
+
+fn random_plan(random: &mut Random, settings: &Settings) -> Plan {
+    match random.between(1, 8) {
+        1 => Plan::Uniform,
+        2..=4 => {
+            let first = random.between(0, settings.rows - 1);
+            let spread = random.choose(&[1, 2, 4, 8]);
+            let few = random.between(1, 5);
+            let row = |_| (first + random.between(0, spread)) % settings.rows;
+            Plan::Few((0..few).map(row).collect())
+        }
+        5 => Plan::Unison(random.between(1, 12) as usize),
+        6 => Plan::Feinting(random.between(0, settings.window - 1)),
+        _ => Plan::Feinting(settings.window - 1),
+    }
+}

@@ -1,0 +1,207 @@
+//! The calls of the library on lent tables: set up, activation, refresh event, agreement.
+//! A refused call leaves the tables, the position and the picks as they came.
+
+use crate::refusal::Refusal;
+use crate::remap::physical_row;
+use crate::settings::Settings;
+use crate::summary::{Entry, Summary};
+use crate::victims::{regular_block, victims};
+
+/// The most that a count or the spillover may be when a call begins.
+pub const MAX_COUNT: u32 = 2_000_000_000;
+
+#[derive(Clone, Copy, Debug, Default, PartialEq, Eq)]
+pub struct Position {
+    /// 'e': refresh events so far in this window.
+    pub events: u32,
+    /// 'a': activations since the last event.
+    pub activations: u32,
+    /// The number of tracked rows.
+    pub tracked: u32,
+    /// 'Spill'.
+    pub spillover: u32,
+}
+
+/// Writes 0 everywhere; what the tables held does not matter.
+pub fn set_up(
+    settings: &Settings,
+    rows: &mut [u32],
+    counts: &mut [u32],
+) -> Result<Position, Refusal> {
+    settings.check()?;
+    check_lengths(settings, rows, counts)?;
+    rows.fill(0);
+    counts.fill(0);
+    Ok(Position::default())
+}
+
+pub fn activate(
+    settings: &Settings,
+    rows: &mut [u32],
+    counts: &mut [u32],
+    position: Position,
+    logical_row: u32,
+) -> Result<Position, Refusal> {
+    settings.check()?;
+    check_lengths(settings, rows, counts)?;
+    if logical_row >= settings.rows {
+        return Err(Refusal::LogicalRow);
+    }
+    check_state(settings, rows, counts, position)?;
+    if position.activations == settings.interval {
+        return Err(Refusal::IntervalFull);
+    }
+
+    let mut summary = read(rows, counts, position);
+    let row = physical_row(logical_row);
+    summary.drop_row(row);
+    disturb_victims(settings, &mut summary, row);
+    let activations = position.activations + 1;
+    Ok(write(&summary, rows, counts, position.events, activations))
+}
+
+/// 'Event': the answer has the number picked, and the picked rows are at the front of `picks`.
+pub fn refresh(
+    settings: &Settings,
+    rows: &mut [u32],
+    counts: &mut [u32],
+    position: Position,
+    picks: &mut [u32],
+) -> Result<(Position, usize), Refusal> {
+    settings.check()?;
+    check_lengths(settings, rows, counts)?;
+    if picks.len() < settings.volume as usize {
+        return Err(Refusal::PicksLength);
+    }
+    check_state(settings, rows, counts, position)?;
+
+    let mut summary = read(rows, counts, position);
+    let picked = summary.pick(settings.volume as usize);
+    let mut refreshed = picked.clone();
+    for row in regular_block(settings, position.events) {
+        if !picked.contains(&row) {
+            refreshed.push(row);
+        }
+    }
+    for row in &refreshed {
+        summary.drop_row(*row);
+    }
+    let mut events = position.events + 1;
+    if events == settings.window {
+        summary.clear();
+        events = 0;
+    }
+    for row in &refreshed {
+        disturb_victims(settings, &mut summary, *row);
+    }
+    picks[..picked.len()].copy_from_slice(&picked);
+    let position = write(&summary, rows, counts, events, 0);
+    Ok((position, picked.len()))
+}
+
+/// Whether both banks have the same rows and every row has the same estimate in both summaries.
+#[allow(clippy::too_many_arguments)]
+pub fn agree(
+    settings1: &Settings,
+    rows1: &[u32],
+    counts1: &[u32],
+    position1: Position,
+    settings2: &Settings,
+    rows2: &[u32],
+    counts2: &[u32],
+    position2: Position,
+) -> Result<bool, Refusal> {
+    settings1.check()?;
+    settings2.check()?;
+    check_lengths(settings1, rows1, counts1)?;
+    check_lengths(settings2, rows2, counts2)?;
+    check_state(settings1, rows1, counts1, position1)?;
+    check_state(settings2, rows2, counts2, position2)?;
+
+    if settings1.rows != settings2.rows {
+        return Ok(false);
+    }
+    let summary1 = read(rows1, counts1, position1);
+    let summary2 = read(rows2, counts2, position2);
+    Ok((0..settings1.rows).all(|row| summary1.estimate(row) == summary2.estimate(row)))
+}
+
+fn disturb_victims(settings: &Settings, summary: &mut Summary, row: u32) {
+    for victim in victims(settings, row) {
+        summary.disturb(victim);
+    }
+}
+
+fn check_lengths(settings: &Settings, rows: &[u32], counts: &[u32]) -> Result<(), Refusal> {
+    let counters = settings.counters as usize;
+    if rows.len() != counters || counts.len() != counters {
+        return Err(Refusal::TableLength);
+    }
+    Ok(())
+}
+
+/// Refuses a state that breaks a rule; the tables have the right length.
+fn check_state(
+    settings: &Settings,
+    rows: &[u32],
+    counts: &[u32],
+    position: Position,
+) -> Result<(), Refusal> {
+    if position.events >= settings.window
+        || position.activations > settings.interval
+        || position.tracked > settings.counters
+        || position.spillover > MAX_COUNT
+    {
+        return Err(Refusal::State);
+    }
+    let (tracked_rows, unused_rows) = rows.split_at(position.tracked as usize);
+    let (tracked_counts, unused_counts) = counts.split_at(position.tracked as usize);
+    let rows_good = tracked_rows.iter().all(|row| *row < settings.rows);
+    let ascending = tracked_rows.windows(2).all(|pair| pair[0] < pair[1]);
+    let counts_good = tracked_counts
+        .iter()
+        .all(|count| *count > 0 && *count >= position.spillover && *count <= MAX_COUNT);
+    let unused_good = unused_rows.iter().chain(unused_counts).all(|n| *n == 0);
+    if rows_good && ascending && counts_good && unused_good {
+        Ok(())
+    } else {
+        Err(Refusal::State)
+    }
+}
+
+/// The summary that accepted tables and their position stand for.
+fn read(rows: &[u32], counts: &[u32], position: Position) -> Summary {
+    let entries = rows.iter().zip(counts).take(position.tracked as usize);
+    Summary {
+        counters: rows.len(),
+        entries: entries
+            .map(|(row, count)| Entry {
+                row: *row,
+                count: *count,
+            })
+            .collect(),
+        spillover: position.spillover,
+    }
+}
+
+/// Lays a summary out in the tables and gives the position that goes with it.
+fn write(
+    summary: &Summary,
+    rows: &mut [u32],
+    counts: &mut [u32],
+    events: u32,
+    activations: u32,
+) -> Position {
+    rows.fill(0);
+    counts.fill(0);
+    for (slot, entry) in summary.entries.iter().enumerate() {
+        rows[slot] = entry.row;
+        counts[slot] = entry.count;
+    }
+    Position {
+        events,
+        activations,
+        tracked: summary.entries.len() as u32,
+        spillover: summary.spillover,
+    }
+}
