@@ -1,0 +1,3 @@
+-- Laws of the operations on one table of numbers.
+pub mod Shifts
+pub mod Searches

@@ -1,0 +1,52 @@
+-- The searches: what one place more says of the place that is looked for.
+use mathlib.Core.Path.{_≡_, refl}
+use mathlib.Core.Bool.{cond}
+use mathlib.Core.List.{List, [], _∷_}
+use Prim.Native.Nat.{ℕ, zero, suc, _+_, _≤_, _<_}
+use native.Mathlib.Numerals.{add-one}
+use native.Mathlib.Omega.{arith}
+use borrow.Author.Tests.{ltb-true, ltb-false, eq-eqb, ne-eqb}
+use lib.Dec.{ltb}
+use lib.ListN.{length, getD, drop}
+use lib.Seq.{drop-cons}
+use Rattle.device.proofs.Cases.{split}
+use Rattle.tables.specs.Places.{lower-place, equal-place, highest-from, highest-place}
+
+pub equal-here : (x : ℕ) (xs : List ℕ) (i : ℕ) → i < length xs → getD xs i 0 ≡ x → equal-place x (drop i xs) ≡ 0
+unfolding equal-place
+equal-here x xs i h e = rw (drop-cons xs i 0 h, eq-eqb (getD xs i 0) x e) refl
+
+pub equal-on : (x : ℕ) (xs : List ℕ) (i : ℕ) → i < length xs → (getD xs i 0 ≡ x → ⊥) → equal-place x (drop i xs) ≡ suc (equal-place x (drop (i + 1) xs))
+unfolding equal-place
+equal-on x xs i h e = rw (drop-cons xs i 0 h, ne-eqb (getD xs i 0) x e, add-one) refl
+
+pub lower-most : (x : ℕ) (xs : List ℕ) → lower-place x xs ≤ length xs
+unfolding lower-place
+lower-most x [] = omega arith
+lower-most x (y ∷ ys) = split (ltb y x) (λ on. rw on (omega (arith, lower-most x ys))) (λ off. rw off (omega arith))
+
+-- what stands before the place is below x
+pub lower-before : (x : ℕ) (xs : List ℕ) (j : ℕ) → j < lower-place x xs → getD xs j 0 < x
+unfolding lower-place
+lower-before x [] j h = absurd (omega arith)
+lower-before x (y ∷ ys) zero h = split (ltb y x) (λ on. ltb-true y x on) (λ off. let none = rw off at h in absurd (omega arith))
+lower-before x (y ∷ ys) (suc j) h =
+    split (ltb y x) (λ on. let more = rw on at h in lower-before x ys j (omega arith)) (λ off. let none = rw off at h in absurd (omega arith))
+
+-- what stands at the place is not below x
+pub lower-at : (x : ℕ) (xs : List ℕ) → lower-place x xs < length xs → x ≤ getD xs (lower-place x xs) 0
+unfolding lower-place
+lower-at x [] h = absurd (omega arith)
+lower-at x (y ∷ ys) h =
+    split (ltb y x) (λ on. let more = rw on at h in rw on (lower-at x ys (omega arith))) (λ off. rw off (ltb-false y x off))
+
+pub highest-start : (xs : List ℕ) → 0 < length xs → highest-from 0 (getD xs 0 0) 1 (drop 1 xs) ≡ highest-place xs
+unfolding highest-place
+highest-start [] h = absurd (omega arith)
+highest-start (y ∷ ys) h = refl
+
+pub highest-on : (xs : List ℕ) (place best i : ℕ) → i < length xs →
+    highest-from place best i (drop i xs) ≡
+    cond (ltb best (getD xs i 0)) (highest-from i (getD xs i 0) (i + 1) (drop (i + 1) xs)) (highest-from place best (i + 1) (drop (i + 1) xs))
+unfolding highest-from
+highest-on xs place best i h = rw (drop-cons xs i 0 h, add-one) refl
