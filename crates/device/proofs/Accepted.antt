@@ -32,7 +32,7 @@ pub record Accepted (s : Settings) : Type 0 where
   pub others : InRange s
   pub counters : Between (s .volume) 2048 (s .counters)
 
-both : (a b : Bool) → (a && b) ≡ true → (a ≡ true) × (b ≡ true)
+pub both : (a b : Bool) → (a && b) ≡ true → (a ≡ true) × (b ≡ true)
 both true b e = (refl, e)
 both false b e = absurd (let z : _≡_ {A = ℕ} 0 1 = cc in omega arith)
 

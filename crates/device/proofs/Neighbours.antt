@@ -4,6 +4,7 @@ use mathlib.Core.Logic.{_⊎_, inl, inr, ⊎-elim}
 use mathlib.Core.List.{List, [], _∷_, _++_, List·Memᴰ, List·Memᴰ·head, List·Memᴰ·tail, List·Memᴰ·append-cases, List·Memᴰ·not-nil, List·Memᴰ·cases-cons, Memᴰ·append-left, Memᴰ·append-right}
 use Prim.Native.Nat.{ℕ, zero, suc, _+_, _-_, _*_, _/_, _≤_, _<_, min}
 use native.Mathlib.Nat.{eq-or-lt-of-le}
+use native.Mathlib.Numerals.{add-one}
 use native.Mathlib.Omega.{arith}
 use lib.ListN.{length, length-append}
 use Rattle.device.proofs.Cases.{le-or-lt}
@@ -106,3 +107,14 @@ module _ (rows diameter row : ℕ) where
   pub victims-few : length (victims rows diameter row) ≤ diameter
   unfolding victims rows-between
   victims-few = simp (length-append, from-length) (omega arith)
+
+-- a run of rows, one row further, and none
+pub between-step : (row high : ℕ) → row < high → rows-between row high ≡ row ∷ rows-between (row + 1) high
+unfolding rows-between rows-from
+between-step row high h =
+    let one : high - row ≡ suc (high - (row + 1)) = omega arith in
+    rw (one, add-one row)
+
+pub between-none : (row high : ℕ) → high ≤ row → rows-between row high ≡ []
+unfolding rows-between rows-from
+between-none row high h = let nothing : high - row ≡ 0 = omega arith in rw nothing

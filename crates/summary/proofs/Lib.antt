@@ -9,3 +9,8 @@ pub mod Sound
 pub mod Event
 pub mod Distinct
 pub mod Laid
+pub mod Places
+pub mod Columns
+pub mod Stored
+pub mod Moves
+pub mod Walks

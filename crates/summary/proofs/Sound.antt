@@ -11,6 +11,7 @@ use lib.ListN.{length}
 use Rattle.device.proofs.Cases.{split}
 use Rattle.summary.specs.Entries.{Entry, has, without, without-all, raised, entered, has-count, without-count}
 use Rattle.summary.specs.Steps.{Summary, empty, disturb, disturb-each, drop-rows}
+use Rattle.summary.specs.Tables.{entered-in}
 use Rattle.summary.specs.Rules.{Floor, floor-none, Ordered, ordered-none, Below, below-none, below-more, Sound}
 use Rattle.summary.proofs.Floor.{floor-lower, floor-without-all, floor-raised, floor-entered, floor-without-count, floor-rises}
 use Rattle.summary.proofs.Order.{ordered-without-all, ordered-raised, ordered-entered, ordered-without-count, untracked-without-count}
@@ -25,7 +26,7 @@ unfolding entered
 length-entered row count [] = refl
 length-entered row count (x ∷ xs) = split (ltb row (x .row)) (λ e. rw e) (λ e. rw e (ap suc (length-entered row count xs)))
 
-length-exchanged : (count : ℕ) (es : List Entry) → has-count count es ≡ true → suc (length (without-count count es)) ≡ length es
+pub length-exchanged : (count : ℕ) (es : List Entry) → has-count count es ≡ true → suc (length (without-count count es)) ≡ length es
 unfolding has-count without-count
 length-exchanged count [] e = absurd (let z : _≡_ {A = ℕ} 0 1 = cc in omega arith)
 length-exchanged count (x ∷ xs) e =
@@ -56,48 +57,58 @@ module _ {high counters : ℕ} where
         fits = omega (arith, length-without-all rows (s .entries));
       }
 
-  pub sound-disturb : (row : ℕ) (s : Summary) → row < high → Sound high counters s → Sound high counters (disturb counters row s)
-  unfolding disturb
-  sound-disturb row s h k =
-      split (has row es)
-      (λ tracked.
-      rw tracked
-      (record {
+  -- a row that is not tracked is entered; a place is free
+  pub sound-entered : (row : ℕ) (s : Summary) → row < high → has row (s .entries) ≡ false → length (s .entries) < counters → Sound high counters s → Sound high counters (entered-in row s)
+  unfolding entered-in
+  sound-entered row s h untracked free k =
+      record {
+        floor = floor-entered row (s .spillover + 1) (k .floor) (omega arith);
+        positive = floor-entered row (s .spillover + 1) (k .positive) (omega arith);
+        ordered = ordered-entered row (s .spillover + 1) (k .ordered) untracked (omega arith) h;
+        fits = omega (arith, length-entered row (s .spillover + 1) (s .entries));
+      }
+
+  -- the first row of a count is dropped
+  pub sound-exchanged : (count : ℕ) (s : Summary) → has-count count (s .entries) ≡ true → Sound high counters s → Sound high counters (record { entries = without-count count (s .entries); spillover = s .spillover })
+  sound-exchanged count s low k =
+      record {
+        floor = floor-without-count count (k .floor);
+        positive = floor-without-count count (k .positive);
+        ordered = ordered-without-count count (k .ordered);
+        fits = omega (arith, length-exchanged count (s .entries) low, k .fits);
+      }
+
+  pub sound-raised : (row : ℕ) (s : Summary) → Sound high counters s → Sound high counters (record { entries = raised row (s .entries); spillover = s .spillover })
+  sound-raised row s k =
+      record {
         floor = floor-raised row (k .floor);
         positive = floor-raised row (k .positive);
         ordered = ordered-raised row (k .ordered);
-        fits = omega (arith, length-raised row es);
-      }))
-      (λ untracked.
-      split (ltb (length es) counters)
-      (λ free.
-      rw (untracked, free)
-      (record {
-        floor = floor-entered row (spill + 1) (k .floor) (omega arith);
-        positive = floor-entered row (spill + 1) (k .positive) (omega arith);
-        ordered = ordered-entered row (spill + 1) (k .ordered) untracked (omega arith) h;
-        fits = omega (arith, length-entered row (spill + 1) es, ltb-true (length es) counters free);
-      }))
-      (λ full.
-      split (has-count spill es)
-      (λ low.
-      rw (untracked, full, low)
-      (record {
-        floor = floor-entered row (spill + 1) (floor-without-count spill (k .floor)) (omega arith);
-        positive = floor-entered row (spill + 1) (floor-without-count spill (k .positive)) (omega arith);
-        ordered =
-            ordered-entered row (spill + 1) (ordered-without-count spill (k .ordered)) (untracked-without-count row spill es untracked) (omega arith) h;
-        fits = omega (arith, length-entered row (spill + 1) (without-count spill es), length-exchanged spill es low);
-      }))
-      (λ up.
-      rw (untracked, full, up)
-      (record { floor = floor-lower (omega arith) (floor-rises (k .floor) up); positive = k .positive; ordered = k .ordered; fits = k .fits }))))
-    where
-      spill : ℕ
-      spill = s .spillover
+        fits = omega (arith, length-raised row (s .entries), k .fits);
+      }
 
-      es : List Entry
-      es = s .entries
+  -- no row is at the spillover, which rises
+  pub sound-spilt : (s : Summary) → has-count (s .spillover) (s .entries) ≡ false → Sound high counters s → Sound high counters (record { entries = s .entries; spillover = s .spillover + 1 })
+  sound-spilt s up k =
+      record { floor = floor-lower (omega arith) (floor-rises (k .floor) up); positive = k .positive; ordered = k .ordered; fits = k .fits }
+
+  pub sound-disturb : (row : ℕ) (s : Summary) → row < high → Sound high counters s → Sound high counters (disturb counters row s)
+  unfolding disturb entered-in
+  sound-disturb row s h k =
+      split (has row (s .entries))
+      (λ tracked. rw tracked (sound-raised row s k))
+      (λ untracked.
+      split (ltb (length (s .entries)) counters)
+      (λ free. rw (untracked, free) (sound-entered row s h untracked (ltb-true (length (s .entries)) counters free) k))
+      (λ full.
+      split (has-count (s .spillover) (s .entries))
+      (λ low.
+      let fewer : Summary = record { entries = without-count (s .spillover) (s .entries); spillover = s .spillover } in
+      rw (untracked, full, low)
+      (sound-entered row fewer h (untracked-without-count row (s .spillover) (s .entries) untracked)
+      (omega (arith, length-exchanged (s .spillover) (s .entries) low, k .fits))
+      (sound-exchanged (s .spillover) s low k)))
+      (λ up. rw (untracked, full, up) (sound-spilt s up k))))
 
   pub sound-each : {rows : List ℕ} → Below high rows → {s : Summary} → Sound high counters s → Sound high counters (disturb-each counters rows s)
   unfolding disturb-each

@@ -1,9 +1,9 @@
 -- Two lent tables, rows and counts, that hold a summary.
-use Prim.Native.Nat.{ℕ, zero, suc, _-_}
+use Prim.Native.Nat.{ℕ, zero, suc, _+_, _-_}
 use mathlib.Core.Path.{_≡_}
 use mathlib.Core.List.{List, [], _∷_, _++_}
-use lib.ListN.{length, replicate}
-use Rattle.summary.specs.Entries.{Entry, rows-of, counts-of}
+use lib.ListN.{length, drop, replicate}
+use Rattle.summary.specs.Entries.{Entry, rows-of, counts-of, entered, picks}
 use Rattle.summary.specs.Steps.{Summary}
 use Rattle.summary.specs.Rules.{Sound}
 
@@ -29,3 +29,21 @@ pub record Holds (places high : ℕ) (sum : Summary) (rows counts : List ℕ) (t
   pub tracked-is : tracked ≡ length (sum .entries)
   pub spilt-is : spillover ≡ sum .spillover
   pub sound : Sound high places sum
+
+-- two tables as the functions on them want them: they hold what is read from them. Rows are 32-bit numbers
+abbrev pub Held : List ℕ → List ℕ → ℕ → ℕ → Type 0
+Held rows counts tracked spillover =
+    Holds (length rows) 4294967296 (read rows counts tracked spillover) rows counts tracked spillover
+
+-- two tables as the functions leave them: as many places as there were, holding a summary
+abbrev pub Left : List ℕ → Summary → List ℕ → List ℕ → ℕ → ℕ → Type 0
+Left rows₀ sum rows counts tracked spillover = Holds (length rows₀) 4294967296 sum rows counts tracked spillover
+
+-- a row entered with one more than the spillover
+unfoldable pub entered-in : ℕ → Summary → Summary
+entered-in row sum = record { entries = entered row (sum .spillover + 1) (sum .entries); spillover = sum .spillover }
+
+-- the picked rows at the front of a list, whose other places keep what they had, and their number
+pub record PickedFrom (volume : ℕ) (sum : Summary) (list₀ list : List ℕ) (count : ℕ) : Type 0 where
+  pub named : list ≡ picks volume (sum .entries) ++ drop (length (picks volume (sum .entries))) list₀
+  pub counted : count ≡ length (picks volume (sum .entries))

@@ -1,4 +1,6 @@
-// The tracker's position and the answers of its calls.
+// The tracker: set up, activation, refresh event, agreement, on tables and a position that the caller lends.
+mod estimates;
+mod state;
 
 // Where a tracker stands: events so far in this window, activations since the last event, tracked rows, spillover.
 pub struct Position {

@@ -1,0 +1,85 @@
+-- `summary::disturb` meets its contract, by its four cases.
+use mathlib.Core.Path.{_≡_}
+use Prim.Native.Nat.{ℕ, _+_, _≤_, _<_}
+use native.Mathlib.Omega.{arith}
+use borrow.Author.Needs.{needs}
+use lib.ListN.{length, getD}
+use Rattle.summary.specs.Tables.{read}
+use Rattle.summary.proofs.Ceiling.{count-most}
+use Rattle.summary.proofs.Stored.{tracked-few, long-counts, used-rising, count-at-place}
+use Rattle.summary.proofs.Moves.{has-found, has-missed, risen, disturb-tracked, disturb-free}
+use Rattle.summary.proofs.disturb.Statement.{statement}
+use Rattle.summary.proofs.disturb.Tie as tie
+
+lookup-requires : tie.Need-lookup-requires
+lookup-requires c κs = (tracked-few (c .before .before .before .pre .0), used-rising (c .before .before .before .pre .0))
+
+slice-read-counts : tie.Need-slice-read-counts
+slice-read-counts c = let h = c .before .before .before .before .before .before .pre .0 in omega (arith, c .before .if1 .taken, tracked-few h, long-counts h)
+
+add-counts : tie.Need-add-counts
+add-counts c =
+    let a = c .before .before .before .before .before .before in
+    let h = a .pre .0 in
+    let p = c .before .before .lookup .result in
+    omega (arith, count-at-place h p (c .before .if1 .taken), count-most (a .pre .1 .counts) p (omega (arith, c .before .if1 .taken, h .tracked-is)))
+
+slice-write-counts : tie.Need-slice-write-counts
+slice-write-counts c = let h = c .before .before .before .before .before .before .pre .0 in omega (arith, c .before .if1 .taken, tracked-few h, long-counts h)
+
+returns : tie.Need-returns
+returns c =
+    let a = c .before .before .before .before .before .before in
+    let h = a .pre .0 in
+    let p = c .before .before .lookup in
+    rw (disturb-tracked (length (a .args .rows .now)) (a .args .row) (read (a .args .rows .now) (a .args .counts .now) (a .args .t .tracked) (a .args .t .spillover)) (has-found h (a .args .row) (p .result) (p .ensures) (c .before .if1 .taken)))
+    (risen h (a .args .row) (p .result) (p .ensures) (c .before .if1 .taken))
+
+enter-requires : tie.Need-enter-requires
+unfolding read
+enter-requires c κs =
+    let a = c .before .before .before .before .before .before .before .before in
+    let p = c .before .before .before .before .lookup in
+    (a .pre .0, ((c .before .before .if2 .taken, a .pre .1 .spilt), has-missed (a .pre .0) (a .args .row) (p .result) (p .ensures) (c .before .before .before .if1 .left)))
+
+disturb-full-requires : tie.Need-disturb-full-requires
+unfolding read
+disturb-full-requires c κs =
+    let a = c .before .before .before .before .before .before .before .before in
+    let p = c .before .before .before .before .lookup in (
+      a .pre .0,
+      (
+        (omega (arith, c .before .before .if2 .left, tracked-few (a .pre .0)), a .pre .1 .spilt),
+        has-missed (a .pre .0) (a .args .row) (p .result) (p .ensures) (c .before .before .before .if1 .left),
+      ),
+    )
+
+returns-2 : tie.Need-returns-2
+returns-2 c =
+    let a = c .before .before .before .before .before .before .before .before .before .before .before .before .before in
+    let h = a .pre .0 in
+    let p = c .before .before .before .before .before .before .before .before .before .lookup in
+    rw (disturb-free (length (a .args .rows .now)) (a .args .row) (read (a .args .rows .now) (a .args .counts .now) (a .args .t .tracked) (a .args .t .spillover)) (has-missed h (a .args .row) (p .result) (p .ensures) (c .before .before .before .before .before .before .before .before .if1 .left)) (omega (arith, h .tracked-is, c .before .before .before .before .before .before .before .if2 .taken)))
+    (c .before .before .before .before .enter .ensures)
+
+pub disturb-spec : {M : Type 1} → statement M
+disturb-spec =
+    tie.close
+    (tie.spec
+    lookup-requires
+    (λ c. search needs)
+    slice-read-counts
+    add-counts
+    (λ c. search needs)
+    slice-write-counts
+    (λ c. search needs)
+    (λ c. search needs)
+    returns
+    enter-requires
+    disturb-full-requires
+    (λ c. search needs)
+    (λ c. search needs)
+    returns-2
+    (λ c. search needs)
+    (λ c. search needs)
+    (λ c. search needs))

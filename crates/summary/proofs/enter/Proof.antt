@@ -1,0 +1,41 @@
+-- `summary::enter` meets its contract: the row goes where it belongs, its count beside it.
+use mathlib.Core.Path.{_≡_}
+use Prim.Native.Nat.{_≤_, _<_}
+use native.Mathlib.Omega.{arith}
+use borrow.Author.Needs.{needs}
+use Rattle.summary.proofs.Stored.{tracked-few, long-counts, used-rising}
+use Rattle.summary.proofs.Moves.{place-few, put}
+use Rattle.summary.proofs.enter.Statement.{statement}
+use Rattle.summary.proofs.enter.Tie as tie
+
+lower-bound-requires : tie.Need-lower-bound-requires
+lower-bound-requires c κs = (tracked-few (c .before .before .before .pre .0), used-rising (c .before .before .before .pre .0))
+
+insert-at-requires : tie.Need-insert-at-requires
+insert-at-requires c κs =
+    let a = c .before .before .before .before .before in
+    (place-few (a .pre .0) (a .args .row) (c .before .lower-bound .result) (c .before .lower-bound .ensures), a .pre .1 .0 .0)
+
+insert-at-requires-2 : tie.Need-insert-at-requires-2
+insert-at-requires-2 c κs =
+    let a = c .before .before .before .before .before .before .before .before .before .before in
+    (place-few (a .pre .0) (a .args .row) (c .before .before .before .before .before .before .lower-bound .result) (c .before .before .before .before .before .before .lower-bound .ensures), omega (arith, a .pre .1 .0 .0, long-counts (a .pre .0)))
+
+returns : tie.Need-returns
+returns c =
+    let a = c .before .before .before .before .before .before .before .before .before .before .before .before .before in
+    rw (c .before .before .insert-at2 .ensures, c .before .before .before .before .before .before .before .insert-at .ensures)
+    (put (a .pre .0) (a .args .row) (c .before .before .before .before .before .before .before .before .before .lower-bound .result) (c .before .before .before .before .before .before .before .before .before .lower-bound .ensures) (a .pre .1 .1) (a .pre .1 .0 .0) (a .fits .row .fits))
+
+pub enter-spec : {M : Type 1} → statement M
+enter-spec =
+    tie.close
+    (tie.spec
+    lower-bound-requires
+    insert-at-requires
+    (λ c. search needs)
+    insert-at-requires-2
+    (λ c. search needs)
+    (λ c. search needs)
+    (λ c. search needs)
+    returns)

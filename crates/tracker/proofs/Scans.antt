@@ -1,0 +1,17 @@
+-- What a scan of a table's front has left to do at a place: this number and those behind it, or nothing.
+use mathlib.Core.Path.{_≡_}
+use mathlib.Core.List.{List, [], _∷_}
+use Prim.Native.Nat.{ℕ, _+_, _≤_, _<_}
+use native.Mathlib.Numerals.{add-one}
+use native.Mathlib.Omega.{arith}
+use lib.ListN.{length, take, drop, getD, drop-of-length-le}
+use lib.Seq.{drop-cons, getD-take, length-take-le}
+
+module _ (t : List ℕ) (used i : ℕ) (fits : used ≤ length t) where
+  pub left-here : i < used → drop i (take used t) ≡ getD t i 0 ∷ drop (i + 1) (take used t)
+  left-here h =
+      let long = length-take-le used t fits in
+      rw (add-one i, drop-cons (take used t) i 0 (omega arith), getD-take used t i 0 h)
+
+  pub left-none : used ≤ i → drop i (take used t) ≡ []
+  left-none h = drop-of-length-le (take used t) {i = i} (omega (arith, length-take-le used t fits))

@@ -1,0 +1,140 @@
+-- From the tests of a valid state to facts: its tables hold the summary that is read from them, and it is the state that holds it.
+use mathlib.Core.Path.{_≡_, refl, ap, _∙_, sym}
+use mathlib.Core.Bool.{true, _&&_}
+use mathlib.Core.List.{List, [], _∷_, _++_}
+use Prim.Native.Nat.{ℕ, zero, suc, _-_, _≤_, _<_}
+use native.Mathlib.Omega.{arith}
+use borrow.Author.Tests.{ltb-true, leb-true, eqb-true}
+use lib.Dec.{leb, ltb, eqb}
+use lib.ListN.{length, take, drop, replicate, take-append-drop, length-drop}
+use lib.Seq.{length-take-le}
+use Rattle.device.specs.declared.Settings.{Settings}
+use Rattle.device.proofs.Accepted.{both}
+use Rattle.summary.specs.Entries.{Entry, rows-of, counts-of}
+use Rattle.summary.specs.Tables.{table, entries-of, read, Holds}
+use Rattle.summary.specs.Rules.{Floor, floor-none, floor-more, Ceiling, bare, under, Ordered, ordered-none, ordered-more, Room}
+use Rattle.summary.proofs.Laid.{length-rows}
+use Rattle.tracker.specs.State.{State, summary-of, state-of, zeros, ascending, counts-allowed, valid}
+use Rattle.tracker.specs.Calls.{tables-long}
+
+-- what is read from the front of two tables
+rows-read : (k : ℕ) (rows counts : List ℕ) → k ≤ length rows → k ≤ length counts → rows-of (entries-of k rows counts) ≡ take k rows
+unfolding rows-of entries-of
+rows-read zero rows counts h h′ = refl
+rows-read (suc k) [] counts h h′ = absurd (omega arith)
+rows-read (suc k) (row ∷ rows) [] h h′ = absurd (omega arith)
+rows-read (suc k) (row ∷ rows) (count ∷ counts) h h′ = rw (rows-read k rows counts (omega arith) (omega arith))
+
+counts-read : (k : ℕ) (rows counts : List ℕ) → k ≤ length rows → k ≤ length counts → counts-of (entries-of k rows counts) ≡ take k counts
+unfolding counts-of entries-of
+counts-read zero rows counts h h′ = refl
+counts-read (suc k) [] counts h h′ = absurd (omega arith)
+counts-read (suc k) (row ∷ rows) [] h h′ = absurd (omega arith)
+counts-read (suc k) (row ∷ rows) (count ∷ counts) h h′ = rw (counts-read k rows counts (omega arith) (omega arith))
+
+length-read : (k : ℕ) (rows counts : List ℕ) → k ≤ length rows → k ≤ length counts → length (entries-of k rows counts) ≡ k
+length-read k rows counts h h′ =
+    sym (length-rows (entries-of k rows counts)) ∙ ap length (rows-read k rows counts h h′) ∙ length-take-le k rows h
+
+all-zeros : (t : List ℕ) → zeros t ≡ true → t ≡ replicate (length t) 0
+unfolding zeros
+all-zeros [] e = refl
+all-zeros (x ∷ xs) e =
+    let parts = both (eqb x 0) (zeros xs) e in
+    cc (eqb-true x 0 (parts .0), all-zeros xs (parts .1))
+
+-- a table with only zeros behind its front
+laid : (places k : ℕ) (t : List ℕ) → length t ≡ places → k ≤ places → zeros (drop k t) ≡ true → t ≡ table places (take k t)
+unfolding table
+laid places k t long h e =
+    let fits : k ≤ length t = omega arith in
+    let left : length (drop k t) ≡ places - length (take k t) = omega (arith, length-drop k t, length-take-le k t fits) in
+    sym (take-append-drop k t) ∙ ap (λ (behind : List ℕ). take k t ++ behind) (all-zeros (drop k t) e ∙ ap (λ (n : ℕ). replicate n 0) left)
+
+-- the rules of the entries that are read
+ordered-read : (high low k : ℕ) (rows counts : List ℕ) → ascending low high (take k rows) ≡ true → Ordered high low (entries-of k rows counts)
+unfolding ascending entries-of
+ordered-read high low zero rows counts e = ordered-none
+ordered-read high low (suc k) [] counts e = ordered-none
+ordered-read high low (suc k) (row ∷ rows) [] e = ordered-none
+ordered-read high low (suc k) (row ∷ rows) (count ∷ counts) e =
+    let parts = both (leb low row && ltb row high) (ascending (suc row) high (take k rows)) e in
+    let this = both (leb low row) (ltb row high) (parts .0) in
+    ordered-more low (record { row = row; count = count }) (ordered-read high (suc row) k rows counts (parts .1))
+    (leb-true low row (this .0)) (ltb-true row high (this .1))
+
+record Allowed (spillover : ℕ) (es : List Entry) : Type 0 where
+  floor : Floor spillover es
+  positive : Floor 1 es
+  ceiling : Ceiling 2000000000 es
+
+allowed-read : (spillover k : ℕ) (rows counts : List ℕ) → counts-allowed spillover (take k counts) ≡ true → Allowed spillover (entries-of k rows counts)
+unfolding counts-allowed entries-of
+allowed-read spillover zero rows counts e = record { floor = floor-none; positive = floor-none; ceiling = bare }
+allowed-read spillover (suc k) [] counts e = record { floor = floor-none; positive = floor-none; ceiling = bare }
+allowed-read spillover (suc k) (row ∷ rows) [] e = record { floor = floor-none; positive = floor-none; ceiling = bare }
+allowed-read spillover (suc k) (row ∷ rows) (count ∷ counts) e =
+    let x : Entry = record { row = row; count = count } in
+    let p3 = both (leb 1 count && leb spillover count && leb count 2000000000) (counts-allowed spillover (take k counts)) e in
+    let p2 = both (leb 1 count && leb spillover count) (leb count 2000000000) (p3 .0) in
+    let p1 = both (leb 1 count) (leb spillover count) (p2 .0) in
+    let rest = allowed-read spillover k rows counts (p3 .1) in
+    record {
+      floor = floor-more x (rest .floor) (leb-true spillover count (p1 .1));
+      positive = floor-more x (rest .positive) (leb-true 1 count (p1 .0));
+      ceiling = under x (rest .ceiling) (leb-true count 2000000000 (p2 .1));
+    }
+
+-- what the tests of a valid state say
+pub record Facts (s : Settings) (st : State) : Type 0 where
+  pub early : st .position .events < s .window
+  pub within : st .position .activations ≤ s .interval
+  pub holds : Holds (s .counters) (s .rows) (summary-of st) (st .rows) (st .counts) (st .position .tracked) (st .position .spillover)
+  pub room : Room 2000000000 (summary-of st)
+
+pub valid-facts : (s : Settings) (st : State) → tables-long s (st .rows) (st .counts) ≡ true → valid s st ≡ true → Facts s st
+unfolding tables-long valid summary-of read
+valid-facts s st long e =
+    let lengths = both (eqb (length (st .rows)) (s .counters)) (eqb (length (st .counts)) (s .counters)) long in
+    let rows-long = eqb-true (length (st .rows)) (s .counters) (lengths .0) in
+    let counts-long = eqb-true (length (st .counts)) (s .counters) (lengths .1) in
+    let k = st .position .tracked in
+    let p7 = both _ (leb (st .position .spillover) 2000000000) e in
+    let p6 = both _ (counts-allowed (st .position .spillover) (take k (st .counts))) (p7 .0) in
+    let p5 = both _ (zeros (drop k (st .counts))) (p6 .0) in
+    let p4 = both _ (zeros (drop k (st .rows))) (p5 .0) in
+    let p3 = both _ (ascending 0 (s .rows) (take k (st .rows))) (p4 .0) in
+    let p2 = both _ (leb k (s .counters)) (p3 .0) in
+    let p1 = both (ltb (st .position .events) (s .window)) (leb (st .position .activations) (s .interval)) (p2 .0) in
+    let fits = leb-true k (s .counters) (p2 .1) in
+    let in-rows : k ≤ length (st .rows) = omega arith in
+    let in-counts : k ≤ length (st .counts) = omega arith in
+    let read-length = length-read k (st .rows) (st .counts) in-rows in-counts in
+    let allowed = allowed-read (st .position .spillover) k (st .rows) (st .counts) (p6 .1) in
+    record {
+      early = ltb-true (st .position .events) (s .window) (p1 .0);
+      within = leb-true (st .position .activations) (s .interval) (p1 .1);
+      holds = record {
+        rows-laid = rw (rows-read k (st .rows) (st .counts) in-rows in-counts) (laid (s .counters) k (st .rows) rows-long fits (p4 .1));
+        counts-laid = rw (counts-read k (st .rows) (st .counts) in-rows in-counts) (laid (s .counters) k (st .counts) counts-long fits (p5 .1));
+        tracked-is = sym read-length;
+        spilt-is = refl;
+        sound = record {
+          floor = allowed .floor;
+          positive = allowed .positive;
+          ordered = ordered-read (s .rows) 0 k (st .rows) (st .counts) (p3 .1);
+          fits = omega arith;
+        };
+      };
+      room = record { counts = allowed .ceiling; spilt = leb-true (st .position .spillover) 2000000000 (p7 .1) };
+    }
+
+same-state : {rows rows′ counts counts′ : List ℕ} (e a : ℕ) {k k′ : ℕ} (spill : ℕ) → rows ≡ rows′ → counts ≡ counts′ → k ≡ k′ → _≡_ {A = State} (record { rows = rows; counts = counts; position = record { events = e; activations = a; tracked = k; spillover = spill } }) (record { rows = rows′; counts = counts′; position = record { events = e; activations = a; tracked = k′; spillover = spill } })
+same-state e a spill r c t = cc
+
+-- a valid state is the one that holds its summary
+pub valid-stored : (s : Settings) (st : State) → tables-long s (st .rows) (st .counts) ≡ true → valid s st ≡ true → st ≡ state-of s (st .position .events) (st .position .activations) (summary-of st)
+unfolding state-of summary-of read
+valid-stored s st long e =
+    let h = valid-facts s st long e .holds in
+    same-state (st .position .events) (st .position .activations) (st .position .spillover) (h .rows-laid) (h .counts-laid) (h .tracked-is)

@@ -1,0 +1,107 @@
+// The rules of a valid state, tested on the lent tables.
+use crate::Position;
+use device::Settings;
+ghost use mathlib.Core.Path.{_≡_};
+ghost use mathlib.Core.Bool.{_&&_};
+ghost use Prim.Native.Nat.{_≤_};
+ghost use lib.Dec.{leb, ltb};
+ghost use lib.ListN.{length, take, drop};
+ghost use Rattle.tracker.specs.State.{zeros, ascending, counts-allowed, valid};
+
+// Whether only zeros stand from a place on.
+fn zeros_behind(t: &[u32], from: usize) -> bool
+    ensures { λ r. ⌜ r ≡ zeros (drop from (now (t .entry))) ⌝ }
+{
+    let mut i = from;
+    while i < t.len() {
+        if t[i] != 0 {
+            return false;
+        }
+        i += 1;
+    }
+    true
+}
+
+// Whether the rows at the front, so many, ascend strictly and stay below the bank's end.
+fn ascending_rows(t: &[u32], used: usize, high: u32) -> bool
+    requires { ⌜ used ≤ length (now t) ⌝ }
+    ensures { λ r. ⌜ r ≡ ascending 0 high (take used (now (t .entry))) ⌝ }
+{
+    let mut low: u32 = 0;
+    let mut i = 0;
+    while i < used {
+        let row = t[i];
+        if row < low {
+            return false;
+        }
+        if high <= row {
+            return false;
+        }
+        low = row + 1;
+        i += 1;
+    }
+    true
+}
+
+// Whether a tracked count may stand: not 0, not below the spillover, not above 2,000,000,000.
+fn count_in_range(count: u32, spillover: u32) -> bool
+    ensures { λ r. ⌜ r ≡ (leb 1 count && leb spillover count && leb count 2000000000) ⌝ }
+{
+    1 <= count && spillover <= count && count <= 2000000000
+}
+
+// Whether the counts at the front, so many, are all in range.
+fn counts_in_range(t: &[u32], used: usize, spillover: u32) -> bool
+    requires { ⌜ used ≤ length (now t) ⌝ }
+    ensures { λ r. ⌜ r ≡ counts-allowed spillover (take used (now (t .entry))) ⌝ }
+{
+    let mut i = 0;
+    while i < used {
+        if !count_in_range(t[i], spillover) {
+            return false;
+        }
+        i += 1;
+    }
+    true
+}
+
+// Whether the rows' table may stand: so many rows at the front in order, zeros behind.
+fn rows_laid(t: &[u32], used: usize, high: u32) -> bool
+    requires { ⌜ used ≤ length (now t) ⌝ }
+    ensures { λ r. ⌜ r ≡ (ascending 0 high (take used (now (t .entry))) && zeros (drop used (now (t .entry)))) ⌝ }
+{
+    ascending_rows(t, used, high) && zeros_behind(t, used)
+}
+
+// Whether the counts' table may stand: so many counts at the front in range, zeros behind.
+fn counts_laid(t: &[u32], used: usize, spillover: u32) -> bool
+    requires { ⌜ used ≤ length (now t) ⌝ }
+    ensures { λ r. ⌜ r ≡ (zeros (drop used (now (t .entry))) && counts-allowed spillover (take used (now (t .entry)))) ⌝ }
+{
+    zeros_behind(t, used) && counts_in_range(t, used, spillover)
+}
+
+// Whether each number of the position is in its range.
+fn position_in_range(s: Settings, p: Position) -> bool
+    ensures { λ r. ⌜ r ≡ (ltb (p .events) (s .window) && leb (p .activations) (s .interval) && leb (p .tracked) (s .counters) && leb (p .spillover) 2000000000) ⌝ }
+{
+    if s.window <= p.events {
+        return false;
+    }
+    if s.interval < p.activations {
+        return false;
+    }
+    p.tracked <= s.counters && p.spillover <= 2000000000
+}
+
+// Whether a state of tables of the right length breaks no rule.
+pub fn valid_state(s: Settings, rows: &[u32], counts: &[u32], p: Position) -> bool
+    requires { ⌜ (length (now rows) ≡ s .counters) × (length (now counts) ≡ s .counters) ⌝ }
+    ensures { λ r. ⌜ r ≡ valid s (record { rows = now (rows .entry); counts = now (counts .entry); position = p }) ⌝ }
+{
+    if !position_in_range(s, p) {
+        return false;
+    }
+    let k = p.tracked as usize;
+    rows_laid(rows, k, s.rows) && counts_laid(counts, k, p.spillover)
+}
