@@ -4,8 +4,8 @@ use mathlib.Core.List.{List, [], _∷_, _++_}
 use Prim.Native.Nat.{ℕ, zero, suc, _+_, _-_, _≤_, _<_, min}
 use native.Mathlib.Numerals.{add-one}
 use native.Mathlib.Omega.{arith}
-use lib.ListN.{length, getD, take, drop, set, replicate, length-append, length-take, length-drop, length-set, List·getD-append}
-use lib.Seq.{take-at, drop-at, take-append-le, drop-append-le, drop-append-add, set-append-left}
+use lib.ListN.{length, getD, take, drop, set, replicate, length-append, length-take, length-drop, length-set, List·getD-append, drop-of-length-le}
+use lib.Seq.{take-at, drop-at, take-append-le, drop-append-le, drop-append-add, set-append-left, drop-cons, getD-take, length-take-le}
 use Rattle.tables.specs.Places.{put-in, taken-at}
 use Rattle.summary.specs.Tables.{table}
 use Rattle.summary.proofs.Places.{out, inside}
@@ -47,3 +47,11 @@ taken-at-table places xs at h room =
     let rest : take (length xs - suc at) (drop (suc at) xs ++ zeros) ≡ drop (suc at) xs = take-at (drop (suc at) xs) zeros (length xs - suc at) (length-drop (suc at) xs) in
     let more : suc (places - length xs) ≡ places - length (out at xs) = omega (arith, length-out at xs h) in
     rw (add-one at, take-append-le at xs zeros (omega arith), drop-append-le (suc at) xs zeros h, rest, drop-at xs zeros (length xs) refl, ← more)
+
+-- the used part of a list, from a place on
+pub used-step : (list : List ℕ) (used i : ℕ) → used ≤ length list → i < used → drop i (take used list) ≡ getD list i 0 ∷ drop (suc i) (take used list)
+used-step list used i fits h =
+    rw (← getD-take used list i 0 h) (drop-cons (take used list) i 0 (omega (arith, length-take-le used list fits)))
+
+pub used-none : (list : List ℕ) (used i : ℕ) → used ≤ length list → used ≤ i → drop i (take used list) ≡ []
+used-none list used i fits h = drop-of-length-le (take used list) {i = i} (omega (arith, length-take-le used list fits))

@@ -30,7 +30,7 @@ pub level-empty : {size : ℕ} (most : ℕ) → Level size most empty
 unfolding empty excess
 level-empty most = record { level = 0; above = omega arith; small = omega arith }
 
-without-append : (xs ys : List ℕ) (es : List Entry) → without-all (xs ++ ys) es ≡ without-all ys (without-all xs es)
+pub without-append : (xs ys : List ℕ) (es : List Entry) → without-all (xs ++ ys) es ≡ without-all ys (without-all xs es)
 unfolding without-all
 without-append [] ys es = refl
 without-append (x ∷ xs) ys es = without-append xs ys (without x es)

@@ -6,3 +6,4 @@ pub mod Valid
 pub mod Rows
 pub mod Steps
 pub mod Both
+pub mod Spread

@@ -1,6 +1,8 @@
 // The tracker: set up, activation, refresh event, agreement, on tables and a position that the caller lends.
 mod estimates;
+mod event;
 mod state;
+mod victims;
 
 // Where a tracker stands: events so far in this window, activations since the last event, tracked rows, spillover.
 pub struct Position {

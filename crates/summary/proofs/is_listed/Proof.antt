@@ -6,8 +6,8 @@ use Prim.Native.Nat.{ℕ, suc, _+_, _-_, _≤_, _<_}
 use native.Mathlib.Numerals.{add-one}
 use native.Mathlib.Omega.{arith}
 use borrow.Author.Tests.{eq-eqb, ne-eqb}
-use lib.ListN.{length, getD, take, drop, drop-of-length-le}
-use lib.Seq.{drop-cons, getD-take, length-take-le}
+use lib.ListN.{length, getD, take, drop}
+use Rattle.summary.proofs.Columns.{used-step, used-none}
 use Rattle.summary.specs.Steps.{in-rows}
 use Rattle.summary.proofs.is_listed.Statement.{statement}
 use Rattle.summary.proofs.is_listed.Tie as tie
@@ -21,24 +21,19 @@ Inv-loop list used row i₀ i = Left list used row i
 abbrev μ-loop : tie.MeasureT-loop
 μ-loop list used row i₀ i = used - i
 
-step : (list : List ℕ) (used i : ℕ) → used ≤ length list → i < used → drop i (take used list) ≡ getD list i 0 ∷ drop (suc i) (take used list)
-step list used i fits h =
-    rw (← getD-take used list i 0 h) (drop-cons (take used list) i 0 (omega (arith, length-take-le used list fits)))
-
 found : {list : List ℕ} {used row i : ℕ} → Left list used row i → used ≤ length list → i < used → getD list i 0 ≡ row → true ≡ in-rows row (take used list)
 unfolding in-rows
-found {list} {used} {row} {i} l fits h e = sym (rw (step list used i fits h, eq-eqb (getD list i 0) row e)) ∙ l .same
+found {list} {used} {row} {i} l fits h e = sym (rw (used-step list used i fits h, eq-eqb (getD list i 0) row e)) ∙ l .same
 
 again : {list : List ℕ} {used row i : ℕ} → Left list used row i → used ≤ length list → i < used → (getD list i 0 ≡ row → ⊥) → Left list used row (i + 1)
 unfolding in-rows
 again {list} {used} {row} {i} l fits h other =
-    record { same = rw (add-one i) (rw (step list used i fits h, ne-eqb (getD list i 0) row other) at (l .same)) }
+    record { same = rw (add-one i) (rw (used-step list used i fits h, ne-eqb (getD list i 0) row other) at (l .same)) }
 
 done : {list : List ℕ} {used row i : ℕ} → Left list used row i → used ≤ length list → used ≤ i → false ≡ in-rows row (take used list)
 unfolding in-rows
 done {list} {used} {row} {i} l fits h =
-    let gone : drop i (take used list) ≡ [] = drop-of-length-le (take used list) {i = i} (omega (arith, length-take-le used list fits)) in
-    rw gone at (l .same)
+    rw (used-none list used i fits h) at (l .same)
 
 loop-holds : tie.Need-loop-holds Inv-loop μ-loop
 loop-holds c = record { same = refl }

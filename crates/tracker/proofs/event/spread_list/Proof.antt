@@ -1,0 +1,97 @@
+-- `tracker::event::spread_list` meets its contract. The invariant: the rows left, on the summary as it is now.
+use mathlib.Core.Path.{_≡_, refl, sym, _∙_}
+use Prim.Native.Nat.{_+_, _-_, _*_, _≤_, _<_}
+use native.Mathlib.Numerals.{add-one}
+use native.Mathlib.Omega.{arith}
+use lib.ListN.{length, getD, take, drop}
+use lib.Seq.{getD-take, length-take-le}
+use Rattle.summary.specs.Tables.{read}
+use Rattle.summary.proofs.Columns.{used-step, used-none}
+use Rattle.summary.proofs.Ceiling.{room-more}
+use Rattle.summary.proofs.Stored.{long-rows, long-counts}
+use Rattle.tracker.specs.Calls.{victims-in}
+use Rattle.tracker.proofs.Spread.{Spreading, spreading-ready, spreading-again, spreading-done, spreading-more, victims-four, below-at}
+use Rattle.tracker.proofs.event.spread_list.Statement.{statement}
+use Rattle.tracker.proofs.event.spread_list.Tie as tie
+
+abbrev Inv-loop : tie.InvT-loop
+Inv-loop s rows₀ counts₀ list used t₀ i₀ rows counts t i =
+    Spreading (length rows₀) (victims-in s) (take used list) (drop i (take used list)) (read rows₀ counts₀ (t₀ .tracked) (t₀ .spillover)) rows counts (t .tracked) (t .spillover) (2000000000 + 4 * i) ×
+    (i ≤ used)
+
+abbrev μ-loop : tie.MeasureT-loop
+μ-loop s rows₀ counts₀ list used t₀ i₀ rows counts t i = used - i
+
+loop-holds : tie.Need-loop-holds Inv-loop μ-loop
+loop-holds c =
+    let a = c .before .before .before in
+    (record {
+        sum = read (a .args .rows .now) (a .args .counts .now) (a .args .t .tracked) (a .args .t .spillover);
+        holds = a .pre .0;
+        same = refl;
+        room = room-more (a .pre .1 .1) (omega arith)
+      },
+      omega arith)
+
+mul-disturb-victims : tie.Need-mul-disturb-victims Inv-loop μ-loop
+mul-disturb-victims c = omega (arith, c .before .before .loop-test .taken, c .before .before .before .before .before .before .before .pre .1 .0 .1)
+
+shared-slice-read-disturb-victims : tie.Need-shared-slice-read-disturb-victims Inv-loop μ-loop
+shared-slice-read-disturb-victims c = omega (arith, c .before .before .before .loop-test .taken, c .before .before .before .before .before .before .before .before .pre .1 .0 .2)
+
+disturb-victims-requires : tie.Need-disturb-victims-requires Inv-loop μ-loop
+disturb-victims-requires c κs =
+    let a = c .before .before .before .before .before .before .before .before in
+    let p = a .pre .1 .0 in
+    let i = c .before .before .before .before .loop .i in
+    let less = c .before .before .before .loop-test .taken in
+    let ready = spreading-ready (c .before .before .before .before .loop .inv .0) (omega (arith, less, p .1)) in
+    (ready .0,
+      ((p .0,
+          rw (getD-take (a .args .used) (a .args .list .now) i 0 less) at
+          (below-at (p .3) i (omega (arith, less, length-take-le (a .args .used) (a .args .list .now) (p .2))))),
+        ready .1))
+
+add-i : tie.Need-add-i Inv-loop μ-loop
+add-i c = omega (arith, c .before .before .before .before .before .before .before .before .loop-test .taken, c .before .before .before .before .before .before .before .before .before .before .before .before .before .pre .1 .0 .1)
+
+loop-less : tie.Need-loop-less Inv-loop μ-loop
+loop-less c = omega (arith, c .before .before .before .before .before .before .before .before .loop-test .taken)
+
+loop-again : tie.Need-loop-again Inv-loop μ-loop
+loop-again c =
+    let a = c .before .before .before .before .before .before .before .before .before .before .before .before .before in
+    let p = a .pre .1 .0 in
+    let i = c .before .before .before .before .before .before .before .before .before .loop .i in
+    let less = c .before .before .before .before .before .before .before .before .loop-test .taken in
+    let l = rw (used-step (a .args .list .now) (a .args .used) i (p .2) less) at (c .before .before .before .before .before .before .before .before .before .loop .inv .0) in
+    (rw (add-one i) (spreading-more (spreading-again (getD (a .args .list .now) i 0) l (victims-four (a .args .s) (getD (a .args .list .now) i 0) (p .0)) (c .before .before .before .before .disturb-victims .ensures)) (omega arith)),
+      omega (arith, less))
+
+same-length : tie.Need-same-length Inv-loop μ-loop
+same-length c = long-rows (c .before .loop .inv .0 .holds)
+
+same-length-2 : tie.Need-same-length-2 Inv-loop μ-loop
+same-length-2 c = long-counts (c .before .loop .inv .0 .holds) ∙ sym (long-counts (c .before .before .before .before .before .pre .0))
+
+returns : tie.Need-returns Inv-loop μ-loop
+returns c =
+    let a = c .before .before .before .before .before in
+    spreading-done (c .before .loop .inv .0) (used-none (a .args .list .now) (a .args .used) (c .before .loop .i) (a .pre .1 .0 .2) (c .loop-test .left))
+
+pub spread-list-spec : {M : Type 1} → statement M
+spread-list-spec =
+    tie.close
+    (tie.spec
+    Inv-loop
+    μ-loop
+    loop-holds
+    mul-disturb-victims
+    shared-slice-read-disturb-victims
+    disturb-victims-requires
+    add-i
+    loop-less
+    loop-again
+    same-length
+    same-length-2
+    returns)

@@ -1,0 +1,31 @@
+-- `tracker::victims::activate_row` meets its contract.
+use mathlib.Core.Path.{_≡_}
+use mathlib.Core.List.{[], _∷_}
+use borrow.Author.Needs.{needs}
+use Rattle.summary.specs.Steps.{activation}
+use Rattle.summary.proofs.Laid.{held-read}
+use Rattle.summary.proofs.Ceiling.{room-drop}
+use Rattle.summary.proofs.Stored.{long-rows}
+use Rattle.summary.proofs.Moves.{held-again}
+use Rattle.tracker.proofs.victims.activate_row.Statement.{statement}
+use Rattle.tracker.proofs.victims.activate_row.Tie as tie
+
+drop-row-requires : tie.Need-drop-row-requires
+drop-row-requires c κs = c .before .before .before .before .pre .0
+
+disturb-victims-requires : tie.Need-disturb-victims-requires
+disturb-victims-requires c κs =
+    let a = c .before .before .before .before .before .before .before .before .before .before .before in
+    let x = c .before .before .before .before .before .before .drop-row .ensures in
+    (held-again x, (a .pre .1 .0, rw (held-read x) (room-drop (a .args .row ∷ []) (a .pre .1 .1))))
+
+returns : tie.Need-returns
+unfolding activation
+returns c =
+    let x = c .before .before .before .before .before .before .before .before .before .before .before .drop-row .ensures in
+    rw (held-read x, long-rows x) at (c .before .before .before .before .disturb-victims .ensures)
+
+pub activate-row-spec : {M : Type 1} → statement M
+activate-row-spec =
+    tie.close
+    (tie.spec drop-row-requires disturb-victims-requires (λ c. search needs) (λ c. search needs) returns)

@@ -1,0 +1,93 @@
+// A refresh event on the tables: the picked and block rows are taken out, the window's end clears, then the refreshed rows disturb their victims.
+use crate::victims;
+use device::Settings;
+use summary::{Picked, Tally};
+
+ghost use mathlib.Core.Path.{_≡_};
+ghost use mathlib.Core.List.{_∷_, []};
+ghost use Prim.Native.Nat.{_-_, _≤_, _<_};
+ghost use lib.ListN.{length, take};
+ghost use Rattle.device.specs.Victims.{rows-between};
+ghost use Rattle.summary.specs.Steps.{spread, besides, taken-out, cleared-if, event};
+ghost use Rattle.summary.specs.Rules.{Room, Below, Ordered};
+ghost use Rattle.summary.specs.Tables.{read, Held, Left, PickedFrom};
+ghost use Rattle.tracker.specs.Calls.{victims-in, block-rows, ends-window};
+
+// The picked rows are named at the list's front and dropped, and so are the block's.
+fn take_out(s: Settings, rows: &mut [u32], counts: &mut [u32], t: Tally, low: u32, high: u32, list: &mut [u32]) -> Picked
+    requires { ⌜ Held (now rows) (now counts) (t .tracked) (t .spillover) ⌝ }
+    requires { ⌜ s .volume ≤ length (now list) ⌝ }
+    ensures { λ r. ⌜ PickedFrom (s .volume) (read (now (rows .entry)) (now (counts .entry)) (t .tracked) (t .spillover)) (now (list .entry)) (now (list .exit)) (r .count) ⌝ }
+    ensures { λ r. ⌜ Left (now (rows .entry)) (taken-out (s .volume) (rows-between low high) (read (now (rows .entry)) (now (counts .entry)) (t .tracked) (t .spillover))) (now (rows .exit)) (now (counts .exit)) (r .tally .tracked) (r .tally .spillover) ⌝ }
+{
+    let picked = summary::pick(rows, counts, t, s.volume as usize, list);
+    let kept = picked.tally;
+    let rest = summary::drop_run(rows, counts, kept, low, high);
+    Picked {
+        count: picked.count,
+        tally: rest,
+    }
+}
+
+// Both tables are cleared where the window ends.
+fn clear_if(last: bool, rows: &mut [u32], counts: &mut [u32], t: Tally) -> Tally
+    requires { ⌜ Held (now rows) (now counts) (t .tracked) (t .spillover) ⌝ }
+    ensures { λ r. ⌜ Left (now (rows .entry)) (cleared-if last (read (now (rows .entry)) (now (counts .entry)) (t .tracked) (t .spillover))) (now (rows .exit)) (now (counts .exit)) (r .tracked) (r .spillover) ⌝ }
+{
+    if last {
+        tables::clear(rows);
+        tables::clear(counts);
+        Tally {
+            tracked: 0,
+            spillover: 0,
+        }
+    } else {
+        t
+    }
+}
+
+// The first rows of a list disturb their victims, in the list's order.
+fn spread_list(s: Settings, rows: &mut [u32], counts: &mut [u32], t: Tally, list: &[u32], used: usize) -> Tally
+    requires { ⌜ Held (now rows) (now counts) (t .tracked) (t .spillover) ⌝ }
+    requires { ⌜ (s .«blast_diameter» ≤ 4) × (used ≤ 16) × (used ≤ length (now list)) × Below 65536 (take used (now list)) ⌝ }
+    requires { ⌜ Room 2000000000 (read (now rows) (now counts) (t .tracked) (t .spillover)) ⌝ }
+    ensures { λ r. ⌜ Left (now (rows .entry)) (spread (length (now (rows .entry))) (victims-in s) (take used (now (list .entry))) (read (now (rows .entry)) (now (counts .entry)) (t .tracked) (t .spillover))) (now (rows .exit)) (now (counts .exit)) (r .tracked) (r .spillover) ⌝ }
+{
+    let mut left = t;
+    let mut i: usize = 0;
+    while i < used {
+        left = victims::disturb_victims(s, rows, counts, left, list[i]);
+        i += 1;
+    }
+    left
+}
+
+// A row disturbs its victims unless it is among the first of a list.
+fn spread_unlisted(s: Settings, rows: &mut [u32], counts: &mut [u32], t: Tally, list: &[u32], used: usize, row: u32) -> Tally
+    requires { ⌜ Held (now rows) (now counts) (t .tracked) (t .spillover) ⌝ }
+    requires { ⌜ (s .«blast_diameter» ≤ 4) × (row < 65536) × (used ≤ length (now list)) ⌝ }
+    requires { ⌜ Room 3999999000 (read (now rows) (now counts) (t .tracked) (t .spillover)) ⌝ }
+    ensures { λ r. ⌜ Left (now (rows .entry)) (spread (length (now (rows .entry))) (victims-in s) (besides (take used (now (list .entry))) (row ∷ [])) (read (now (rows .entry)) (now (counts .entry)) (t .tracked) (t .spillover))) (now (rows .exit)) (now (counts .exit)) (r .tracked) (r .spillover) ⌝ }
+{
+    if summary::is_listed(list, used, row) {
+        t
+    } else {
+        victims::disturb_victims(s, rows, counts, t, row)
+    }
+}
+
+// The rows of a run that are not among the first of a list disturb their victims, ascending.
+fn spread_run(s: Settings, rows: &mut [u32], counts: &mut [u32], t: Tally, list: &[u32], used: usize, low: u32, high: u32) -> Tally
+    requires { ⌜ Held (now rows) (now counts) (t .tracked) (t .spillover) ⌝ }
+    requires { ⌜ (s .«blast_diameter» ≤ 4) × (used ≤ length (now list)) × (high ≤ 65536) × (high - low ≤ 64) ⌝ }
+    requires { ⌜ Room 2000000100 (read (now rows) (now counts) (t .tracked) (t .spillover)) ⌝ }
+    ensures { λ r. ⌜ Left (now (rows .entry)) (spread (length (now (rows .entry))) (victims-in s) (besides (take used (now (list .entry))) (rows-between low high)) (read (now (rows .entry)) (now (counts .entry)) (t .tracked) (t .spillover))) (now (rows .exit)) (now (counts .exit)) (r .tracked) (r .spillover) ⌝ }
+{
+    let mut left = t;
+    let mut row = low;
+    while row < high {
+        left = spread_unlisted(s, rows, counts, left, list, used, row);
+        row += 1;
+    }
+    left
+}

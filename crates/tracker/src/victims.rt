@@ -1,0 +1,50 @@
+// A row disturbs its victims, and an activation.
+use device::Settings;
+use summary::Tally;
+
+ghost use mathlib.Core.Path.{_≡_};
+ghost use Prim.Native.Nat.{_-_, _≤_, _<_, min};
+ghost use lib.ListN.{length};
+ghost use Rattle.summary.specs.Steps.{disturb-each, activation};
+ghost use Rattle.summary.specs.Rules.{Room};
+ghost use Rattle.summary.specs.Tables.{read, Held, Left};
+ghost use Rattle.tracker.specs.Calls.{victims-in};
+
+// a - b, not below 0.
+fn less_by(a: u32, b: u32) -> u32
+    ensures { λ r. ⌜ r ≡ a - b ⌝ }
+{
+    if b <= a { a - b } else { 0 }
+}
+
+// The smaller of two numbers.
+pub fn smaller(a: u32, b: u32) -> u32
+    ensures { λ r. ⌜ r ≡ min a b ⌝ }
+{
+    if a <= b { a } else { b }
+}
+
+// A row disturbs its victims, ascending.
+pub fn disturb_victims(s: Settings, rows: &mut [u32], counts: &mut [u32], t: Tally, row: u32) -> Tally
+    requires { ⌜ Held (now rows) (now counts) (t .tracked) (t .spillover) ⌝ }
+    requires { ⌜ (s .«blast_diameter» ≤ 4) × (row < 65536) ⌝ }
+    requires { ⌜ Room 3999999000 (read (now rows) (now counts) (t .tracked) (t .spillover)) ⌝ }
+    ensures { λ r. ⌜ Left (now (rows .entry)) (disturb-each (length (now (rows .entry))) (victims-in s row) (read (now (rows .entry)) (now (counts .entry)) (t .tracked) (t .spillover))) (now (rows .exit)) (now (counts .exit)) (r .tracked) (r .spillover) ⌝ }
+{
+    let reach = s.blast_diameter / 2;
+    let low = less_by(row, reach);
+    let high = smaller(row + 1 + reach, s.rows);
+    let below = summary::disturb_run(rows, counts, t, low, row);
+    summary::disturb_run(rows, counts, below, row + 1, high)
+}
+
+// A row is dropped if tracked, then it disturbs its victims.
+pub fn activate_row(s: Settings, rows: &mut [u32], counts: &mut [u32], t: Tally, row: u32) -> Tally
+    requires { ⌜ Held (now rows) (now counts) (t .tracked) (t .spillover) ⌝ }
+    requires { ⌜ (s .«blast_diameter» ≤ 4) × (row < 65536) ⌝ }
+    requires { ⌜ Room 3999999000 (read (now rows) (now counts) (t .tracked) (t .spillover)) ⌝ }
+    ensures { λ r. ⌜ Left (now (rows .entry)) (activation (length (now (rows .entry))) (victims-in s) row (read (now (rows .entry)) (now (counts .entry)) (t .tracked) (t .spillover))) (now (rows .exit)) (now (counts .exit)) (r .tracked) (r .spillover) ⌝ }
+{
+    let rest = summary::drop_row(rows, counts, t, row);
+    disturb_victims(s, rows, counts, rest, row)
+}
