@@ -1,0 +1,20 @@
+-- `trace::digit_or_blank` meets its contract.
+use mathlib.Core.Path.{_≡_, refl}
+use Prim.Native.Nat.{ℕ, zero, suc, _+_, _%_}
+use borrow.Author.Needs.{needs}
+use Rattle.trace.specs.Numbers.{digit-or-blank}
+use Rattle.trace.proofs.digit_or_blank.Statement.{statement}
+use Rattle.trace.proofs.digit_or_blank.Tie as tie
+
+blank : (m : ℕ) → m ≡ 0 → 32 ≡ digit-or-blank m
+unfolding digit-or-blank
+blank m e = rw e
+
+digit : (m : ℕ) → (m ≡ 0 → ⊥) → 48 + m % 10 ≡ digit-or-blank m
+unfolding digit-or-blank
+digit zero h = absurd (h refl)
+digit (suc m) h = refl
+
+pub digit-or-blank-spec : {M : Type 1} → statement M
+digit-or-blank-spec =
+    tie.close (tie.spec (λ c. search needs) (λ c. search needs) (λ c. blank _ (c .if1 .taken)) (λ c. digit _ (c .if1 .left)))

@@ -1,0 +1,5 @@
+-- The trace: numbers in columns, lines and their records, the reader's answer.
+pub mod Numbers
+pub mod Lines
+pub mod Records
+pub mod Reading

@@ -1,0 +1,56 @@
+-- Numbers in columns, read and printed.
+use Prim.Native.Nat.{ℕ, zero, suc, _+_, _-_, _*_, _/_, _%_}
+use mathlib.Core.Bool.{Bool, true, false, _&&_}
+use mathlib.Core.List.{List, [], _∷_, _++_}
+use mathlib.Core.Option.{Option, none, some}
+use lib.Dec.{leb, eqb}
+use lib.ListN.{length, take, drop}
+use Rattle.trace.specs.declared.Field.{Field}
+use Rattle.trace.specs.declared.Field.the-variants.{Number, Other}
+
+-- the first of two where a test holds, else the second
+unfoldable pub choose : {A : Type 0} → Bool → A → A → A
+choose true x y = x
+choose false x y = y
+
+-- 'digit'
+unfoldable pub is-digit : ℕ → Bool
+is-digit b = leb 48 b && leb b 57
+
+-- digits to the end, behind those that make n
+unfoldable pub digits : ℕ → List ℕ → Option ℕ
+digits n [] = some n
+digits n (b ∷ bs) = choose (is-digit b) (digits (n * 10 + (b - 48)) bs) none
+
+-- 'A number is right-justified': blanks, then at least one digit; leading zeros are allowed
+unfoldable pub number : List ℕ → Option ℕ
+number [] = none
+number (b ∷ bs) = choose (eqb b 32) (number bs) (digits 0 (b ∷ bs))
+
+-- the number in the 6 columns from a column on
+unfoldable pub field : ℕ → List ℕ → Option ℕ
+field column bytes = number (take 6 (drop column bytes))
+
+-- what some columns hold: a number, or something else
+unfoldable pub found : Field → Option ℕ
+found (Number n) = some n
+found Other = none
+
+-- a column in front of the last, with what is left of the number there: its last digit, or a blank where nothing is left
+unfoldable pub digit-or-blank : ℕ → ℕ
+digit-or-blank zero = 32
+digit-or-blank (suc m) = 48 + suc m % 10
+
+-- so many columns in front of the last
+unfoldable pub columns-before : ℕ → ℕ → List ℕ
+columns-before zero m = []
+columns-before (suc k) m = columns-before k (m / 10) ++ (digit-or-blank m ∷ [])
+
+-- 'right-justified with blanks, without leading zeros' in so many columns; of a number with more digits, the lowest
+unfoldable pub printed : ℕ → ℕ → List ℕ
+printed zero n = []
+printed (suc k) n = columns-before k (n / 10) ++ ((48 + n % 10) ∷ [])
+
+-- a buffer with a text written at a place
+unfoldable pub written : List ℕ → ℕ → List ℕ → List ℕ
+written buffer at text = take at buffer ++ text ++ drop (at + length text) buffer

@@ -1,0 +1,36 @@
+-- 'The reader': one line's record or refusal 11, and the place behind the line.
+use Prim.Native.Nat.{ℕ, _+_}
+use mathlib.Core.List.{List}
+use mathlib.Core.Option.{Option, none, some}
+use lib.ListN.{drop}
+use Rattle.device.specs.Refusal.{Outcome, accepted, refused}
+use Rattle.trace.specs.Numbers.{choose}
+use Rattle.trace.specs.Lines.{line, ended, extent}
+use Rattle.trace.specs.Records.{record-of}
+use Rattle.trace.specs.declared.Record.{Record}
+use Rattle.trace.specs.declared.Read.{Read}
+use Rattle.trace.specs.declared.Read.the-variants.{Line, Refused}
+
+-- what the reader answers: a record or a refusal, and the place behind the line
+pub record Reading : Type 0 where
+  pub outcome : Outcome Record
+  pub place : ℕ
+
+-- what an answer of the code says; the refusal is 11
+unfoldable pub said : Read → Reading
+said (Line r next) = record { outcome = accepted r; place = next }
+said (Refused next) = record { outcome = refused 11; place = next }
+
+-- a record, or refusal 11: 'a trace line of another form'
+unfoldable pub or-refused : Option Record → Outcome Record
+or-refused none = refused 11
+or-refused (some r) = accepted r
+
+-- the line at the front of a text that begins at a place, by what its bytes say; 11 too for 'a last line without byte 10'
+unfoldable pub reading-by : (List ℕ → Option Record) → List ℕ → ℕ → Reading
+reading-by says text place =
+    record { outcome = or-refused (choose (ended text) (says (line text)) none); place = place + extent text }
+
+-- 'It reads one line': the one at a place of a text. At or behind the text's end no bytes are left: 11, and that place back
+unfoldable pub reading : List ℕ → ℕ → Reading
+reading text place = reading-by record-of (drop place text) place

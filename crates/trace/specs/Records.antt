@@ -1,0 +1,64 @@
+-- 'Lines': what the bytes of a line say.
+use Prim.Native.Nat.{ℕ}
+use mathlib.Core.List.{List, [], _∷_}
+use mathlib.Core.Option.{Option, none, some}
+use lib.Dec.{eqb}
+use lib.ListN.{length}
+use Rattle.trace.specs.Numbers.{choose, field}
+use Rattle.device.specs.declared.Settings.{Settings}
+use Rattle.trace.specs.declared.Fields.{Fields}
+use Rattle.trace.specs.declared.Fields.the-variants.{Seven, Other}
+use Rattle.trace.specs.declared.Record.{Record}
+use Rattle.trace.specs.declared.Record.the-variants.{Set, Activate, Refresh, Blank}
+
+-- what comes of a value, where there is one
+unfoldable pub and-then : {A B : Type 0} → Option A → (A → Option B) → Option B
+and-then none f = none
+and-then (some a) f = f a
+
+-- 'the seven settings' in their order, 6 columns each
+unfoldable pub seven-settings : List ℕ → Option Settings
+seven-settings bytes =
+    and-then (field 0 bytes) λ rows.
+    and-then (field 6 bytes) λ diameter.
+    and-then (field 12 bytes) λ volume.
+    and-then (field 18 bytes) λ counters.
+    and-then (field 24 bytes) λ interval.
+    and-then (field 30 bytes) λ window.
+    and-then (field 36 bytes) λ block.
+    some
+    (record {
+      rows = rows;
+      «blast_diameter» = diameter;
+      volume = volume;
+      counters = counters;
+      interval = interval;
+      window = window;
+      block = block;
+    })
+
+-- what the code found in those columns
+unfoldable pub found-seven : Fields → Option Settings
+found-seven (Seven s) = some s
+found-seven Other = none
+
+-- the settings behind an `S`
+unfoldable pub settings : List ℕ → Option Record
+settings bytes = choose (eqb (length bytes) 42) (and-then (seven-settings bytes) λ s. some (Set s)) none
+
+-- 'a bus row' (logical row) behind an `A`
+unfoldable pub activation : List ℕ → Option Record
+activation bytes = choose (eqb (length bytes) 6) (and-then (field 0 bytes) λ row. some (Activate row)) none
+
+-- `R` 'alone': nothing behind it
+unfoldable pub refresh : List ℕ → Option Record
+refresh [] = some Refresh
+refresh (b ∷ bs) = none
+
+-- a line by its first byte: `S`, `A`, `R`, or blank (no bytes)
+unfoldable pub record-of : List ℕ → Option Record
+record-of [] = some Blank
+record-of (b ∷ bs) =
+    choose (eqb b 83) (settings bs)
+    (choose (eqb b 65) (activation bs)
+    (choose (eqb b 82) (refresh bs) none))

@@ -1,0 +1,241 @@
+// The trace reader, and numbers in columns: read from lent text, printed into a lent buffer.
+use device::Settings;
+ghost use mathlib.Core.Path.{_≡_};
+ghost use Prim.Native.Nat.{_+_, _≤_, _<_};
+ghost use lib.ListN.{length, drop};
+ghost use lib.Seq.{slice};
+ghost use Rattle.trace.specs.Numbers.{digits as digits-of, field, found, digit-or-blank as column-of, printed, written};
+ghost use Rattle.trace.specs.Lines.{extent, ends-after};
+ghost use Rattle.trace.specs.Records.{seven-settings as seven-of, found-seven, settings as settings-of, activation as activation-of, refresh as refresh-of};
+ghost use Rattle.trace.specs.Reading.{said, reading, reading-by};
+
+// What some columns hold.
+pub enum Field {
+    Number(u32),
+    Other,
+}
+
+// What the columns of the settings hold.
+pub enum Fields {
+    Seven(Settings),
+    Other,
+}
+
+// What a line says: settings, an activation of a logical row, a refresh event, or nothing.
+pub enum Record {
+    Set(Settings),
+    Activate(u32),
+    Refresh,
+    Blank,
+}
+
+// A record and the place behind its line, or, of a line refused with 11, the place behind it.
+pub enum Read {
+    Line(Record, usize),
+    Refused(usize),
+}
+
+// The place behind the line's end: behind its byte 10, or the text's end.
+fn line_end(text: &[u8], place: usize) -> usize
+    requires { ⌜ place ≤ length (now text) ⌝ }
+    ensures { λ r. ⌜ r ≡ place + extent (drop place (now (text .entry))) ⌝ }
+{
+    let mut i = place;
+    while i < text.len() {
+        if text[i] == 10 {
+            return i + 1;
+        }
+        i += 1;
+    }
+    i
+}
+
+// Whether a byte 10 stands so many bytes behind a place.
+fn ends_after(text: &[u8], at: usize, width: usize) -> bool
+    requires { ⌜ at ≤ length (now text) ⌝ }
+    ensures { λ r. ⌜ r ≡ ends-after width (drop at (now (text .entry))) ⌝ }
+{
+    if width < text.len() - at {
+        text[at + width] == 10
+    } else {
+        false
+    }
+}
+
+// The digits from a place to an end.
+fn digits(text: &[u8], from: usize, end: usize) -> Field
+    requires { ⌜ (from ≤ end) × (end ≤ from + 6) × (end ≤ length (now text)) ⌝ }
+    ensures { λ r. ⌜ found r ≡ digits-of 0 (slice from end (now (text .entry))) ⌝ }
+{
+    let mut n: u32 = 0;
+    let mut i = from;
+    while i < end {
+        let b = text[i];
+        if b < 48 {
+            return Field::Other;
+        }
+        if 57 < b {
+            return Field::Other;
+        }
+        n = n * 10 + (b - 48) as u32;
+        i += 1;
+    }
+    Field::Number(n)
+}
+
+// The number in the 6 columns from a place on: blanks, then digits.
+fn number(text: &[u8], from: usize) -> Field
+    requires { ⌜ from + 6 ≤ length (now text) ⌝ }
+    ensures { λ r. ⌜ found r ≡ field from (now (text .entry)) ⌝ }
+{
+    let end = from + 6;
+    let mut i = from;
+    while i < end {
+        if text[i] != 32 {
+            return digits(text, i, end);
+        }
+        i += 1;
+    }
+    Field::Other
+}
+
+// The seven settings from a place on.
+fn seven_settings(text: &[u8], at: usize) -> Fields
+    requires { ⌜ at + 42 ≤ length (now text) ⌝ }
+    ensures { λ r. ⌜ found-seven r ≡ seven-of (drop at (now (text .entry))) ⌝ }
+{
+    let Field::Number(rows) = number(text, at) else {
+        return Fields::Other;
+    };
+    let Field::Number(blast_diameter) = number(text, at + 6) else {
+        return Fields::Other;
+    };
+    let Field::Number(volume) = number(text, at + 12) else {
+        return Fields::Other;
+    };
+    let Field::Number(counters) = number(text, at + 18) else {
+        return Fields::Other;
+    };
+    let Field::Number(interval) = number(text, at + 24) else {
+        return Fields::Other;
+    };
+    let Field::Number(window) = number(text, at + 30) else {
+        return Fields::Other;
+    };
+    let Field::Number(block) = number(text, at + 36) else {
+        return Fields::Other;
+    };
+    Fields::Seven(Settings {
+        rows,
+        blast_diameter,
+        volume,
+        counters,
+        interval,
+        window,
+        block,
+    })
+}
+
+// A line of settings, from behind its letter on.
+fn settings(text: &[u8], at: usize) -> Read
+    requires { ⌜ at ≤ length (now text) ⌝ }
+    ensures { λ r. ⌜ said r ≡ reading-by settings-of (drop at (now (text .entry))) at ⌝ }
+{
+    if !ends_after(text, at, 42) {
+        return Read::Refused(line_end(text, at));
+    }
+    let Fields::Seven(s) = seven_settings(text, at) else {
+        return Read::Refused(line_end(text, at));
+    };
+    Read::Line(Record::Set(s), at + 43)
+}
+
+// An activation's line, from behind its letter on.
+fn activation(text: &[u8], at: usize) -> Read
+    requires { ⌜ at ≤ length (now text) ⌝ }
+    ensures { λ r. ⌜ said r ≡ reading-by activation-of (drop at (now (text .entry))) at ⌝ }
+{
+    if !ends_after(text, at, 6) {
+        return Read::Refused(line_end(text, at));
+    }
+    let Field::Number(row) = number(text, at) else {
+        return Read::Refused(line_end(text, at));
+    };
+    Read::Line(Record::Activate(row), at + 7)
+}
+
+// A refresh event's line, from behind its letter on.
+fn refresh(text: &[u8], at: usize) -> Read
+    requires { ⌜ at ≤ length (now text) ⌝ }
+    ensures { λ r. ⌜ said r ≡ reading-by refresh-of (drop at (now (text .entry))) at ⌝ }
+{
+    if ends_after(text, at, 0) {
+        Read::Line(Record::Refresh, at + 1)
+    } else {
+        Read::Refused(line_end(text, at))
+    }
+}
+
+// The line at a place of the text.
+pub fn read_line(text: &[u8], place: usize) -> Read
+    ensures { λ r. ⌜ said r ≡ reading (now (text .entry)) place ⌝ }
+{
+    if text.len() <= place {
+        return Read::Refused(place);
+    }
+    let letter = text[place];
+    let at = place + 1;
+    if letter == 65 {
+        return activation(text, at);
+    }
+    if letter == 82 {
+        return refresh(text, at);
+    }
+    if letter == 83 {
+        return settings(text, at);
+    }
+    if letter == 10 {
+        return Read::Line(Record::Blank, at);
+    }
+    Read::Refused(line_end(text, at))
+}
+
+// The text from a place on, as a part of the caller's; none of it where the place is behind the end.
+pub fn rest(text: &[u8], place: usize) -> &[u8]
+    ensures { λ r. ⌜ now r ≡ drop place (now (text .entry)) ⌝ }
+{
+    if place <= text.len() {
+        return &text[place..];
+    }
+    let end = text.len();
+    &text[end..]
+}
+
+// A column in front of the last, with what is left of the number there.
+fn digit_or_blank(left: u64) -> u8
+    ensures { λ r. ⌜ r ≡ column-of left ⌝ }
+{
+    if left == 0 {
+        32
+    } else {
+        (48 + left % 10) as u8
+    }
+}
+
+// n right-justified in so many columns of the buffer, from a place on; of a number with more digits, the lowest.
+pub fn print_number(out: &mut [u8], at: usize, columns: usize, n: u64)
+    requires { ⌜ at + columns ≤ length (now out) ⌝ }
+    ensures { λ _. ⌜ now (out .exit) ≡ written (now (out .entry)) at (printed columns n) ⌝ }
+{
+    if columns == 0 {
+        return;
+    }
+    let mut i = at + columns - 1;
+    out[i] = (48 + n % 10) as u8;
+    let mut left = n / 10;
+    while at < i {
+        i -= 1;
+        out[i] = digit_or_blank(left);
+        left = left / 10;
+    }
+}
