@@ -7,3 +7,6 @@ pub mod Rows
 pub mod Steps
 pub mod Both
 pub mod Spread
+pub mod Chain
+pub mod Passed
+pub mod Agreed

@@ -61,7 +61,7 @@ spreading-again {places} {victims-of} row l few x =
       sum = disturb-each places (victims-of row) (l .sum);
       holds = rw (held-read (l .holds), long-rows (l .holds)) at x;
       same = l .same;
-      room = room-more (room-each places (victims-of row) (l .sum) (l .room)) (omega arith)
+      room = room-more (room-each places (victims-of row) (l .sum) (l .room)) (omega arith);
     }
 
 -- the victims of an accepted device's row are at most four
@@ -88,7 +88,7 @@ spreading-beside {places} {victims-of} names row rest l few x =
       sum = spread places victims-of (besides names (row ∷ [])) (l .sum);
       holds = rw (held-read (l .holds), long-rows (l .holds)) at x;
       same = sym (besides-one names row rest places victims-of (l .sum)) ∙ l .same;
-      room = room-besides names row places victims-of (l .sum) (l .room) few
+      room = room-besides names row places victims-of (l .sum) (l .room) few;
     }
 
 pub spreading-more : {places : ℕ} {victims-of : ℕ → List ℕ} {whole rest : List ℕ} {start : Summary} {rows counts : List ℕ} {k spill most most′ : ℕ} → Spreading places victims-of whole rest start rows counts k spill most → most ≤ most′ → Spreading places victims-of whole rest start rows counts k spill most′

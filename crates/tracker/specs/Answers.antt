@@ -1,8 +1,11 @@
 -- What the calls' answers say: for each case the paper's number and the values it carries.
 use Prim.Native.Nat.{ℕ}
 use mathlib.Core.Bool.{Bool}
+use mathlib.Core.List.{List}
 use Rattle.device.specs.Refusal.{Outcome, accepted, refused}
 use Rattle.tracker.specs.declared.Position.{Position}
+use Rattle.tracker.specs.State.{State}
+use Rattle.tracker.specs.Calls.{SetUp-call, Activation-call, Refresh-call}
 use Rattle.tracker.specs.declared.SetUp.{SetUp}
 use Rattle.tracker.specs.declared.SetUp.the-variants.{Ready, Refused as SetUp-refused}
 use Rattle.tracker.specs.declared.Activation.{Activation}
@@ -41,3 +44,24 @@ refresh-position (Refresh-refused k p) = p
 unfoldable pub agreement-outcome : Agreement → Outcome Bool
 agreement-outcome (Same b) = accepted b
 agreement-outcome (Agreement-refused k) = refused k
+
+-- the state that the caller lends
+unfoldable pub given : List ℕ → List ℕ → Position → State
+given rows counts p = record { rows = rows; counts = counts; position = p }
+
+-- a call's answer with what it left in the lent memory
+unfoldable pub set-up-call : SetUp → List ℕ → List ℕ → SetUp-call
+set-up-call r rows counts = record { answer = set-up-outcome r; rows = rows; counts = counts }
+
+unfoldable pub activation-call : Activation → List ℕ → List ℕ → Activation-call
+activation-call r rows counts =
+    record { refusal = activation-refusal r; state = given rows counts (activation-position r) }
+
+unfoldable pub refresh-call : Refreshed → List ℕ → List ℕ → List ℕ → Refresh-call
+refresh-call r rows counts picks =
+    record {
+      refusal = refresh-refusal r;
+      count = refresh-count r;
+      state = given rows counts (refresh-position r);
+      picks = picks;
+    }

@@ -1,8 +1,8 @@
 // A refresh event on the tables: the picked and block rows are taken out, the window's end clears, then the refreshed rows disturb their victims.
 use crate::victims;
 use device::Settings;
-use summary::{Picked, Tally};
-
+use summary::Picked;
+use summary::Tally;
 ghost use mathlib.Core.Path.{_≡_};
 ghost use mathlib.Core.List.{_∷_, []};
 ghost use Prim.Native.Nat.{_-_, _≤_, _<_};
@@ -14,7 +14,15 @@ ghost use Rattle.summary.specs.Tables.{read, Held, Left, PickedFrom};
 ghost use Rattle.tracker.specs.Calls.{victims-in, block-rows, ends-window};
 
 // The picked rows are named at the list's front and dropped, and so are the block's.
-fn take_out(s: Settings, rows: &mut [u32], counts: &mut [u32], t: Tally, low: u32, high: u32, list: &mut [u32]) -> Picked
+fn take_out(
+    s: Settings,
+    rows: &mut [u32],
+    counts: &mut [u32],
+    t: Tally,
+    low: u32,
+    high: u32,
+    list: &mut [u32],
+) -> Picked
     requires { ⌜ Held (now rows) (now counts) (t .tracked) (t .spillover) ⌝ }
     requires { ⌜ s .volume ≤ length (now list) ⌝ }
     ensures { λ r. ⌜ PickedFrom (s .volume) (read (now (rows .entry)) (now (counts .entry)) (t .tracked) (t .spillover)) (now (list .entry)) (now (list .exit)) (r .count) ⌝ }
@@ -47,7 +55,14 @@ fn clear_if(last: bool, rows: &mut [u32], counts: &mut [u32], t: Tally) -> Tally
 }
 
 // The first rows of a list disturb their victims, in the list's order.
-fn spread_list(s: Settings, rows: &mut [u32], counts: &mut [u32], t: Tally, list: &[u32], used: usize) -> Tally
+fn spread_list(
+    s: Settings,
+    rows: &mut [u32],
+    counts: &mut [u32],
+    t: Tally,
+    list: &[u32],
+    used: usize,
+) -> Tally
     requires { ⌜ Held (now rows) (now counts) (t .tracked) (t .spillover) ⌝ }
     requires { ⌜ (s .«blast_diameter» ≤ 4) × (used ≤ 16) × (used ≤ length (now list)) × Below 65536 (take used (now list)) ⌝ }
     requires { ⌜ Room 2000000000 (read (now rows) (now counts) (t .tracked) (t .spillover)) ⌝ }
@@ -63,7 +78,15 @@ fn spread_list(s: Settings, rows: &mut [u32], counts: &mut [u32], t: Tally, list
 }
 
 // A row disturbs its victims unless it is among the first of a list.
-fn spread_unlisted(s: Settings, rows: &mut [u32], counts: &mut [u32], t: Tally, list: &[u32], used: usize, row: u32) -> Tally
+fn spread_unlisted(
+    s: Settings,
+    rows: &mut [u32],
+    counts: &mut [u32],
+    t: Tally,
+    list: &[u32],
+    used: usize,
+    row: u32,
+) -> Tally
     requires { ⌜ Held (now rows) (now counts) (t .tracked) (t .spillover) ⌝ }
     requires { ⌜ (s .«blast_diameter» ≤ 4) × (row < 65536) × (used ≤ length (now list)) ⌝ }
     requires { ⌜ Room 3999999000 (read (now rows) (now counts) (t .tracked) (t .spillover)) ⌝ }
@@ -77,7 +100,16 @@ fn spread_unlisted(s: Settings, rows: &mut [u32], counts: &mut [u32], t: Tally, 
 }
 
 // The rows of a run that are not among the first of a list disturb their victims, ascending.
-fn spread_run(s: Settings, rows: &mut [u32], counts: &mut [u32], t: Tally, list: &[u32], used: usize, low: u32, high: u32) -> Tally
+fn spread_run(
+    s: Settings,
+    rows: &mut [u32],
+    counts: &mut [u32],
+    t: Tally,
+    list: &[u32],
+    used: usize,
+    low: u32,
+    high: u32,
+) -> Tally
     requires { ⌜ Held (now rows) (now counts) (t .tracked) (t .spillover) ⌝ }
     requires { ⌜ (s .«blast_diameter» ≤ 4) × (used ≤ length (now list)) × (high ≤ 65536) × (high - low ≤ 64) ⌝ }
     requires { ⌜ Room 2000000100 (read (now rows) (now counts) (t .tracked) (t .spillover)) ⌝ }
@@ -90,4 +122,32 @@ fn spread_run(s: Settings, rows: &mut [u32], counts: &mut [u32], t: Tally, list:
         row += 1;
     }
     left
+}
+
+// A whole event on the tables; e is the number of events in the window before it.
+pub fn event_tables(
+    s: Settings,
+    rows: &mut [u32],
+    counts: &mut [u32],
+    t: Tally,
+    e: u32,
+    list: &mut [u32],
+) -> Picked
+    requires { ⌜ Held (now rows) (now counts) (t .tracked) (t .spillover) ⌝ }
+    requires { ⌜ (s .«blast_diameter» ≤ 4) × (s .rows ≤ 65536) × (s .volume ≤ 16) × (s .block ≤ 64) × (1 ≤ s .window) × (e ≤ 8192) × (s .volume ≤ length (now list)) ⌝ }
+    requires { ⌜ Room 2000000000 (read (now rows) (now counts) (t .tracked) (t .spillover)) × Ordered (s .rows) 0 (read (now rows) (now counts) (t .tracked) (t .spillover) .entries) ⌝ }
+    ensures { λ r. ⌜ PickedFrom (s .volume) (read (now (rows .entry)) (now (counts .entry)) (t .tracked) (t .spillover)) (now (list .entry)) (now (list .exit)) (r .count) ⌝ }
+    ensures { λ r. ⌜ Left (now (rows .entry)) (event (length (now (rows .entry))) (victims-in s) (s .volume) (block-rows s e) (ends-window s e) (read (now (rows .entry)) (now (counts .entry)) (t .tracked) (t .spillover))) (now (rows .exit)) (now (counts .exit)) (r .tally .tracked) (r .tally .spillover) ⌝ }
+{
+    let low = e * s.block;
+    let high = victims::smaller(low + s.block, s.rows);
+    let taken = take_out(s, rows, counts, t, low, high, list);
+    let rest = taken.tally;
+    let begun = clear_if(e == s.window - 1, rows, counts, rest);
+    let named = spread_list(s, rows, counts, begun, list, taken.count);
+    let after = spread_run(s, rows, counts, named, list, taken.count, low, high);
+    Picked {
+        count: taken.count,
+        tally: after,
+    }
 }

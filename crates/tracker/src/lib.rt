@@ -1,8 +1,19 @@
-// The tracker: set up, activation, refresh event, agreement, on tables and a position that the caller lends.
+// The tracker: set up, activation, refresh event and agreement, on tables and a position that the caller lends.
+// Every call refuses what document 01 refuses, in its order, and then leaves everything as it came.
 mod estimates;
 mod event;
 mod state;
 mod victims;
+
+use device::Settings;
+use summary::Tally;
+ghost use mathlib.Core.Path.{_≡_};
+ghost use mathlib.Core.Bool.{_&&_};
+ghost use Prim.Native.Nat.{_≤_};
+ghost use lib.ListN.{length};
+ghost use Rattle.device.specs.Refusal.{first-failed};
+ghost use Rattle.tracker.specs.Calls.{next-event as event-after, tables-long, set-up-tests, activation-tests, refresh-tests, agreement-tests, set-up, activate as activated, refresh as refreshed, agree as agreed};
+ghost use Rattle.tracker.specs.Answers.{given, set-up-call, activation-call, refresh-call, agreement-outcome};
 
 // Where a tracker stands: events so far in this window, activations since the last event, tracked rows, spillover.
 pub struct Position {
@@ -34,4 +45,232 @@ pub enum Refreshed {
 pub enum Agreement {
     Same(bool),
     Refused(u32),
+}
+
+// Whether both tables are as long as there are counters.
+fn are_long(s: Settings, rows: &[u32], counts: &[u32]) -> bool
+    ensures { λ r. ⌜ r ≡ tables-long s (now (rows .entry)) (now (counts .entry)) ⌝ }
+{
+    rows.len() == s.counters as usize && counts.len() == s.counters as usize
+}
+
+// The refusal of setting up, or 0.
+fn set_up_refusal(s: Settings, rows: &[u32], counts: &[u32]) -> u32
+    ensures { λ r. ⌜ r ≡ first-failed (set-up-tests s (now (rows .entry)) (now (counts .entry))) ⌝ }
+{
+    let k = device::settings_refusal(s);
+    if k != 0 {
+        return k;
+    }
+    device::refuse_unless(are_long(s, rows, counts), 8, 0)
+}
+
+// The refusal of an activation, or 0.
+fn activation_refusal(s: Settings, rows: &[u32], counts: &[u32], p: Position, row: u32) -> u32
+    ensures { λ r. ⌜ r ≡ first-failed (activation-tests s (given (now (rows .entry)) (now (counts .entry)) p) row) ⌝ }
+{
+    let k = set_up_refusal(s, rows, counts);
+    if k != 0 {
+        return k;
+    }
+    if s.rows <= row {
+        return 9;
+    }
+    device::refuse_unless(
+        state::valid_state(s, rows, counts, p),
+        21,
+        device::refuse_unless(p.activations < s.interval, 22, 0),
+    )
+}
+
+// The refusal of a refresh event, or 0.
+fn refresh_refusal(s: Settings, rows: &[u32], counts: &[u32], p: Position, list: &[u32]) -> u32
+    ensures { λ r. ⌜ r ≡ first-failed (refresh-tests s (given (now (rows .entry)) (now (counts .entry)) p) (now (list .entry))) ⌝ }
+{
+    let k = set_up_refusal(s, rows, counts);
+    if k != 0 {
+        return k;
+    }
+    if list.len() < s.volume as usize {
+        return 10;
+    }
+    device::refuse_unless(state::valid_state(s, rows, counts, p), 21, 0)
+}
+
+// Sets up: 0 everywhere in both tables, and the position to begin with.
+pub fn set_up(s: Settings, rows: &mut [u32], counts: &mut [u32]) -> SetUp
+    ensures { λ r. ⌜ set-up-call r (now (rows .exit)) (now (counts .exit)) ≡ set-up s (now (rows .entry)) (now (counts .entry)) ⌝ }
+{
+    let k = set_up_refusal(s, rows, counts);
+    if k != 0 {
+        return SetUp::Refused(k);
+    }
+    tables::clear(rows);
+    tables::clear(counts);
+    SetUp::Ready(Position {
+        events: 0,
+        activations: 0,
+        tracked: 0,
+        spillover: 0,
+    })
+}
+
+// An activation that no test refuses.
+fn activate_accepted(
+    s: Settings,
+    rows: &mut [u32],
+    counts: &mut [u32],
+    p: Position,
+    row: u32,
+) -> Position
+    requires { ⌜ first-failed (activation-tests s (given (now rows) (now counts) p) row) ≡ 0 ⌝ }
+    ensures { λ r. ⌜ given (now (rows .exit)) (now (counts .exit)) r ≡ activated s (given (now (rows .entry)) (now (counts .entry)) p) row .state ⌝ }
+{
+    let t = Tally {
+        tracked: p.tracked as usize,
+        spillover: p.spillover,
+    };
+    let after = victims::activate_row(s, rows, counts, t, device::physical_row(row));
+    Position {
+        events: p.events,
+        activations: p.activations + 1,
+        tracked: after.tracked as u32,
+        spillover: after.spillover,
+    }
+}
+
+// An activation of a logical row.
+pub fn activate(
+    s: Settings,
+    rows: &mut [u32],
+    counts: &mut [u32],
+    p: Position,
+    row: u32,
+) -> Activation
+    ensures { λ r. ⌜ activation-call r (now (rows .exit)) (now (counts .exit)) ≡ activated s (given (now (rows .entry)) (now (counts .entry)) p) row ⌝ }
+{
+    let k = activation_refusal(s, rows, counts, p, row);
+    if k != 0 {
+        return Activation::Refused(k, p);
+    }
+    Activation::Accepted(activate_accepted(s, rows, counts, p, row))
+}
+
+// The events in the window after one more.
+fn next_event(s: Settings, e: u32) -> u32
+    requires { ⌜ (1 ≤ s .window) × (e ≤ 8192) ⌝ }
+    ensures { λ r. ⌜ r ≡ event-after s e ⌝ }
+{
+    if e == s.window - 1 { 0 } else { e + 1 }
+}
+
+// A refresh event that no test refuses.
+fn refresh_accepted(
+    s: Settings,
+    rows: &mut [u32],
+    counts: &mut [u32],
+    p: Position,
+    list: &mut [u32],
+) -> Refreshed
+    requires { ⌜ first-failed (refresh-tests s (given (now rows) (now counts) p) (now list)) ≡ 0 ⌝ }
+    ensures { λ r. ⌜ refresh-call r (now (rows .exit)) (now (counts .exit)) (now (list .exit)) ≡ refreshed s (given (now (rows .entry)) (now (counts .entry)) p) (now (list .entry)) ⌝ }
+{
+    let t = Tally {
+        tracked: p.tracked as usize,
+        spillover: p.spillover,
+    };
+    let picked = event::event_tables(s, rows, counts, t, p.events, list);
+    let after = picked.tally;
+    Refreshed::Accepted(
+        picked.count as u32,
+        Position {
+            events: next_event(s, p.events),
+            activations: 0,
+            tracked: after.tracked as u32,
+            spillover: after.spillover,
+        },
+    )
+}
+
+// A refresh event; the picked rows come at the list's front.
+pub fn refresh(
+    s: Settings,
+    rows: &mut [u32],
+    counts: &mut [u32],
+    p: Position,
+    list: &mut [u32],
+) -> Refreshed
+    ensures { λ r. ⌜ refresh-call r (now (rows .exit)) (now (counts .exit)) (now (list .exit)) ≡ refreshed s (given (now (rows .entry)) (now (counts .entry)) p) (now (list .entry)) ⌝ }
+{
+    let k = refresh_refusal(s, rows, counts, p, list);
+    if k != 0 {
+        return Refreshed::Refused(k, p);
+    }
+    refresh_accepted(s, rows, counts, p, list)
+}
+
+// The refusal of agreement, or 0.
+fn agreement_refusal(
+    s: Settings,
+    rows: &[u32],
+    counts: &[u32],
+    p: Position,
+    s2: Settings,
+    rows2: &[u32],
+    counts2: &[u32],
+    p2: Position,
+) -> u32
+    ensures { λ r. ⌜ r ≡ first-failed (agreement-tests s (given (now (rows .entry)) (now (counts .entry)) p) s2 (given (now (rows2 .entry)) (now (counts2 .entry)) p2)) ⌝ }
+{
+    let k = device::settings_refusal(s);
+    if k != 0 {
+        return k;
+    }
+    let k2 = device::settings_refusal(s2);
+    if k2 != 0 {
+        return k2;
+    }
+    if !are_long(s, rows, counts) {
+        return 8;
+    }
+    if !are_long(s2, rows2, counts2) {
+        return 8;
+    }
+    if !state::valid_state(s, rows, counts, p) {
+        return 21;
+    }
+    device::refuse_unless(state::valid_state(s2, rows2, counts2, p2), 21, 0)
+}
+
+// Whether two summaries agree: as many rows, and every row with the same estimate.
+pub fn agree(
+    s: Settings,
+    rows: &[u32],
+    counts: &[u32],
+    p: Position,
+    s2: Settings,
+    rows2: &[u32],
+    counts2: &[u32],
+    p2: Position,
+) -> Agreement
+    ensures { λ r. ⌜ agreement-outcome r ≡ agreed s (given (now (rows .entry)) (now (counts .entry)) p) s2 (given (now (rows2 .entry)) (now (counts2 .entry)) p2) ⌝ }
+{
+    let k = agreement_refusal(s, rows, counts, p, s2, rows2, counts2, p2);
+    if k != 0 {
+        return Agreement::Refused(k);
+    }
+    if s.rows != s2.rows {
+        return Agreement::Same(false);
+    }
+    Agreement::Same(estimates::same_estimates(
+        rows,
+        counts,
+        p.tracked as usize,
+        p.spillover,
+        rows2,
+        counts2,
+        p2.tracked as usize,
+        p2.spillover,
+        s.rows,
+    ))
 }

@@ -1,7 +1,6 @@
 // A row disturbs its victims, and an activation.
 use device::Settings;
 use summary::Tally;
-
 ghost use mathlib.Core.Path.{_≡_};
 ghost use Prim.Native.Nat.{_-_, _≤_, _<_, min};
 ghost use lib.ListN.{length};
@@ -25,7 +24,13 @@ pub fn smaller(a: u32, b: u32) -> u32
 }
 
 // A row disturbs its victims, ascending.
-pub fn disturb_victims(s: Settings, rows: &mut [u32], counts: &mut [u32], t: Tally, row: u32) -> Tally
+pub fn disturb_victims(
+    s: Settings,
+    rows: &mut [u32],
+    counts: &mut [u32],
+    t: Tally,
+    row: u32,
+) -> Tally
     requires { ⌜ Held (now rows) (now counts) (t .tracked) (t .spillover) ⌝ }
     requires { ⌜ (s .«blast_diameter» ≤ 4) × (row < 65536) ⌝ }
     requires { ⌜ Room 3999999000 (read (now rows) (now counts) (t .tracked) (t .spillover)) ⌝ }

@@ -24,14 +24,15 @@ abbrev μ-loop : tie.MeasureT-loop
 
 loop-holds : tie.Need-loop-holds Inv-loop μ-loop
 loop-holds c =
-    let a = c .before .before .before in
-    (record {
+    let a = c .before .before .before in (
+      record {
         sum = read (a .args .rows .now) (a .args .counts .now) (a .args .t .tracked) (a .args .t .spillover);
         holds = a .pre .0;
         same = refl;
-        room = room-more (a .pre .1 .1) (omega arith)
+        room = room-more (a .pre .1 .1) (omega arith);
       },
-      omega arith)
+      omega arith,
+    )
 
 mul-disturb-victims : tie.Need-mul-disturb-victims Inv-loop μ-loop
 mul-disturb-victims c = omega (arith, c .before .before .loop-test .taken, c .before .before .before .before .before .before .before .pre .1 .0 .1)
@@ -45,12 +46,17 @@ disturb-victims-requires c κs =
     let p = a .pre .1 .0 in
     let i = c .before .before .before .before .loop .i in
     let less = c .before .before .before .loop-test .taken in
-    let ready = spreading-ready (c .before .before .before .before .loop .inv .0) (omega (arith, less, p .1)) in
-    (ready .0,
-      ((p .0,
+    let ready = spreading-ready (c .before .before .before .before .loop .inv .0) (omega (arith, less, p .1)) in (
+      ready .0,
+      (
+        (
+          p .0,
           rw (getD-take (a .args .used) (a .args .list .now) i 0 less) at
-          (below-at (p .3) i (omega (arith, less, length-take-le (a .args .used) (a .args .list .now) (p .2))))),
-        ready .1))
+              (below-at (p .3) i (omega (arith, less, length-take-le (a .args .used) (a .args .list .now) (p .2)))),
+        ),
+        ready .1,
+      ),
+    )
 
 add-i : tie.Need-add-i Inv-loop μ-loop
 add-i c = omega (arith, c .before .before .before .before .before .before .before .before .loop-test .taken, c .before .before .before .before .before .before .before .before .before .before .before .before .before .pre .1 .0 .1)
@@ -64,9 +70,10 @@ loop-again c =
     let p = a .pre .1 .0 in
     let i = c .before .before .before .before .before .before .before .before .before .loop .i in
     let less = c .before .before .before .before .before .before .before .before .loop-test .taken in
-    let l = rw (used-step (a .args .list .now) (a .args .used) i (p .2) less) at (c .before .before .before .before .before .before .before .before .before .loop .inv .0) in
-    (rw (add-one i) (spreading-more (spreading-again (getD (a .args .list .now) i 0) l (victims-four (a .args .s) (getD (a .args .list .now) i 0) (p .0)) (c .before .before .before .before .disturb-victims .ensures)) (omega arith)),
-      omega (arith, less))
+    let l = rw (used-step (a .args .list .now) (a .args .used) i (p .2) less) at (c .before .before .before .before .before .before .before .before .before .loop .inv .0) in (
+      rw (add-one i) (spreading-more (spreading-again (getD (a .args .list .now) i 0) l (victims-four (a .args .s) (getD (a .args .list .now) i 0) (p .0)) (c .before .before .before .before .disturb-victims .ensures)) (omega arith)),
+      omega (arith, less),
+    )
 
 same-length : tie.Need-same-length Inv-loop μ-loop
 same-length c = long-rows (c .before .loop .inv .0 .holds)

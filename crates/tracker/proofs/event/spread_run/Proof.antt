@@ -25,14 +25,15 @@ abbrev μ-loop : tie.MeasureT-loop
 
 loop-holds : tie.Need-loop-holds Inv-loop μ-loop
 loop-holds c =
-    let a = c .before .before .before in
-    (record {
+    let a = c .before .before .before in (
+      record {
         sum = read (a .args .rows .now) (a .args .counts .now) (a .args .t .tracked) (a .args .t .spillover);
         holds = a .pre .0;
         same = refl;
-        room = room-more (a .pre .1 .1) (omega arith)
+        room = room-more (a .pre .1 .1) (omega arith);
       },
-      omega arith)
+      omega arith,
+    )
 
 spread-unlisted-requires : tie.Need-spread-unlisted-requires Inv-loop μ-loop
 spread-unlisted-requires c κs =
@@ -52,11 +53,12 @@ loop-again c =
     let a = c .before .before .before .before .before .before .before .before .before .before .before .before in
     let less = c .before .before .before .before .before .before .before .loop-test .taken in
     let row = c .before .before .before .before .before .before .before .before .loop .row in
-    let l = rw (between-step row (a .args .high) less) at (c .before .before .before .before .before .before .before .before .loop .inv .0) in
-    (spreading-more
-        (spreading-beside (take (a .args .used) (a .args .list .now)) row (rows-between (row + 1) (a .args .high)) l (victims-four (a .args .s) row (a .pre .1 .0 .0)) (c .before .before .before .before .spread-unlisted .ensures))
-        (omega (arith, c .before .before .before .before .before .before .before .before .loop .inv .1)),
-      omega (arith, c .before .before .before .before .before .before .before .before .loop .inv .1))
+    let l = rw (between-step row (a .args .high) less) at (c .before .before .before .before .before .before .before .before .loop .inv .0) in (
+      spreading-more
+          (spreading-beside (take (a .args .used) (a .args .list .now)) row (rows-between (row + 1) (a .args .high)) l (victims-four (a .args .s) row (a .pre .1 .0 .0)) (c .before .before .before .before .spread-unlisted .ensures))
+          (omega (arith, c .before .before .before .before .before .before .before .before .loop .inv .1)),
+      omega (arith, c .before .before .before .before .before .before .before .before .loop .inv .1),
+    )
 
 same-length : tie.Need-same-length Inv-loop μ-loop
 same-length c = long-rows (c .before .loop .inv .0 .holds)

@@ -16,10 +16,11 @@ drop-run-requires c κs = held-again (c .before .before .before .before .before 
 returns : tie.Need-returns
 returns c =
     let a = c .before .before .before .before .before .before .before .before .before .before .before .before .before .before .before .before .before .before .before .before .before .before in
-    let x = c .before .before .before .before .before .before .before .before .before .before .before .before .before .before .pick .ensures in
-    (x .0,
+    let x = c .before .before .before .before .before .before .before .before .before .before .before .before .before .before .pick .ensures in (
+      x .0,
       rw (taken-out-split (a .args .s .volume) (rows-between (a .args .low) (a .args .high)) (read (a .args .rows .now) (a .args .counts .now) (a .args .t .tracked) (a .args .t .spillover)))
-      (rw (held-read (x .1), long-rows (x .1)) at (c .before .before .before .before .drop-run .ensures)))
+          (rw (held-read (x .1), long-rows (x .1)) at (c .before .before .before .before .drop-run .ensures)),
+    )
 
 pub take-out-spec : {M : Type 1} → statement M
 take-out-spec =

@@ -21,10 +21,13 @@ disturb-run-requires c κs =
 disturb-run-requires-2 : tie.Need-disturb-run-requires-2
 disturb-run-requires-2 c κs =
     let a = c .before .before .before .before .before .before .before .before .before .before .before .before .before .before in
-    let x = c .before .before .before .before .before .before .disturb-run .ensures in
-    (held-again x,
-      (omega (arith, c .before .before .before .before .before .before .before .before .before .smaller .ensures, a .pre .1 .0 .0),
-        rw (held-read x) (room-between (length (a .args .rows .now)) _ (a .args .row) _ (a .pre .1 .1) (omega (arith, c .before .before .before .before .before .before .before .before .before .before .less-by .ensures, a .pre .1 .0 .0)))))
+    let x = c .before .before .before .before .before .before .disturb-run .ensures in (
+      held-again x,
+      (
+        omega (arith, c .before .before .before .before .before .before .before .before .before .smaller .ensures, a .pre .1 .0 .0),
+        rw (held-read x) (room-between (length (a .args .rows .now)) _ (a .args .row) _ (a .pre .1 .1) (omega (arith, c .before .before .before .before .before .before .before .before .before .before .less-by .ensures, a .pre .1 .0 .0))),
+      ),
+    )
 
 returns : tie.Need-returns
 returns c =

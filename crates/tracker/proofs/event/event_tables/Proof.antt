@@ -1,0 +1,104 @@
+-- `tracker::event::event_tables` meets its contract: its steps, one after the other, are the event.
+use mathlib.Core.Path.{_≡_, sym, _∙_}
+use Prim.Native.Nat.{_+_, _*_, _≤_, _<_, min}
+use native.Mathlib.Nat.{mul-le-mul}
+use native.Mathlib.Omega.{arith}
+use borrow.Author.Needs.{needs}
+use lib.ListN.{length, take}
+use lib.Seq.{length-take-le}
+use Rattle.device.specs.Victims.{rows-between}
+use Rattle.summary.specs.Tables.{read}
+use Rattle.summary.proofs.Stored.{long-rows, long-counts}
+use Rattle.summary.proofs.Moves.{held-again}
+use Rattle.tracker.specs.Calls.{victims-in, block-rows, ends-window}
+use Rattle.tracker.proofs.Spread.{victims-four}
+use Rattle.tracker.proofs.Chain.{named-rows, named-few, named-below, begun-room, spread-room, event-done}
+use Rattle.tracker.proofs.event.event_tables.Statement.{statement}
+use Rattle.tracker.proofs.event.event_tables.Tie as tie
+
+mul-low : tie.Need-mul-low
+mul-low c = let p = c .before .before .before .before .pre .1 .0 in omega (arith, mul-le-mul (p .5) (p .3))
+
+add-smaller : tie.Need-add-smaller
+add-smaller c = let p = c .before .before .before .before .before .pre .1 .0 in omega (arith, mul-le-mul (p .5) (p .3), p .3)
+
+take-out-requires : tie.Need-take-out-requires
+take-out-requires c κs = let a = c .before .before .before .before .before .before .before .before .before in (a .pre .0, a .pre .1 .0 .6)
+
+sub-clear-if : tie.Need-sub-clear-if
+sub-clear-if c = c .before .before .before .before .before .before .before .before .before .before .before .before .before .before .before .before .before .before .pre .1 .0 .4
+
+clear-if-requires : tie.Need-clear-if-requires
+clear-if-requires c κs = held-again (c .before .before .before .before .before .before .before .before .before .before .take-out .ensures .1)
+
+spread-list-requires : tie.Need-spread-list-requires
+unfolding ends-window
+spread-list-requires c κs =
+    let a = c .before .before .before .before .before .before .before .before .before .before .before .before .before .before .before .before .before .before .before .before .before .before .before .before .before .before .before .before in
+    let p = a .pre .1 .0 in
+    let t = c .before .before .before .before .before .before .before .before .before .before .before .before .before .before .before .before .before .before .take-out in
+    let sum = read (a .args .rows .now) (a .args .counts .now) (a .args .t .tracked) (a .args .t .spillover) in
+    let x = t .ensures .0 in (
+      held-again (c .before .before .before .before .before .before .before .clear-if .ensures),
+      (
+        (p .0, omega (arith, named-few x, p .2), omega (arith, named-few x, p .6, t .kept .1 .1 .1 .1 .1 .1 .0), named-below x (a .pre .1 .1 .1) (p .1)),
+        begun-room (a .args .s .volume) (victims-in (a .args .s)) _ (ends-window (a .args .s) (a .args .e)) sum (take (t .result .count) (t .last .1 .1 .1 .1 .1 .1 .0)) (named-rows x) (t .ensures .1) (c .before .before .before .before .before .before .before .clear-if .ensures) (a .pre .1 .1 .0),
+      ),
+    )
+
+spread-run-requires : tie.Need-spread-run-requires
+unfolding ends-window
+spread-run-requires c κs =
+    let a = c .before .before .before .before .before .before .before .before .before .before .before .before .before .before .before .before .before .before .before .before .before .before .before .before .before .before .before .before .before .before .before .before .before .before .before .before in
+    let p = a .pre .1 .0 in
+    let t = c .before .before .before .before .before .before .before .before .before .before .before .before .before .before .before .before .before .before .before .before .before .before .before .before .before .before .take-out in
+    let names = take (t .result .count) (t .last .1 .1 .1 .1 .1 .1 .0) in
+    let sum = read (a .args .rows .now) (a .args .counts .now) (a .args .t .tracked) (a .args .t .spillover) in
+    let x = t .ensures .0 in
+    let high = c .before .before .before .before .before .before .before .before .before .before .before .before .before .before .before .before .before .before .before .before .before .before .before .before .before .before .before .before .before .before .smaller .ensures in
+    let long = t .kept .1 .1 .1 .1 .1 .1 .0 in (
+      held-again (c .before .before .before .before .before .before .before .spread-list .ensures),
+      (
+        (p .0, omega (arith, named-few x, p .6, long), omega (arith, high, p .1), omega (arith, high, p .3)),
+        spread-room (a .args .s .volume) (victims-in (a .args .s)) (rows-between (a .args .e * a .args .s .block) (c .before .before .before .before .before .before .before .before .before .before .before .before .before .before .before .before .before .before .before .before .before .before .before .before .before .before .before .before .before .before .smaller .result)) (ends-window (a .args .s) (a .args .e)) sum names (named-rows x) (t .ensures .1) (c .before .before .before .before .before .before .before .before .before .before .before .before .before .before .before .clear-if .ensures) (c .before .before .before .before .before .before .before .spread-list .ensures) (λ row. victims-four (a .args .s) row (p .0)) (omega (arith, length-take-le (t .result .count) (t .last .1 .1 .1 .1 .1 .1 .0) (omega (arith, named-few x, p .6, long)), named-few x, p .2)) (a .pre .1 .1 .0),
+      ),
+    )
+
+returns : tie.Need-returns
+unfolding block-rows ends-window
+returns c =
+    let a = c .before .before .before .before .before .before .before .before .before .before .before .before .before .before .before .before .before .before .before .before .before .before .before .before .before .before .before .before .before .before .before .before .before .before .before .before .before .before .before .before .before in
+    let t = c .before .before .before .before .before .before .before .before .before .before .before .before .before .before .before .before .before .before .before .before .before .before .before .before .before .before .before .before .before .before .before .take-out in
+    let names = take (t .result .count) (t .last .1 .1 .1 .1 .1 .1 .0) in
+    let sum = read (a .args .rows .now) (a .args .counts .now) (a .args .t .tracked) (a .args .t .spillover) in
+    let x = t .ensures .0 in (
+      x,
+      rw (← c .before .before .before .before .before .before .before .before .before .before .before .before .before .before .before .before .before .before .before .before .before .before .before .before .before .before .before .before .before .before .before .before .before .before .before .smaller .ensures)
+          (event-done (a .args .s .volume) (victims-in (a .args .s)) (rows-between (a .args .e * a .args .s .block) (c .before .before .before .before .before .before .before .before .before .before .before .before .before .before .before .before .before .before .before .before .before .before .before .before .before .before .before .before .before .before .before .before .before .before .before .smaller .result)) (ends-window (a .args .s) (a .args .e)) sum names (named-rows x) (t .ensures .1) (c .before .before .before .before .before .before .before .before .before .before .before .before .before .before .before .before .before .before .before .before .clear-if .ensures) (c .before .before .before .before .before .before .before .before .before .before .before .before .spread-list .ensures) (c .before .before .before .before .spread-run .ensures)),
+    )
+
+same-length : tie.Need-same-length
+same-length c = long-rows (returns c .1)
+
+same-length-2 : tie.Need-same-length-2
+same-length-2 c = long-counts (returns c .1) ∙ sym (long-counts (c .before .before .before .before .before .before .before .before .before .before .before .before .before .before .before .before .before .before .before .before .before .before .before .before .before .before .before .before .before .before .before .before .before .before .before .before .before .before .before .before .before .pre .0))
+
+same-length-3 : tie.Need-same-length-3
+same-length-3 c = c .before .before .before .before .before .before .before .before .before .before .before .before .before .before .before .before .before .before .before .before .before .before .before .before .before .before .before .before .before .before .before .take-out .kept .1 .1 .1 .1 .1 .1 .0
+
+pub event-tables-spec : {M : Type 1} → statement M
+event-tables-spec =
+    tie.close
+    (tie.spec
+    mul-low
+    add-smaller
+    (λ c κs. search needs)
+    take-out-requires
+    sub-clear-if
+    clear-if-requires
+    spread-list-requires
+    spread-run-requires
+    same-length
+    same-length-2
+    same-length-3
+    returns)

@@ -1,0 +1,29 @@
+-- `tracker::refresh` meets its contract.
+use mathlib.Core.Path.{_≡_, sym, _∙_}
+use borrow.Author.Needs.{needs}
+use Rattle.tracker.specs.Answers.{refresh-call, refresh-refusal, refresh-count, refresh-position, given}
+use Rattle.tracker.proofs.Passed.{refresh-refused}
+use Rattle.tracker.proofs.refresh.Statement.{statement}
+use Rattle.tracker.proofs.refresh.Tie as tie
+
+returns : tie.Need-returns
+unfolding refresh-call refresh-refusal refresh-count refresh-position
+returns c =
+    let a = c .before .before .before .before .before .before .before .before .args in
+    let k = c .before .refresh-refusal in
+    refresh-refused (a .s) (given (a .rows .now) (a .counts .now) (a .p)) (a .list .now) (k .result) (k .ensures) (c .if1 .taken)
+
+pub refresh-spec : {M : Type 1} → statement M
+refresh-spec =
+    tie.close
+    (tie.spec
+    (λ c κs. search needs)
+    (λ c. search needs)
+    (λ c. search needs)
+    (λ c. search needs)
+    returns
+    (λ c κs. sym (c .before .before .before .before .refresh-refusal .ensures) ∙ c .before .before .before .if1 .left)
+    (λ c. search needs)
+    (λ c. search needs)
+    (λ c. search needs)
+    (λ c. c .before .before .before .before .before .before .refresh-accepted .ensures))

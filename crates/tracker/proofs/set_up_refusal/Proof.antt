@@ -1,0 +1,22 @@
+-- `tracker::set_up_refusal` meets its contract.
+use mathlib.Core.Path.{_≡_, sym, _∙_}
+use borrow.Author.Needs.{needs}
+use Rattle.tracker.proofs.Passed.{set-up-tested, or-later-first, or-later-zero}
+use Rattle.tracker.proofs.set_up_refusal.Statement.{statement}
+use Rattle.tracker.proofs.set_up_refusal.Tie as tie
+
+returns : tie.Need-returns
+returns c =
+    let a = c .before .before .before .before .args in
+    rw (set-up-tested (a .s) (a .rows .now) (a .counts .now), ← c .before .settings-refusal .ensures) (or-later-first (c .before .settings-refusal .result) _ (c .if1 .taken))
+
+returns-2 : tie.Need-returns-2
+returns-2 c =
+    let a = c .before .before .before .before .before .before .args in
+    let k = c .before .before .before .settings-refusal in
+    rw (set-up-tested (a .s) (a .rows .now) (a .counts .now), or-later-zero _ _ (sym (k .ensures) ∙ c .before .before .if1 .left), ← c .before .are-long .ensures) (c .refuse-unless .ensures)
+
+pub set-up-refusal-spec : {M : Type 1} → statement M
+set-up-refusal-spec =
+    tie.close
+    (tie.spec (λ c κs. search needs) returns (λ c κs. search needs) (λ c κs. search needs) returns-2)
