@@ -1,0 +1,94 @@
+-- A text cut in two: behind the end of a line, or within a line, of which 64 bytes are enough.
+use mathlib.Core.Path.{_≡_, refl, ap, sym, _∙_}
+use mathlib.Core.Bool.{true, false}
+use mathlib.Core.Logic.{⊎-elim}
+use mathlib.Core.List.{List, [], _∷_, _++_, append-assoc, map-append}
+use Prim.Native.Nat.{ℕ, zero, suc, _+_, _≤_}
+use native.Mathlib.Omega.{arith}
+use lib.Dec.{eqb}
+use lib.ListN.{length, take, drop, length-append}
+use lib.Seq.{take-all, length-take-le, drop-append-add}
+use Rattle.device.specs.Refusal.{Outcome, refused}
+use Rattle.device.proofs.Cases.{split, le-or-lt}
+use Rattle.trace.specs.declared.Record.{Record}
+use Rattle.trace.specs.Numbers.{choose}
+use Rattle.trace.specs.Lines.{ended, extent}
+use Rattle.trace.specs.Reading.{Reading, reading, reading-by}
+use Rattle.trace.proofs.Choices.{clash}
+use Rattle.trace.proofs.Streams.{unended-refused}
+use Rattle.listing.specs.Steps.{Progress, next}
+use Rattle.listing.specs.Texts.{in-front, lines, whole, read, outcomes, listed, passed, listing, after}
+use Rattle.listing.proofs.Fronts.{lines-front, outcomes-front}
+
+-- behind the end of a line
+lines-cut : (a b : List ℕ) → whole a ≡ true → lines (a ++ b) ≡ lines a ++ lines b
+unfolding lines in-front whole choose
+lines-cut [] b h = refl
+lines-cut (x ∷ []) b h = rw h
+lines-cut (x ∷ y ∷ ys) b h =
+    split (eqb x 10)
+    (λ e. rw (e, lines-cut (y ∷ ys) b h))
+    (λ e. rw (e, lines-cut (y ∷ ys) b h, lines-front y ys))
+
+outcomes-cut : (a b : List ℕ) → whole a ≡ true → outcomes (a ++ b) ≡ outcomes a ++ outcomes b
+unfolding outcomes
+outcomes-cut a b h = rw (lines-cut a b h, map-append)
+
+listed-append : (g : Progress) (os ps : List (Outcome Record)) → listed g (os ++ ps) ≡ listed g os ++ listed (passed g os) ps
+unfolding listed passed
+listed-append g [] ps = refl
+listed-append g (o ∷ os) ps = rw (listed-append (next g o) os ps, append-assoc)
+
+passed-append : (g : Progress) (os ps : List (Outcome Record)) → passed g (os ++ ps) ≡ passed (passed g os) ps
+unfolding passed
+passed-append g [] ps = refl
+passed-append g (o ∷ os) ps = passed-append (next g o) os ps
+
+module _ (g : Progress) (a b : List ℕ) (h : whole a ≡ true) where
+  pub listing-cut : listing g (a ++ b) ≡ listing g a ++ listing (after g a) b
+  unfolding listing after
+  listing-cut = rw (outcomes-cut a b h) (listed-append g (outcomes a) (outcomes b))
+
+  pub after-cut : after g (a ++ b) ≡ after (after g a) b
+  unfolding after
+  after-cut = rw (outcomes-cut a b h) (passed-append g (outcomes a) (outcomes b))
+
+-- a line that is to go on, 64 bytes long: refused, whatever it is and wherever it ends
+refused-on : (u b : List ℕ) → ended u ≡ false → 64 ≤ length u → outcomes (u ++ b) ≡ refused 11 ∷ outcomes (drop (extent b) b)
+unfolding read reading reading-by
+refused-on u b e h =
+    let says = unended-refused u b 0 (omega arith) e in
+    let far : extent (u ++ b) ≡ length u + extent b = omega (arith, ap (λ (r : Reading). r .place) says) in
+    outcomes-front (u ++ b) (rw length-append (omega arith)) ∙
+    rw (ap (λ (r : Reading). r .outcome) says, far, drop-append-add)
+
+ended-less : (n : ℕ) (u : List ℕ) → ended u ≡ false → ended (take n u) ≡ false
+unfolding ended choose
+ended-less zero u h = refl
+ended-less (suc n) [] h = refl
+ended-less (suc n) (b ∷ u) h = split (eqb b 10) (λ e. clash (rw e at h)) (λ e. rw e (ended-less n u (rw e at h)))
+
+outcomes-kept : (u b : List ℕ) → ended u ≡ false → outcomes (u ++ b) ≡ outcomes (take 64 u ++ b)
+outcomes-kept u b e =
+    ⊎-elim
+    (λ h.
+    refused-on u b e h ∙ sym (refused-on (take 64 u) b (ended-less 64 u e) (omega (arith, length-take-le 64 u h))))
+    (λ h. rw (take-all 64 u (omega arith)))
+    (le-or-lt 64 (length u))
+
+module _ (g : Progress) (u b : List ℕ) (e : ended u ≡ false) where
+  listing-kept : listing g (u ++ b) ≡ listing g (take 64 u ++ b)
+  unfolding listing
+  listing-kept = rw (outcomes-kept u b e)
+
+  after-kept : after g (u ++ b) ≡ after g (take 64 u ++ b)
+  unfolding after
+  after-kept = rw (outcomes-kept u b e)
+
+-- a part of whole lines a and an unfinished one u: of u, the first 64 bytes are kept and go in front of the next part b
+module _ (g : Progress) (a u b : List ℕ) (h : whole a ≡ true) (e : ended u ≡ false) where
+  pub listing-part : listing g (a ++ u ++ b) ≡ listing g a ++ listing (after g a) (take 64 u ++ b)
+  listing-part = rw (append-assoc, listing-cut g a (u ++ b) h, listing-kept (after g a) u b e)
+
+  pub after-part : after g (a ++ u ++ b) ≡ after (after g a) (take 64 u ++ b)
+  after-part = rw (append-assoc, after-cut g a (u ++ b) h, after-kept (after g a) u b e)

@@ -1,0 +1,85 @@
+-- Texts printed one right behind another.
+use mathlib.Core.Path.{_≡_, refl, ap, sym, _∙_}
+use mathlib.Core.List.{List, [], _∷_, _++_, append-assoc, append-nil}
+use Prim.Native.Nat.{ℕ, _+_, _*_, _≤_, _<_}
+use native.Mathlib.Numerals.{add-one}
+use native.Mathlib.Nat.{add-zero}
+use native.Mathlib.Omega.{arith}
+use lib.ListN.{length, getD, take, drop, set, length-append, length-drop, take-append-drop}
+use lib.Seq.{take-at, drop-append-add, drop-drop, length-take-le, set-split, take-suc}
+use Rattle.trace.specs.Numbers.{printed, written}
+use Rattle.trace.proofs.Printing.{length-printed}
+use Rattle.listing.specs.Output.{row-columns, Prints}
+
+length-front : (b x : List ℕ) (at : ℕ) → at ≤ length b → length (take at b ++ x) ≡ at + length x
+length-front b x at h = rw (length-append, length-take-le at b h)
+
+length-written : (b x : List ℕ) (at : ℕ) → at + length x ≤ length b → length (written b at x) ≡ length b
+unfolding written
+length-written b x at h =
+    rw (length-append (take at b ++ x) (drop (at + length x) b), length-front b x at (omega arith), length-drop) (omega arith)
+
+drop-behind : (p q : List ℕ) (n m : ℕ) → length p ≡ n → drop (n + m) (p ++ q) ≡ drop m q
+drop-behind p q n m h = rw (sym h) (drop-append-add p q m)
+
+-- a text right behind another
+written-behind : (b : List ℕ) (at : ℕ) (x y : List ℕ) → at + length x ≤ length b → written (written b at x) (at + length x) y ≡ written b at (x ++ y)
+unfolding written
+written-behind b at x y h =
+    let front = length-front b x at (omega arith) in
+    let rest = drop (at + length x) b in
+    let all : at + length x + length y ≡ at + length (x ++ y) = omega (arith, length-append x y) in
+    rw (
+      take-at (take at b ++ x) rest (at + length x) front,
+      drop-behind (take at b ++ x) rest (at + length x) (length y) front,
+      drop-drop (length y) (at + length x) b,
+      all,
+    )
+    (simp append-assoc)
+
+pub prints-nothing : (b : List ℕ) (at : ℕ) → at ≤ length b → Prints b at [] b at
+unfolding written
+prints-nothing b at h =
+    record { fits = omega arith; holds = rw (append-nil, add-zero, take-append-drop); behind = omega arith }
+
+pub prints-byte : (b : List ℕ) (at x : ℕ) → at < length b → Prints b at (x ∷ []) (set b at x) (at + 1)
+unfolding written
+prints-byte b at x h =
+    record { fits = omega arith; holds = set-split b at x h ∙ rw (add-one, append-assoc); behind = refl }
+
+pub prints-number : {b c : List ℕ} (at k n : ℕ) → at + k ≤ length b → c ≡ written b at (printed k n) → Prints b at (printed k n) c (at + k)
+prints-number {b} {c} at k n h e =
+    let long = length-printed k n in
+    record { fits = omega arith; holds = e; behind = omega arith }
+
+-- the buffer stays as long as it was
+pub prints-long : {b c x : List ℕ} {at p : ℕ} → Prints b at x c p → length c ≡ length b
+prints-long {b} {c} {x} {at} {p} f = ap length (f .holds) ∙ length-written b x at (f .fits)
+
+pub prints-then : {b c d x y : List ℕ} {at p q : ℕ} → Prints b at x c p → Prints c p y d q → Prints b at (x ++ y) d q
+prints-then {b} {c} {d} {x} {y} {at} {p} {q} f s =
+    let long = prints-long f in
+    let both = length-append x y in
+    record {
+      fits = omega arith;
+      holds = s .holds ∙ rw (f .holds, f .behind) (written-behind b at x y (f .fits));
+      behind = omega arith;
+    }
+
+length-rows : (rows : List ℕ) → length (row-columns rows) ≡ 6 * length rows
+unfolding row-columns
+length-rows [] = refl
+length-rows (row ∷ rows) = rw length-append (omega (arith, length-printed 6 row, length-rows rows))
+
+pub length-taken : (rows : List ℕ) (i : ℕ) → i ≤ length rows → length (row-columns (take i rows)) ≡ 6 * i
+length-taken rows i h = length-rows (take i rows) ∙ rw (length-take-le i rows h)
+
+rows-append : (xs ys : List ℕ) → row-columns (xs ++ ys) ≡ row-columns xs ++ row-columns ys
+unfolding row-columns
+rows-append [] ys = refl
+rows-append (x ∷ xs) ys = rw (rows-append xs ys, append-assoc)
+
+-- one row more
+pub rows-on : (rows : List ℕ) (i : ℕ) → i < length rows → row-columns (take (i + 1) rows) ≡ row-columns (take i rows) ++ printed 6 (getD rows i 0)
+unfolding row-columns
+rows-on rows i h = rw (add-one i, take-suc rows i 0 h, rows-append, append-nil)

@@ -1,0 +1,38 @@
+-- `listing::print_bound` meets its contract: a byte, two numbers and a byte, each right behind the last.
+use native.Mathlib.Omega.{arith}
+use borrow.Author.Needs.{needs}
+use Prim.Native.Nat.{_*_}
+use Rattle.trace.proofs.Printing.{length-printed}
+use Rattle.listing.specs.Output.{bound-line}
+use Rattle.listing.proofs.Writing.{prints-then}
+use Rattle.listing.proofs.print_bound.Statement.{statement}
+use Rattle.listing.proofs.print_bound.Tie as tie
+
+print-columns-requires-2 : tie.Need-print-columns-requires-2
+print-columns-requires-2 c κs = omega (arith, length-printed 10 (c .before .before .before .before .before .before .before .before .before .before .args .h))
+
+print-byte-requires-2 : tie.Need-print-byte-requires-2
+print-byte-requires-2 c κs =
+    let h = c .before .before .before .before .before .before .before .before .before .before .before .before .before .before .args .h in
+    omega (arith, length-printed 10 h, length-printed 10 (2 * h))
+
+returns : tie.Need-returns
+unfolding bound-line
+returns c =
+    prints-then
+    (prints-then
+    (prints-then (c .before .before .before .before .before .before .before .before .before .before .before .before .before .before .print-byte .ensures) (c .before .before .before .before .before .before .before .before .before .before .print-columns .ensures))
+    (c .before .before .before .before .before .before .print-columns2 .ensures))
+    (c .before .before .print-byte2 .ensures)
+
+pub print-bound-spec : {M : Type 1} → statement M
+print-bound-spec =
+    tie.close
+    (tie.spec
+    (λ c κs. search needs)
+    (λ c κs. search needs)
+    (λ c. search needs)
+    print-columns-requires-2
+    print-byte-requires-2
+    (λ c. search needs)
+    returns)

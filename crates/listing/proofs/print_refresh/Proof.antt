@@ -1,0 +1,47 @@
+-- `listing::print_refresh` meets its contract: a byte, two numbers, the rows and a byte, each right behind the last.
+use native.Mathlib.Omega.{arith}
+use borrow.Author.Needs.{needs}
+use lib.Seq.{length-take-le}
+use Rattle.trace.proofs.Printing.{length-printed}
+use Rattle.listing.specs.Output.{refresh-line}
+use Rattle.listing.proofs.Writing.{prints-then, length-taken}
+use Rattle.listing.proofs.print_refresh.Statement.{statement}
+use Rattle.listing.proofs.print_refresh.Tie as tie
+
+print-columns-requires-2 : tie.Need-print-columns-requires-2
+print-columns-requires-2 c κs = omega (arith, length-printed 6 (c .before .before .before .before .before .before .before .before .before .before .before .args .e))
+
+print-rows-requires : tie.Need-print-rows-requires
+print-rows-requires c κs =
+    let a = c .before .before .before .before .before .before .before .before .before .before .before .before .before .before .before .args in
+    (omega arith, omega (arith, length-printed 6 (a .e), length-printed 6 (a .count)))
+
+print-byte-requires-2 : tie.Need-print-byte-requires-2
+print-byte-requires-2 c κs =
+    let a = c .before .before .before .before .before .before .before .before .before .before .before .before .before .before .before .before .before .before .before .args in
+    omega (arith, length-printed 6 (a .e), length-printed 6 (a .count), length-taken (a .picks .now) (a .count) (omega arith))
+
+returns : tie.Need-returns
+unfolding refresh-line
+returns c =
+    let a = c .before .before .before .before .before .before .before .before .before .before .before .before .before .before .before .before .before .before .before .before .before .before .args in
+    rw (length-take-le (a .count) (a .picks .now) (omega arith))
+    (prints-then
+    (prints-then
+    (prints-then
+    (prints-then (c .before .before .before .before .before .before .before .before .before .before .before .before .before .before .before .before .before .before .print-byte .ensures) (c .before .before .before .before .before .before .before .before .before .before .before .before .before .before .print-columns .ensures))
+    (c .before .before .before .before .before .before .before .before .before .before .print-columns2 .ensures))
+    (c .before .before .before .before .before .before .print-rows .ensures))
+    (c .before .before .print-byte2 .ensures))
+
+pub print-refresh-spec : {M : Type 1} → statement M
+print-refresh-spec =
+    tie.close
+    (tie.spec
+    (λ c κs. search needs)
+    (λ c κs. search needs)
+    print-columns-requires-2
+    print-rows-requires
+    print-byte-requires-2
+    (λ c. search needs)
+    returns)

@@ -1,0 +1,37 @@
+-- `listing::print_refusal` meets its contract: a byte, two numbers and a byte, each right behind the last.
+use Prim.Native.Nat.{_%_}
+use native.Mathlib.Omega.{arith}
+use borrow.Author.Needs.{needs}
+use Rattle.trace.proofs.Printing.{length-printed}
+use Rattle.listing.specs.Output.{refusal-line}
+use Rattle.listing.proofs.Writing.{prints-then}
+use Rattle.listing.proofs.print_refusal.Statement.{statement}
+use Rattle.listing.proofs.print_refusal.Tie as tie
+
+print-columns-requires-2 : tie.Need-print-columns-requires-2
+print-columns-requires-2 c κs = omega (arith, length-printed 10 (c .before .before .before .before .before .before .before .before .before .before .args .line % 10000000000))
+
+print-byte-requires-2 : tie.Need-print-byte-requires-2
+print-byte-requires-2 c κs =
+    let a = c .before .before .before .before .before .before .before .before .before .before .before .before .before .before .args in
+    omega (arith, length-printed 10 (a .line % 10000000000), length-printed 6 (a .k))
+
+returns : tie.Need-returns
+unfolding refusal-line
+returns c =
+    prints-then
+    (prints-then
+    (prints-then (c .before .before .before .before .before .before .before .before .before .before .before .before .before .before .print-byte .ensures) (c .before .before .before .before .before .before .before .before .before .before .print-columns .ensures))
+    (c .before .before .before .before .before .before .print-columns2 .ensures))
+    (c .before .before .print-byte2 .ensures)
+
+pub print-refusal-spec : {M : Type 1} → statement M
+print-refusal-spec =
+    tie.close
+    (tie.spec
+    (λ c κs. search needs)
+    (λ c κs. search needs)
+    print-columns-requires-2
+    print-byte-requires-2
+    (λ c. search needs)
+    returns)

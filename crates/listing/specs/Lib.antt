@@ -1,0 +1,4 @@
+-- The listing: what the program prints, line by line and for a whole text.
+pub mod Output
+pub mod Steps
+pub mod Texts
