@@ -15,11 +15,18 @@ use Rattle.summary.specs.Steps.{empty, in-rows, disturb, disturb-each, drop-row
 use Rattle.summary.specs.Tables.{table, entries-of, read}
 use Rattle.tracker.specs.State.{summary-of, state-of, zeros, ascending, counts-allowed, valid}
 use Rattle.tracker.specs.Calls.{victims-in, block-rows, ends-window, next-event, tables-long, set-up-tests, activation-tests, refresh-tests, kept-unless, set-up, activate, refresh}
+use Rattle.trace.specs.Numbers.{choose, is-digit, digits, number, field, digit-or-blank, columns-before, printed}
+use Rattle.trace.specs.Lines.{line, ended, extent}
+use Rattle.trace.specs.Records.{and-then, seven-settings, settings, activation as activation-record, refresh as refresh-record, record-of}
+use Rattle.trace.specs.Reading.{or-refused, reading-by, reading}
+use Rattle.listing.specs.Output.{bound-line, row-columns, refresh-line, refusal-line}
+use Rattle.listing.specs.Steps.{start, refused-step, set-up-step, answered, activation-step, refresh-step, record-step, line-step, step, next}
+use Rattle.listing.specs.Texts.{in-front, lines, read as read-line, outcomes, listed, listing}
 use Rattle.limit.specs.Run.{left-by, state-after}
 use Rattle.bound.specs.Totals.{size, total, disturbers, bound-at, bound-of}
 use Rattle.bound.specs.Least.{with-counters, meets, or-else, first-from, least-of}
 use Rattle.bound.specs.Answers.{bound-answer, least-answer, settings-of}
-use Rattle.figures.specs.Table.{Figure, numbers, remap-figure, bound-figure, least-figure, position-of, begun, state-numbers, traced, line-4, line-5, line-6, activations, shown, figures}
+use Rattle.figures.specs.Table.{Figure, numbers, remap-figure, bound-figure, least-figure, position-of, begun, state-numbers, traced, line-4, line-5, line-6, activations, trace-input, trace-output, shown, figures}
 
 same : List ℕ → List ℕ → Bool
 same [] [] = true
@@ -50,7 +57,7 @@ each (g ∷ gs) t f m =
 
 all-pass : T (every figures)
 unfolding
-    every same figures numbers remap-figure bound-figure least-figure position-of begun state-numbers traced line-4 line-5 line-6 activations shown
+    every same figures numbers remap-figure bound-figure least-figure position-of begun state-numbers traced line-4 line-5 line-6 activations trace-input trace-output shown
     first-failed unless refuse tested within rows-allowed diameter-allowed block-allowed settings-tests-with settings-tests settings-tests-but-counters
     remap-table physical rows-from rows-between victims
     size total disturbers bound-at bound-of with-counters meets or-else first-from least-of bound-answer least-answer settings-of
@@ -59,6 +66,11 @@ unfolding
     table entries-of read summary-of state-of zeros ascending counts-allowed valid
     victims-in block-rows ends-window next-event tables-long set-up-tests activation-tests refresh-tests kept-unless set-up activate refresh
     left-by state-after
+    choose is-digit digits number field digit-or-blank columns-before printed line ended extent
+    and-then seven-settings settings activation-record refresh-record record-of or-refused reading-by reading
+    bound-line row-columns refresh-line refusal-line
+    start refused-step set-up-step answered activation-step refresh-step record-step line-step step next
+    in-front lines read-line outcomes listed listing
 all-pass = tt
 
 pub figures-hold : (f : Figure) → List·Memᴰ f figures → f .defined ≡ f .given

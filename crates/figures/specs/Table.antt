@@ -9,6 +9,8 @@ use Rattle.tracker.specs.declared.Position.{Position}
 use Rattle.tracker.specs.State.{State}
 use Rattle.tracker.specs.Calls.{Refresh-call, Activation-call, set-up, activate, refresh}
 use Rattle.limit.specs.Run.{activation-of, state-after}
+use Rattle.listing.specs.Steps.{start}
+use Rattle.listing.specs.Texts.{listing}
 use Rattle.bound.specs.Answers.{bound-answer, least-answer, settings-of}
 
 pub record Figure : Type 0 where
@@ -69,6 +71,22 @@ unfoldable pub activations : ℕ → State
 activations zero = begun traced
 activations (suc k) = activate traced (activations k) 8 .state
 
+-- the trace's input, a line to a row, and its output whole
+unfoldable pub trace-input : List ℕ
+trace-input =
+    83 ∷ 32 ∷ 32 ∷ 32 ∷ 32 ∷ 49 ∷ 54 ∷ 32 ∷ 32 ∷ 32 ∷ 32 ∷ 32 ∷ 50 ∷ 32 ∷ 32 ∷ 32 ∷ 32 ∷ 32 ∷ 49 ∷ 32 ∷ 32 ∷ 32 ∷ 32 ∷ 32 ∷ 50 ∷ 32 ∷ 32 ∷ 32 ∷ 32 ∷ 32 ∷ 52 ∷ 32 ∷ 32 ∷ 32 ∷ 32 ∷ 32 ∷ 52 ∷ 32 ∷ 32 ∷ 32 ∷ 32 ∷ 32 ∷ 52 ∷ 10 ∷
+    65 ∷ 32 ∷ 32 ∷ 32 ∷ 32 ∷ 32 ∷ 53 ∷ 10 ∷
+    65 ∷ 32 ∷ 32 ∷ 32 ∷ 32 ∷ 32 ∷ 53 ∷ 10 ∷
+    65 ∷ 32 ∷ 32 ∷ 32 ∷ 32 ∷ 32 ∷ 50 ∷ 10 ∷
+    82 ∷ 10 ∷
+    65 ∷ 32 ∷ 32 ∷ 32 ∷ 32 ∷ 49 ∷ 54 ∷ 10 ∷ []
+
+unfoldable pub trace-output : List ℕ
+trace-output =
+    66 ∷ 32 ∷ 32 ∷ 32 ∷ 32 ∷ 32 ∷ 32 ∷ 32 ∷ 32 ∷ 51 ∷ 48 ∷ 32 ∷ 32 ∷ 32 ∷ 32 ∷ 32 ∷ 32 ∷ 32 ∷ 32 ∷ 54 ∷ 48 ∷ 10 ∷
+    82 ∷ 32 ∷ 32 ∷ 32 ∷ 32 ∷ 32 ∷ 48 ∷ 32 ∷ 32 ∷ 32 ∷ 32 ∷ 32 ∷ 49 ∷ 32 ∷ 32 ∷ 32 ∷ 32 ∷ 32 ∷ 52 ∷ 10 ∷
+    88 ∷ 32 ∷ 32 ∷ 32 ∷ 32 ∷ 32 ∷ 32 ∷ 32 ∷ 32 ∷ 32 ∷ 54 ∷ 32 ∷ 32 ∷ 32 ∷ 32 ∷ 32 ∷ 57 ∷ 10 ∷ []
+
 -- what document 01 gives, and what the definitions give
 unfoldable pub shown : List ℕ → List ℕ → Figure
 shown given defined = record { given = given; defined = defined }
@@ -77,6 +95,7 @@ unfoldable pub figures : List Figure
 figures =
     remap-figure 2 3 ∷
     remap-figure 17 17 ∷
+    shown trace-output (listing start trace-input) ∷
     shown (4 ∷ 6 ∷ 3 ∷ 2 ∷ 0 ∷ 3 ∷ 2 ∷ 1 ∷ []) (state-numbers line-4) ∷
     shown (0 ∷ 1 ∷ 4 ∷ 9 ∷ 9 ∷ []) (line-5 .refusal ∷ line-5 .count ∷ line-5 .picks) ∷
     shown (3 ∷ 4 ∷ 4 ∷ 5 ∷ 1 ∷ 0 ∷ 2 ∷ 4 ∷ []) (state-numbers (line-5 .state)) ∷

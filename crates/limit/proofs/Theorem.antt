@@ -110,9 +110,10 @@ activation-runs s st row r rows counts kept =
 
 pub refresh-runs : (s : Settings) (st : State) (picks : List ℕ) (r : Refreshed) (rows counts list : List ℕ) → refresh-call r rows counts list ≡ refresh s st picks → (given rows counts (refresh-position r) ≡ left-by s (refresh-into picks) st) × (refreshed (eqb (refresh-refusal r) 0) (take (refresh-count r) list) ≡ told-by s (refresh-into picks) st)
 unfolding refresh-call left-by told-by
-refresh-runs s st picks r rows counts list kept =
-    (ap (λ (c : Refresh-call). c .state) kept,
-      ap (λ (c : Refresh-call). refreshed (eqb (c .refusal) 0) (take (c .count) (c .picks))) kept)
+refresh-runs s st picks r rows counts list kept = (
+  ap (λ (c : Refresh-call). c .state) kept,
+  ap (λ (c : Refresh-call). refreshed (eqb (c .refusal) 0) (take (c .count) (c .picks))) kept,
+)
 
 pub set-up-begins : (s : Settings) (p : Position) (r : SetUp) (rows₀ counts₀ rows counts : List ℕ) → set-up-call r rows counts ≡ set-up s rows₀ counts₀ → set-up-outcome r ≡ accepted-with p → Begun s (given rows counts p)
 unfolding set-up-call given
@@ -122,5 +123,5 @@ set-up-begins s p r rows₀ counts₀ rows counts kept ready =
       counts = counts₀;
       accepts = sym (ap (λ (c : SetUp-call). c .answer) kept) ∙ ready;
       rows-left = ap (λ (c : SetUp-call). c .rows) kept;
-      counts-left = ap (λ (c : SetUp-call). c .counts) kept
+      counts-left = ap (λ (c : SetUp-call). c .counts) kept;
     }
