@@ -1,14 +1,14 @@
 #!/usr/bin/env python3
 """Compares the library's set up, activation, refresh event and agreement with the plain model.
 
-    rt staticlib tracker
-    python3 tests/calls/compare.py [--seed N] [--archive FILE]
+    rt check replay
+    python3 tests/calls/compare.py [--seed N] [--program FILE]
 
-Builds the model and answers.c, then compares the number and all lent memory after each call: on
-edges of document 01, on runs, on states that no run reaches, on states that break one rule each,
-and on refused calls, with one fixed and one fresh seed (--seed repeats a fresh one). The model's
-number is also held against the one that the case was made for. Queries and answers stay in
-target/calls/.
+The program of crates/replay makes the library's calls. Builds the model, then compares the number
+and all lent memory after each call: on edges of document 01, on runs, on states that no run
+reaches, on states that break one rule each, and on refused calls, with one fixed and one fresh seed
+(--seed repeats a fresh one). The model's number is also held against the one that the case was made
+for. Queries and answers stay in target/calls/.
 Exit status: 0 all equal; 1 a difference; 2 something is missing or cannot be built.
 """
 
@@ -17,25 +17,24 @@ import collections
 import os
 import pathlib
 import random
+import struct
 import subprocess
 import sys
 
 sys.dont_write_bytecode = True
 sys.path.insert(0, str(pathlib.Path(__file__).resolve().parents[1]))
 from comparison import (
-    BLOCK, BUILD_MODEL, COUNTERS, C_FLAGS, DIAMETER, FIXED_SEED, INTERVAL, MODEL, ROOT, ROWS, Run,
-    Tally, U32, VOLUME, WINDOW, arguments_with_seeds, build, changed, give_up, read_figures,
+    BLOCK, BUILD_MODEL, COUNTERS, DIAMETER, FIXED_SEED, INTERVAL, MODEL, ROOT, ROWS, Run, Tally,
+    TIME_LIMIT, U32, VOLUME, WINDOW, arguments_with_seeds, build, changed, give_up, read_figures,
 )
 from states import (
-    ACTIVATIONS, BROKEN_RULES, EVENTS, MAX_COUNT, SPILLOVER, State, TRACKED, any_settings,
+    ACTIVATIONS, BROKEN_RULES, EVENTS, MAX_COUNT, PLACES, SPILLOVER, State, TRACKED, any_settings,
     bad_value, block_of, garbage, listed, physical_row, random_logical_row, resize,
     state_of, valid_state, victims,
 )
 
-HERE = "tests/calls"
 OUT = "target/calls"
 EXAMPLE = "tests/listing/example.calls"
-ANSWERS = f"{OUT}/answers"
 MODEL_CALLS = [MODEL, "calls"]
 
 # The number that the model has to give is None where only the model knows it.
@@ -59,11 +58,117 @@ def query(case):
 def answered(case, answer):
     """The number of an answer line and the state that it hands back."""
     numbers = [int(word) for word in answer.split()]
-    lists, place = [], 1
-    for _ in range(3):
+    lists = read_lists(numbers[1:], 3)[0]
+    return numbers[0], State(case.state.settings, *lists)
+
+
+def read_lists(numbers, count):
+    """This many lists, each behind its length, and the numbers behind them."""
+    lists, place = [], 0
+    for _ in range(count):
         lists.append(numbers[place + 1:place + 1 + numbers[place]])
         place += 1 + numbers[place]
-    return numbers[0], State(case.state.settings, *lists)
+    return lists, numbers[place:]
+
+
+def read_query(text):
+    """The case of a query."""
+    call, *words = text.split()
+    state, rest = read_state([int(word) for word in words])
+    if call == "activate":
+        return case(call, state, rest[0])
+    if call == "refresh":
+        return case(call, state, read_lists(rest, 1)[0][0])
+    if call == "agree":
+        return case(call, state, read_state(rest)[0])
+    return case(call, state)
+
+
+def read_state(numbers):
+    lists, rest = read_lists(numbers[7:], 3)
+    return State(tuple(numbers[:7]), *lists), rest
+
+
+# The program of crates/replay: requests and answers of 32-bit words, the lowest byte first
+#
+# A request: the call, settings, position, row, lengths of both tables and of the list, rows,
+# counts, list; then the second state of an agreement: settings, position, lengths, rows, counts.
+# An answer: the refusal or 0, the value, the position, rows, counts, list, all as after the call.
+
+CALLS = ("set_up", "activate", "refresh", "agree")
+PICKS = 32  # places for the list
+REQUEST = struct.Struct(f"<{16 + 2 * PLACES + PICKS + 13 + 2 * PLACES}I")
+ANSWER = struct.Struct(f"<{6 + 2 * PLACES + PICKS}I")
+MARGIN = 0xb5a2c3d4  # stands behind every list and has to stay there
+
+
+def padded(numbers, places):
+    if len(numbers) > places:
+        give_up(f"{len(numbers)} numbers in place of at most {places}")
+    return [*numbers, *[MARGIN] * (places - len(numbers))]
+
+
+def lengths_and_tables(state):
+    lengths = [len(state.rows), len(state.counts)]
+    return lengths, padded(state.rows, PLACES) + padded(state.counts, PLACES)
+
+
+def request(case):
+    row = case.argument if case.call == "activate" else 0
+    picks = case.argument if case.call == "refresh" else []
+    other = case.argument if case.call == "agree" else State((0,) * 7, [], [], [0] * 4)
+    lengths, tables = lengths_and_tables(case.state)
+    lengths2, tables2 = lengths_and_tables(other)
+    return REQUEST.pack(
+        CALLS.index(case.call), *case.state.settings, *case.state.position, row, *lengths,
+        len(picks), *tables, *padded(picks, PICKS),
+        *other.settings, *other.position, *lengths2, *tables2)
+
+
+def answer_line(case, answer):
+    """The program's answer as the model prints it; what the program lends shared stays."""
+    refusal, value, *position = answer[:6]
+    rows, counts = answer[6:6 + PLACES], answer[6 + PLACES:6 + 2 * PLACES]
+    picks = answer[6 + 2 * PLACES:]
+    problem = ""
+    if case.call == "set_up" and refusal:
+        # A refused set up has no position to hand back.
+        problem = " position" if any(position) else ""
+        position = case.state.position
+    if refusal and value:
+        problem += " value"
+    lists = [(rows, len(case.state.rows)), (counts, len(case.state.counts)), (position, 4)]
+    given = len(case.argument) if case.call == "refresh" else 0
+    for numbers, length in (*lists, (picks, given)):
+        if any(number != MARGIN for number in numbers[length:]):
+            problem += " outside"
+    if case.call == "refresh":
+        lists.append((picks, given))
+    parts = [str(-refusal if refusal else value)]
+    parts += [listed(numbers[:length]) for numbers, length in lists]
+    if case.call == "agree":
+        other = case.argument
+        parts += [listed(numbers) for numbers in (other.rows, other.counts, other.position)]
+    return " ".join(parts) + problem
+
+
+def library_answers(program, cases, path):
+    """One line for each case, or None behind the point where the program stopped."""
+    with open(f"{path}.queries", "wb") as file:
+        file.writelines(map(request, cases))
+    with open(f"{path}.queries", "rb") as source, open(f"{path}.answers", "wb") as sink:
+        try:
+            run = subprocess.run([program], stdin=source, stdout=sink, timeout=TIME_LIMIT)
+            status = run.returncode
+        except subprocess.TimeoutExpired:
+            status = f"none within {TIME_LIMIT} seconds"
+    with open(f"{path}.answers", "rb") as file:
+        answers = file.read()
+    if status != 0 or len(answers) != ANSWER.size * len(cases):
+        print(f"  replay: exit status {status}, {len(answers)} bytes for {len(cases)} answers")
+    whole = answers[:len(answers) // ANSWER.size * ANSWER.size]
+    lines = [answer_line(*pair) for pair in zip(cases, ANSWER.iter_unpack(whole))]
+    return lines + [None] * (len(cases) - len(lines))
 
 
 # Edges of document 01
@@ -212,7 +317,7 @@ def all_rows_tracked(rng, one, other):
 def other_counters(rng, one, other):
     """The same summary in tables of another length, under other settings."""
     counters = one.settings[COUNTERS] + rng.randint(1, 3)
-    if counters > 2048:
+    if counters > PLACES:
         return None
     settings = changed(one.settings, (COUNTERS, counters), (VOLUME, 1), (INTERVAL, 4096))
     other = state_of(settings, one.tracked(), one.position[SPILLOVER])
@@ -439,12 +544,13 @@ EXPECTED_KINDS = (
 )
 
 
-def check_example(tally):
+def check_example(tally, program):
     """Document 01's example trace as calls, with answers written by hand."""
     tally.begin("document 01's example")
     queries, expected = read_figures(EXAMPLE)
     model = Run(MODEL_CALLS, queries, f"{OUT}/example.model").finish_model()
-    library = Run([ANSWERS], queries, f"{OUT}/example.library").finish_library()
+    cases = [read_query(query) for query in queries]
+    library = library_answers(program, cases, f"{OUT}/example.library")
     for side, answers in (("model", model), ("library", library)):
         for query, wanted, answer in zip(queries, expected, answers):
             message = f"{query}: written is {wanted}, the {side} gives {answer}"
@@ -455,12 +561,12 @@ def short(text):
     return text if len(text) <= 300 else f"{text[:300]}... ({len(text)} bytes)"
 
 
-def compare(tally, kinds, cases, name):
+def compare(tally, kinds, program, cases, name):
     tally.begin(f"{name}: {len(cases)} calls")
     queries = [query(case) for case in cases]
     model = Run(MODEL_CALLS, queries, f"{OUT}/{name}.model")
-    library = Run([ANSWERS], queries, f"{OUT}/{name}.library")
-    answers = zip(cases, queries, model.finish_model(), library.finish_library())
+    library = library_answers(program, cases, f"{OUT}/{name}.library")
+    answers = zip(cases, queries, model.finish_model(), library)
     for line, (case, text, wanted, answer) in enumerate(answers, 1):
         kinds.update(kinds_of(case, wanted))
         number = int(wanted.split()[0])
@@ -474,23 +580,22 @@ def compare(tally, kinds, cases, name):
 
 def main():
     parser = argparse.ArgumentParser(description="Compares the tracker's calls with the model.")
-    parser.add_argument("--archive", default=ROOT / "target/staticlib/libtracker.a",
-                        help="in place of target/staticlib/libtracker.a")
+    parser.add_argument("--program", default=ROOT / "target/bin/replay",
+                        help="in place of target/bin/replay")
     arguments, fresh_seed = arguments_with_seeds(parser)
-    archive = os.path.abspath(arguments.archive)
-    if not os.path.exists(archive):
-        give_up(f"{archive} is missing; `rt staticlib tracker` writes it")
+    program = os.path.abspath(arguments.program)
+    if not os.path.exists(program):
+        give_up(f"{program} is missing; `rt check replay` writes it")
 
     os.chdir(ROOT)
-    build(OUT, BUILD_MODEL,
-          ["cc", "-std=c99", *C_FLAGS, f"{HERE}/answers.c", archive, "-o", ANSWERS])
+    build(OUT, BUILD_MODEL)
     tally = Tally()
     kinds = collections.Counter()
-    check_example(tally)
+    check_example(tally, program)
     model = Model()
-    compare(tally, kinds, list(edge_cases()), "edges")
-    compare(tally, kinds, list(random_cases(random.Random(FIXED_SEED), model)), "fixed")
-    compare(tally, kinds, list(random_cases(random.Random(fresh_seed), model)), "fresh")
+    compare(tally, kinds, program, list(edge_cases()), "edges")
+    compare(tally, kinds, program, list(random_cases(random.Random(FIXED_SEED), model)), "fixed")
+    compare(tally, kinds, program, list(random_cases(random.Random(fresh_seed), model)), "fresh")
     model.close()
     tally.begin("how often each kind of call occurred")
     tally.check_kinds(kinds, EXPECTED_KINDS)

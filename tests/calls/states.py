@@ -1,7 +1,7 @@
 """States of a tracker as the calls are lent them: accepted ones, and ones that break one rule.
 
-A State is the settings, the two tables and the position; it is written in a query as answers.c
-and the model's calls read it.
+A State is the settings, the two tables and the position; it is written in a query as the model's
+calls read it. Tables have at most PLACES places, as the program of crates/replay has.
 """
 
 import copy
@@ -9,11 +9,12 @@ import dataclasses
 
 from comparison import (
     BLOCK, COUNTERS, DIAMETER, INTERVAL, MAX_COUNTERS, ROWS, U32, VOLUME, WINDOW,
-    accepted_settings, spread,
+    accepted_settings, changed, spread,
 )
 
 EVENTS, ACTIVATIONS, TRACKED, SPILLOVER = range(4)
 MAX_COUNT = 2_000_000_000
+PLACES = 64
 
 
 def listed(numbers):
@@ -77,15 +78,16 @@ def small_settings(rng):
                            rows + 3, 64))
     block = rng.choice((1, 2, 3, 4, 5, 8, 16, 17, 64))
     shortest = -(-rows // block)
-    return (rows, rng.choice((2, 4)), volume, max(volume, counters),
+    return (rows, rng.choice((2, 4)), volume, min(max(volume, counters), PLACES),
             rng.choice((1, 2, 4, 4, 8, 100, 4096)), shortest + rng.choice((0, 0, 1, 3, 10)), block)
 
 
 def any_settings(rng):
-    """Mostly small; now and then of any size."""
+    """Mostly small; now and then of any size but the counters'."""
     if rng.random() < 0.97:
         return small_settings(rng)
-    return accepted_settings(rng, spread(rng, 1, 8192))
+    settings = accepted_settings(rng, spread(rng, 1, 8192))
+    return changed(settings, (COUNTERS, rng.randint(settings[VOLUME], PLACES)))
 
 
 def random_spillover(rng):
@@ -285,7 +287,8 @@ def bad_value(rng, settings, field):
 
 def resize(rng, table, wrong):
     """Gives a table another length than it has; `wrong` holds filling numbers."""
-    length = rng.choice((len(table) - 1, len(table) + 1, 0, 2 * len(table)))
+    lengths = (len(table) - 1, len(table) + 1, 0, 2 * len(table))
+    length = rng.choice([length for length in lengths if length <= PLACES])
     if length < len(table):
         del table[length:]
     else:
