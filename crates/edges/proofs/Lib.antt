@@ -1,0 +1,3 @@
+-- The edges computed from the definitions.
+pub mod Computed
+pub mod Fresh

@@ -1,0 +1,14 @@
+-- `edges::smallest_bank` meets its contract: the callee's answer, computed.
+use mathlib.Core.Path.{_∙_}
+use borrow.Author.Needs.{needs}
+use Rattle.edges.specs.Numbers.{with-volume, standing, zeros-at}
+use Rattle.edges.proofs.Computed.{edges-hold}
+use Rattle.edges.proofs.smallest_bank.Statement.{statement}
+use Rattle.edges.proofs.smallest_bank.Tie as tie
+
+returns : tie.Need-returns
+unfolding with-volume standing zeros-at
+returns c = c .set-up-two .ensures ∙ edges-hold .smallest-bank
+
+pub smallest-bank-spec : {M : Type 1} → statement M
+smallest-bank-spec = tie.close (tie.spec (λ c κs. search needs) returns)

@@ -1,0 +1,3 @@
+-- What the edge cases hold.
+pub mod Numbers
+pub mod Edges
