@@ -6,3 +6,4 @@ pub mod Instance
 pub mod Carry
 pub mod Invariant
 pub mod Theorem
+pub mod Further

@@ -37,7 +37,7 @@ unfolding state-after happened after-all present-after-all
 kept-calls s ok [] k = k
 kept-calls s ok (c ∷ cs) k = kept-calls s ok cs (kept-call s ok c k)
 
-kept-run : {s : Settings} {st : State} → Begun s st → (calls : List Command) → Kept s (state-after s calls st) (exact s (happened s calls st)) (present s (happened s calls st))
+pub kept-run : {s : Settings} {st : State} → Begun s st → (calls : List Command) → Kept s (state-after s calls st) (exact s (happened s calls st)) (present s (happened s calls st))
 unfolding exact present
 kept-run {s} b calls = kept-calls s (begun-accepted b) calls (kept-begins b)
 

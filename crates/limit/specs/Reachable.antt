@@ -35,3 +35,10 @@ unfoldable pub Window-figure : Type 0
 Window-figure =
     (s : Settings) (st : State) → Begun s st → (calls : List Command) (row : ℕ) →
     present s (happened s calls st) .disturbance row ≤ bound-at s (state-after s calls st .position .events + 1)
+
+-- a state that some list of calls reaches after an accepted setting up
+pub record Reached (s : Settings) (st : State) : Type 0 where
+  pub begun : State
+  pub starts : Begun s begun
+  pub calls : List Command
+  pub leads : st ≡ state-after s calls begun

@@ -2,3 +2,8 @@
 pub mod Fronts
 pub mod Cuts
 pub mod Writing
+pub mod Accepts
+pub mod Turns
+pub mod Parts
+pub mod Alike
+pub mod Settled

@@ -2,3 +2,4 @@
 pub mod Output
 pub mod Steps
 pub mod Texts
+pub mod Carried

@@ -1,9 +1,33 @@
 // The listing: what the program prints for a trace, into a lent buffer.
+mod line;
+
+use device::Settings;
+use tracker::Position;
 ghost use Prim.Native.Nat.{_+_, _*_, _≤_, _<_};
 ghost use mathlib.Core.List.{[], _∷_};
 ghost use lib.ListN.{length, take};
 ghost use Rattle.trace.specs.Numbers.{printed};
 ghost use Rattle.listing.specs.Output.{bound-line, row-columns, refresh-line, refusal-line, Prints};
+
+// Where a listing is: whether a tracker stands, its settings and position, and the lines so far modulo 10,000,000,000.
+pub struct Place {
+    pub stands: bool,
+    pub settings: Settings,
+    pub position: Position,
+    pub lines: u64,
+}
+
+// What a line left of a tracker that stands: its position, and the place behind what was printed.
+pub struct Moved {
+    pub position: Position,
+    pub end: usize,
+}
+
+// Where the listing is behind a line, and the place behind what was printed.
+pub struct Listed {
+    pub place: Place,
+    pub end: usize,
+}
 
 // A byte at a place; the place behind it.
 fn print_byte(out: &mut [u8], at: usize, b: u8) -> usize

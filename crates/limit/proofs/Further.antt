@@ -1,0 +1,93 @@
+-- A reached state: one more call reaches one, it is valid, and its calls are refused with 9, 22 or 10 only.
+use mathlib.Core.Path.{_≡_, refl, sym, _∙_, ap}
+use mathlib.Core.Bool.{Bool, true, false, not}
+use mathlib.Core.List.{List, [], _∷_, _++_}
+use Prim.Native.Nat.{ℕ, _≤_, _<_}
+use lib.Dec.{ltb, leb}
+use lib.ListN.{length}
+use Rattle.device.specs.declared.Settings.{Settings}
+use Rattle.device.specs.Refusal.{first-failed, refuse}
+use Rattle.device.specs.Acceptance.{settings-tests}
+use Rattle.device.proofs.Accepted.{accepted}
+use Rattle.summary.specs.Steps.{Summary}
+use Rattle.tracker.specs.State.{State, state-of, valid}
+use Rattle.tracker.specs.Calls.{tables-long, activate, refresh, activation-tests, refresh-tests}
+use Rattle.tracker.proofs.LaidOut.{long-enough}
+use Rattle.tracker.proofs.Refusals.{Held, held-valid, activation-refusals, refresh-refusals}
+use Rattle.limit.specs.Run.{Command, activation-of, refresh-into, left-by, state-after, Begun}
+use Rattle.limit.specs.Reachable.{Reached}
+use Rattle.limit.proofs.Instance.{held}
+use Rattle.limit.proofs.Invariant.{Kept, begun-accepted}
+use Rattle.limit.proofs.Theorem.{kept-run}
+
+-- a list of calls behind another
+state-after-append : (s : Settings) (cs ds : List Command) (st : State) → state-after s (cs ++ ds) st ≡ state-after s ds (state-after s cs st)
+unfolding state-after
+state-after-append s [] ds st = refl
+state-after-append s (c ∷ cs) ds st = state-after-append s cs ds (left-by s c st)
+
+pub reached-set-up : {s : Settings} {st : State} → Begun s st → Reached s st
+unfolding state-after
+reached-set-up {s} {st} b = record { begun = st; starts = b; calls = []; leads = refl }
+
+pub reached-call : {s : Settings} {st : State} (c : Command) → Reached s st → Reached s (left-by s c st)
+unfolding state-after
+reached-call {s} {st} c r =
+    record {
+      begun = r .begun;
+      starts = r .starts;
+      calls = r .calls ++ c ∷ [];
+      leads = ap (λ (x : State). left-by s c x) (r .leads) ∙ sym (state-after-append s (r .calls) (c ∷ []) (r .begun));
+    }
+
+pub reached-activation : {s : Settings} {st : State} (row : ℕ) → Reached s st → Reached s (activate s st row .state)
+unfolding left-by
+reached-activation row r = reached-call (activation-of row) r
+
+pub reached-refresh : {s : Settings} {st : State} (picks : List ℕ) → Reached s st → Reached s (refresh s st picks .state)
+unfolding left-by
+reached-refresh picks r = reached-call (refresh-into picks) r
+
+pub reached-settled : {s : Settings} {st : State} → Reached s st → first-failed (settings-tests s) ≡ 0
+reached-settled r = begun-accepted (r .starts)
+
+-- the summary that a reached state holds
+record Summed (s : Settings) (st : State) : Type 0 where
+  events : ℕ
+  activations : ℕ
+  sum : Summary
+  stored : st ≡ state-of s events activations sum
+  holds : Held s events activations sum
+
+summed : {s : Settings} {st : State} → Reached s st → Summed s st
+summed {s} {st} r =
+    let k = kept-run (r .starts) (r .calls) in
+    let i = k .inv in
+    record {
+      events = k .events;
+      activations = k .activations;
+      sum = k .sum;
+      stored = r .leads ∙ k .stored;
+      holds = held s (accepted s (reached-settled r)) (i .window) (i .few) (i .within) (i .early);
+    }
+
+pub reached-valid : {s : Settings} {st : State} → Reached s st → valid s st ≡ true
+reached-valid {s} r =
+    let k = summed r in
+    rw (k .stored) (held-valid s (k .events) (k .activations) (k .sum) (reached-settled r) (k .holds))
+
+pub reached-long : {s : Settings} {st : State} → Reached s st → tables-long s (st .rows) (st .counts) ≡ true
+reached-long {s} r =
+    let k = summed r in
+    rw (k .stored) (long-enough s (k .events) (k .activations) (k .sum) (k .holds .sound .fits))
+
+pub activation-refused-with : {s : Settings} {st : State} → Reached s st → (row : ℕ) → first-failed (activation-tests s st row) ≡ refuse (not (ltb row (s .rows))) 9 (refuse (not (ltb (st .position .activations) (s .interval))) 22 0)
+unfolding state-of
+activation-refused-with {s} r row =
+    let k = summed r in
+    rw (k .stored) (activation-refusals s (k .events) (k .activations) (k .sum) (reached-settled r) (k .holds) row)
+
+pub refresh-refused-with : {s : Settings} {st : State} → Reached s st → (picks : List ℕ) → first-failed (refresh-tests s st picks) ≡ refuse (not (leb (s .volume) (length picks))) 10 0
+refresh-refused-with {s} r picks =
+    let k = summed r in
+    rw (k .stored) (refresh-refusals s (k .events) (k .activations) (k .sum) (reached-settled r) (k .holds) picks)

@@ -1,0 +1,74 @@
+-- Calls on a reached state: which are refused, and that an event does the same whatever the lent list held.
+use mathlib.Core.Path.{_≡_, refl, sym, _∙_, ap}
+use mathlib.Core.Bool.{Bool, true, false, not}
+use mathlib.Core.List.{List, [], _∷_, _++_}
+use Prim.Native.Nat.{ℕ, _+_, _≤_, _<_}
+use native.Mathlib.Omega.{arith}
+use borrow.Author.Tests.{le-ltb, lt-ltb, le-leb}
+use lib.Dec.{ltb, leb}
+use lib.ListN.{length, take, drop}
+use lib.Seq.{take-at}
+use Rattle.device.specs.declared.Settings.{Settings}
+use Rattle.device.specs.Refusal.{first-failed, refuse}
+use Rattle.summary.specs.Steps.{picked}
+use Rattle.summary.proofs.Distinct.{picks-few}
+use Rattle.tracker.specs.State.{State, summary-of}
+use Rattle.tracker.specs.Calls.{Activation-call, Refresh-call, kept-unless, activation-tests, refresh-tests, activate, refresh}
+use Rattle.tracker.proofs.Passed.{activation-refused, activation-done}
+use Rattle.limit.specs.Reachable.{Reached}
+use Rattle.limit.proofs.Further.{activation-refused-with, refresh-refused-with}
+
+module _ {s : Settings} {st : State} (r : Reached s st) where
+  pub row-outside : (row : ℕ) → s .rows ≤ row → record { refusal = 9; state = st } ≡ activate s st row
+  unfolding refuse
+  row-outside row h =
+      let nine : first-failed (activation-tests s st row) ≡ 9 = activation-refused-with r row ∙ rw (le-ltb row (s .rows) h) in
+      activation-refused s st row 9 (sym nine) (λ e. omega arith)
+
+  pub interval-full : (row : ℕ) → row < s .rows → s .interval ≤ st .position .activations → record { refusal = 22; state = st } ≡ activate s st row
+  unfolding refuse
+  interval-full row b h =
+      let full : first-failed (activation-tests s st row) ≡ 22 =
+      activation-refused-with r row ∙ rw (lt-ltb row (s .rows) b, le-ltb (st .position .activations) (s .interval) h) in
+      activation-refused s st row 22 (sym full) (λ e. omega arith)
+
+  pub activation-accepted : (row : ℕ) → row < s .rows → st .position .activations < s .interval → first-failed (activation-tests s st row) ≡ 0
+  unfolding refuse
+  activation-accepted row b h =
+      activation-refused-with r row ∙ rw (lt-ltb row (s .rows) b, lt-ltb (st .position .activations) (s .interval) h)
+
+  pub event-accepted : (picks : List ℕ) → s .volume ≤ length picks → first-failed (refresh-tests s st picks) ≡ 0
+  unfolding refuse
+  event-accepted picks h = refresh-refused-with r picks ∙ rw (le-leb (s .volume) (length picks) h)
+
+-- what an accepted event is, whatever the list held
+pub record Event (s : Settings) (st : State) (picks : List ℕ) : Type 0 where
+  pub free : refresh s st picks .refusal ≡ 0
+  pub counted : refresh s st picks .count ≡ length (picked (s .volume) (summary-of st))
+  pub named : take (refresh s st picks .count) (refresh s st picks .picks) ≡ picked (s .volume) (summary-of st)
+
+module _ {s : Settings} {st : State} (r : Reached s st) where
+  pub event-is : (picks : List ℕ) → s .volume ≤ length picks → Event s st picks
+  unfolding refresh kept-unless
+  event-is picks h =
+      let none = event-accepted r picks h in
+      let named = picked (s .volume) (summary-of st) in
+      record {
+        free = none;
+        counted = rw none;
+        named = rw none (take-at named (drop (length named) picks) (length named) refl);
+      }
+
+  -- what the lent list held does not matter to the state
+  pub event-leaves : (picks picks′ : List ℕ) → s .volume ≤ length picks → s .volume ≤ length picks′ → refresh s st picks .state ≡ refresh s st picks′ .state
+  unfolding refresh kept-unless
+  event-leaves picks picks′ h h′ = rw (event-accepted r picks h, event-accepted r picks′ h′)
+
+  -- nor to the rows that it names
+  pub event-names : (picks picks′ : List ℕ) → s .volume ≤ length picks → s .volume ≤ length picks′ → take (refresh s st picks .count) (refresh s st picks .picks) ≡ take (refresh s st picks′ .count) (refresh s st picks′ .picks)
+  event-names picks picks′ h h′ = event-is picks h .named ∙ sym (event-is picks′ h′ .named)
+
+-- at most V rows are named
+pub names-few : (s : Settings) (st : State) → length (picked (s .volume) (summary-of st)) ≤ s .volume
+unfolding picked
+names-few s st = picks-few (s .volume) (summary-of st .entries)

@@ -1,0 +1,83 @@
+-- Lines alike: counted modulo 10,000,000,000 they print the same, and settings do not ask what the lent tables held.
+use mathlib.Core.Path.{_≡_, refl, sym, _∙_, ap}
+use mathlib.Core.Bool.{true, false, not}
+use mathlib.Core.List.{List, []}
+use mathlib.Core.Option.{Option, none, some}
+use Prim.Native.Nat.{ℕ, zero, suc, _+_, _%_}
+use native.Mathlib.Omega.{arith}
+use borrow.Author.Tests.{eq-eqb}
+use lib.Dec.{eqb}
+use lib.ListN.{length, replicate}
+use Rattle.device.specs.declared.Settings.{Settings}
+use Rattle.device.specs.Refusal.{first-failed, refuse, Outcome, accepted, refused, tested}
+use Rattle.device.specs.Acceptance.{settings-tests}
+use Rattle.device.proofs.Accepted.{or-later}
+use Rattle.summary.specs.Steps.{empty}
+use Rattle.tracker.specs.declared.Position.{Position}
+use Rattle.tracker.specs.State.{state-of}
+use Rattle.tracker.specs.Calls.{SetUp-call, kept-unless, tables-long, set-up-tests, set-up, activate, refresh}
+use Rattle.tracker.proofs.Passed.{set-up-tested}
+use Rattle.trace.specs.declared.Record.{Record}
+use Rattle.trace.specs.declared.Record.the-variants.{Set, Activate, Refresh, Blank}
+use Rattle.listing.specs.Output.{refusal-line}
+use Rattle.listing.specs.Steps.{Standing, refused-step, set-up-step, answered, activation-step, refresh-step, record-step, line-step}
+
+-- the number of the next line, from lines counted modulo 10,000,000,000
+pub counted-on : (lines count : ℕ) → lines ≡ count % 10000000000 → (lines + 1) % 10000000000 ≡ suc count % 10000000000
+counted-on lines count e = omega arith
+
+module _ (n m : ℕ) (e : n % 10000000000 ≡ m % 10000000000) where
+  pub refusal-alike : (k : ℕ) → refusal-line n k ≡ refusal-line m k
+  unfolding refusal-line
+  refusal-alike k = rw e
+
+  answered-alike : (k : ℕ) (text : List ℕ) → answered n k text ≡ answered m k text
+  unfolding answered
+  answered-alike zero text = refl
+  answered-alike (suc k) text = refusal-alike (suc k)
+
+  refused-alike : (k : ℕ) (t : Option Standing) → refused-step n k t ≡ refused-step m k t
+  unfolding refused-step
+  refused-alike k t = rw (refusal-alike k)
+
+  set-up-step-alike : (s : Settings) (call : SetUp-call) (o : Outcome Position) → set-up-step n s call o ≡ set-up-step m s call o
+  unfolding set-up-step
+  set-up-step-alike s call (accepted p) = refl
+  set-up-step-alike s call (refused k) = refused-alike k none
+
+  record-alike : (t : Option Standing) (r : Record) → record-step n t r ≡ record-step m t r
+  unfolding record-step activation-step refresh-step
+  record-alike t (Set s) =
+      let call = set-up s (replicate (s .counters) 0) (replicate (s .counters) 0) in
+      set-up-step-alike s call (call .answer)
+  record-alike none (Activate row) = refused-alike 11 none
+  record-alike (some t) (Activate row) = rw (answered-alike (activate (t .settings) (t .state) row .refusal) [])
+  record-alike none Refresh = refused-alike 11 none
+  record-alike (some t) Refresh =
+      rw (answered-alike (refresh (t .settings) (t .state) (replicate (t .settings .volume) 0) .refusal))
+  record-alike t Blank = refl
+
+  -- any line
+  pub line-alike : (t : Option Standing) (o : Outcome Record) → line-step n t o ≡ line-step m t o
+  unfolding line-step
+  line-alike t (accepted r) = record-alike t r
+  line-alike t (refused k) = refused-alike k t
+
+-- setting up on tables of C places is refused for the settings only
+pub set-up-first : (s : Settings) (rows counts : List ℕ) → length rows ≡ s .counters → length counts ≡ s .counters → first-failed (set-up-tests s rows counts) ≡ or-later (first-failed (settings-tests s)) 0
+unfolding tables-long refuse
+set-up-first s rows counts h h′ =
+    set-up-tested s rows counts ∙ rw (eq-eqb (length rows) (s .counters) h, eq-eqb (length counts) (s .counters) h′)
+
+left-alike : (number : ℕ) (s : Settings) (p : Position) (rows counts rows′ counts′ made made′ : List ℕ) (k : ℕ) → set-up-step number s (record { answer = tested k (accepted p); rows = kept-unless k rows made; counts = kept-unless k counts made′ }) (tested k (accepted p)) ≡ set-up-step number s (record { answer = tested k (accepted p); rows = kept-unless k rows′ made; counts = kept-unless k counts′ made′ }) (tested k (accepted p))
+unfolding set-up-step tested kept-unless
+left-alike number s p rows counts rows′ counts′ made made′ zero = refl
+left-alike number s p rows counts rows′ counts′ made made′ (suc k) = refl
+
+-- what the lent tables held does not matter to a settings line
+pub settings-alike : (number : ℕ) (s : Settings) (rows counts rows′ counts′ : List ℕ) → length rows ≡ s .counters → length counts ≡ s .counters → length rows′ ≡ s .counters → length counts′ ≡ s .counters → set-up-step number s (set-up s rows counts) (set-up s rows counts .answer) ≡ set-up-step number s (set-up s rows′ counts′) (set-up s rows′ counts′ .answer)
+unfolding set-up
+settings-alike number s rows counts rows′ counts′ h1 h2 h3 h4 =
+    let begun = state-of s 0 0 empty in
+    rw (set-up-first s rows counts h1 h2, set-up-first s rows′ counts′ h3 h4)
+    (left-alike number s (begun .position) rows counts rows′ counts′ (begun .rows) (begun .counts) (or-later (first-failed (settings-tests s)) 0))

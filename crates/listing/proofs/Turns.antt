@@ -1,0 +1,71 @@
+-- An activation line and an event line of a reached state: what the calls answered and what was printed make the definition's step.
+use mathlib.Core.Path.{_≡_, refl, sym, _∙_, ap, subst}
+use mathlib.Core.List.{List, [], _∷_}
+use mathlib.Core.Option.{Option, some}
+use Prim.Native.Nat.{ℕ, zero, suc, _+_, _≤_, _<_}
+use native.Mathlib.Omega.{arith}
+use lib.ListN.{length, take, replicate, length-replicate}
+use Rattle.device.specs.declared.Settings.{Settings}
+use Rattle.device.proofs.Accepted.{accepted}
+use Rattle.summary.specs.Steps.{picked}
+use Rattle.tracker.specs.declared.Position.{Position}
+use Rattle.tracker.specs.declared.Activation.{Activation}
+use Rattle.tracker.specs.declared.Refreshed.{Refreshed}
+use Rattle.tracker.specs.State.{State, summary-of}
+use Rattle.tracker.specs.Calls.{Activation-call, Refresh-call, activate, refresh}
+use Rattle.tracker.specs.Answers.{given, activation-call, activation-refusal, activation-position, refresh-call, refresh-count, refresh-position}
+use Rattle.limit.specs.Reachable.{Reached}
+use Rattle.limit.proofs.Further.{reached-settled}
+use Rattle.listing.specs.Output.{refusal-line, refresh-line, Prints}
+use Rattle.listing.specs.Steps.{Standing, answered, activation-step, refresh-step}
+use Rattle.listing.specs.Carried.{Lists, stood}
+use Rattle.listing.proofs.Writing.{prints-nothing}
+use Rattle.listing.proofs.Accepts.{event-is, event-names, event-leaves, names-few}
+
+pub none-printed : (before : List ℕ) (at line k : ℕ) → k ≡ 0 → at ≤ length before → Prints before at (answered line k []) before at
+unfolding answered
+none-printed before at line k e h = rw e (prints-nothing before at h)
+
+pub refusal-printed : {before after : List ℕ} {at end : ℕ} (line k : ℕ) → (k ≡ 0 → ⊥) → Prints before at (refusal-line line k) after end → Prints before at (answered line k []) after end
+unfolding answered
+refusal-printed line zero h p = absurd (h refl)
+refusal-printed line (suc k) h p = p
+
+pub activation-listed : {before after : List ℕ} {at end : ℕ} (s : Settings) (st : State) (row line : ℕ) (answer : Activation) (rows counts : List ℕ) (k : ℕ) (p : Position) → activation-call answer rows counts ≡ activate s st row → k ≡ activation-refusal answer → p ≡ activation-position answer → Prints before at (answered line k []) after end → Lists (activation-step line s (activate s st row)) s rows counts p before at after end
+unfolding activation-step activation-call stood
+activation-listed {before} {after} {at} {end} s st row line answer rows counts k p call ek ep printed =
+    let given-k : k ≡ activate s st row .refusal = ek ∙ ap (λ (c : Activation-call). c .refusal) call in
+    let left : given rows counts p ≡ activate s st row .state =
+    ap (λ (q : Position). given rows counts q) ep ∙ ap (λ (c : Activation-call). c .state) call in
+    record {
+      printed = subst (λ (x : ℕ). Prints before at (answered line x []) after end) given-k printed;
+      left = ap (λ (x : State). some (record { settings = s; state = x })) (sym left);
+    }
+
+pub volume-most : {s : Settings} {st : State} → Reached s st → s .volume ≤ 16
+volume-most {s} r = accepted s (reached-settled r) .others .volume .most
+
+whole : (n : ℕ) → n ≤ length {A = ℕ} (replicate n 0)
+whole n = let long : length {A = ℕ} (replicate n 0) ≡ n = length-replicate n 0 in omega arith
+
+module _ {s : Settings} {st : State} (r : Reached s st) (list : List ℕ) (h : s .volume ≤ length list) (answer : Refreshed) (rows counts left : List ℕ) (call : refresh-call answer rows counts left ≡ refresh s st list) (k : ℕ) (ek : k ≡ refresh-count answer) where
+  pub event-few : k ≤ 16
+  unfolding refresh-call
+  event-few =
+      let counted : k ≡ length (picked (s .volume) (summary-of st)) =
+      ek ∙ ap (λ (c : Refresh-call). c .count) call ∙ event-is r list h .counted in
+      omega (arith, names-few s st, volume-most r)
+
+  pub event-listed : {before after : List ℕ} {at end : ℕ} (line : ℕ) (p : Position) → p ≡ refresh-position answer → Prints before at (refresh-line (st .position .events) (take k left)) after end → Lists (refresh-step line s (st .position .events) (refresh s st (replicate (s .volume) 0))) s rows counts p before at after end
+  unfolding refresh-step refresh-call stood answered
+  event-listed {before} {after} {at} {end} line p ep printed =
+      let lent : List ℕ = replicate (s .volume) 0 in
+      let long : s .volume ≤ length lent = whole (s .volume) in
+      let names : take k left ≡ take (refresh s st lent .count) (refresh s st lent .picks) =
+      ap (λ (n : ℕ). take n left) ek ∙ ap (λ (c : Refresh-call). take (c .count) (c .picks)) call ∙ event-names r list lent h long in
+      let state : given rows counts p ≡ refresh s st lent .state =
+      ap (λ (q : Position). given rows counts q) ep ∙ ap (λ (c : Refresh-call). c .state) call ∙ event-leaves r list lent h long in
+      record {
+        printed = rw (event-is r lent long .free) (subst (λ (text : List ℕ). Prints before at (refresh-line (st .position .events) text) after end) names printed);
+        left = ap (λ (x : State). some (record { settings = s; state = x })) (sym state);
+      }

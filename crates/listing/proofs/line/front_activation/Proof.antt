@@ -1,0 +1,38 @@
+-- `listing::line::front_activation` meets its contract.
+use Prim.Native.Nat.{_+_, _-_, _≤_}
+use native.Mathlib.Nat.{sub-zero}
+use borrow.Author.Needs.{needs}
+use Rattle.tracker.specs.Calls.{activate}
+use Rattle.listing.specs.Steps.{activation-step}
+use Rattle.tracker.specs.Answers.{given}
+use Rattle.listing.proofs.Parts.{fronts}
+use Rattle.listing.proofs.line.front_activation.Statement.{statement}
+use Rattle.listing.proofs.line.front_activation.Tie as tie
+
+list-activation-requires : tie.Need-list-activation-requires
+list-activation-requires c κs =
+    let a = c .before .before .before .before .before .before .before in
+    (rw (sub-zero (a .args .s .counters)) (a .pre .0), a .pre .1)
+
+returns : tie.Need-returns
+returns c =
+    let a = c .before .before .before .before .before .before .before .before .before .before .before .before .before .before in
+    let r = c .before .before .before .before .before .before .list-activation in
+    fronts (a .args .s) (λ rows counts. activation-step (a .args .line) (a .args .s) (activate (a .args .s) (given rows counts (a .args .p)) (a .args .row))) (a .args .rows .now) (a .args .counts .now) (r .last .1 .0) (r .last .1 .1 .0) _ _ (r .result .position) (a .pre .2) (a .pre .3) (r .kept .1 .0) (r .kept .1 .1 .0) (r .ensures)
+
+pub front-activation-spec : {M : Type 1} → statement M
+front-activation-spec =
+    tie.close
+    (tie.spec
+    (λ c. search needs)
+    (λ c. search needs)
+    (λ c. search needs)
+    (λ c. search needs)
+    (λ c. search needs)
+    (λ c. search needs)
+    (λ c. search needs)
+    list-activation-requires
+    (λ c. search needs)
+    (λ c. search needs)
+    (λ c. search needs)
+    returns)

@@ -1,0 +1,39 @@
+-- `listing::line::front_event` meets its contract.
+use Prim.Native.Nat.{_+_, _-_, _≤_}
+use native.Mathlib.Nat.{sub-zero}
+use borrow.Author.Needs.{needs}
+use lib.ListN.{replicate}
+use Rattle.tracker.specs.Calls.{refresh}
+use Rattle.listing.specs.Steps.{refresh-step}
+use Rattle.tracker.specs.Answers.{given}
+use Rattle.listing.proofs.Parts.{fronts}
+use Rattle.listing.proofs.line.front_event.Statement.{statement}
+use Rattle.listing.proofs.line.front_event.Tie as tie
+
+list-event-requires : tie.Need-list-event-requires
+list-event-requires c κs =
+    let a = c .before .before .before .before .before .before .before in
+    (rw (sub-zero (a .args .s .counters)) (a .pre .0), a .pre .1)
+
+returns : tie.Need-returns
+returns c =
+    let a = c .before .before .before .before .before .before .before .before .before .before .before .before .before .before in
+    let r = c .before .before .before .before .before .before .list-event in
+    fronts (a .args .s) (λ rows counts. refresh-step (a .args .line) (a .args .s) (a .args .p .events) (refresh (a .args .s) (given rows counts (a .args .p)) (replicate (a .args .s .volume) 0))) (a .args .rows .now) (a .args .counts .now) (r .last .1 .0) (r .last .1 .1 .0) _ _ (r .result .position) (a .pre .2) (a .pre .3) (r .kept .1 .0) (r .kept .1 .1 .0) (r .ensures)
+
+pub front-event-spec : {M : Type 1} → statement M
+front-event-spec =
+    tie.close
+    (tie.spec
+    (λ c. search needs)
+    (λ c. search needs)
+    (λ c. search needs)
+    (λ c. search needs)
+    (λ c. search needs)
+    (λ c. search needs)
+    (λ c. search needs)
+    list-event-requires
+    (λ c. search needs)
+    (λ c. search needs)
+    (λ c. search needs)
+    returns)

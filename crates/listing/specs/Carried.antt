@@ -1,0 +1,52 @@
+-- How the code carries a listing: a place, and tables of 2,048 places of which the first C are the tracker's.
+use Prim.Native.Nat.{ℕ, _%_}
+use mathlib.Core.Path.{_≡_}
+use mathlib.Core.Bool.{cond}
+use mathlib.Core.List.{List}
+use mathlib.Core.Option.{Option, none, some}
+use lib.ListN.{length, take}
+use Rattle.device.specs.declared.Settings.{Settings}
+use Rattle.device.specs.Refusal.{Outcome, accepted, refused}
+use Rattle.tracker.specs.declared.Position.{Position}
+use Rattle.tracker.specs.Answers.{given}
+use Rattle.limit.specs.Reachable.{Reached}
+use Rattle.listing.specs.declared.Place.{Place}
+use Rattle.listing.specs.Output.{bound-line, refusal-line, Prints}
+use Rattle.listing.specs.Steps.{Standing, Progress, Step}
+
+-- a tracker in tables of C places
+unfoldable pub stood : Settings → List ℕ → List ℕ → Position → Option Standing
+stood s rows counts p = some (record { settings = s; state = given rows counts p })
+
+-- what a line did to a tracker that stands, and what it printed
+pub record Lists (step : Step) (s : Settings) (rows counts : List ℕ) (p : Position) (before : List ℕ) (at : ℕ) (after : List ℕ) (place : ℕ) : Type 0 where
+  pub printed : Prints before at (step .prints) after place
+  pub left : step .tracker ≡ stood s rows counts p
+
+-- the tracker that a place and the tables hold
+unfoldable pub carried : Place → List ℕ → List ℕ → Option Standing
+carried p rows counts =
+    cond (p .stands) (stood (p .settings) (take (p .settings .counters) rows) (take (p .settings .counters) counts) (p .position)) none
+
+-- a tracker that stands was reached by calls after an accepted setting up
+unfoldable pub Running : Option Standing → Type 0
+Running none = Unit {0}
+Running (some t) = Reached (t .settings) (t .state)
+
+-- a place and the tables hold where a listing is, its lines counted modulo 10,000,000,000
+pub record Represents (p : Place) (rows counts : List ℕ) (g : Progress) : Type 0 where
+  pub rows-long : length rows ≡ 2048
+  pub counts-long : length counts ≡ 2048
+  pub tracker : g .tracker ≡ carried p rows counts
+  pub lines : p .lines ≡ g .count % 10000000000
+  pub running : Running (g .tracker)
+
+-- what a settings line prints, by the bound's answer
+unfoldable pub settings-line : ℕ → Outcome ℕ → List ℕ
+settings-line number (accepted h) = bound-line h
+settings-line number (refused k) = refusal-line number k
+
+-- what a line left in a place and the tables, and what it printed
+pub record Leaves (step : Step) (p : Place) (rows counts : List ℕ) (before : List ℕ) (at : ℕ) (after : List ℕ) (end : ℕ) : Type 0 where
+  pub printed : Prints before at (step .prints) after end
+  pub left : step .tracker ≡ carried p rows counts

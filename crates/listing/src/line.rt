@@ -1,0 +1,215 @@
+// One line of a trace on a tracker that stands, on the caller's tables.
+use crate::Listed;
+use crate::Moved;
+use crate::Place;
+use bound::Answer;
+use device::Settings;
+use tracker::Activation;
+use tracker::Position;
+use tracker::Refreshed;
+use tracker::SetUp;
+ghost use mathlib.Core.Path.{_≡_};
+ghost use mathlib.Core.List.{[]};
+ghost use Prim.Native.Nat.{_+_, _≤_};
+ghost use lib.ListN.{length, take, replicate};
+ghost use mathlib.Core.Option.{none};
+ghost use Rattle.bound.specs.Answers.{outcome, Small};
+ghost use Rattle.trace.specs.declared.Record.the-variants.{Set};
+ghost use Rattle.tracker.specs.Calls.{set-up, activate as activated, refresh as refreshed};
+ghost use Rattle.tracker.specs.Answers.{given, set-up-call, activation-refusal, activation-position, refresh-count, refresh-position};
+ghost use Rattle.limit.specs.Reachable.{Reached};
+ghost use Rattle.listing.specs.Steps.{answered, record-step, activation-step, refresh-step};
+ghost use Rattle.listing.specs.Output.{Prints};
+ghost use Rattle.listing.specs.Carried.{Lists, Leaves, settings-line};
+
+// The number picked.
+fn count_of(answer: Refreshed) -> u32
+    ensures { λ r. ⌜ r ≡ refresh-count answer ⌝ }
+{
+    match answer {
+        Refreshed::Accepted(count, _) => count,
+        Refreshed::Refused(_, _) => 0,
+    }
+}
+
+// The position after an event.
+fn position_of(answer: Refreshed) -> Position
+    ensures { λ r. ⌜ r ≡ refresh-position answer ⌝ }
+{
+    match answer {
+        Refreshed::Accepted(_, p) => p,
+        Refreshed::Refused(_, p) => p,
+    }
+}
+
+// The refusal of an activation, or 0.
+fn refusal_of(answer: Activation) -> u32
+    ensures { λ r. ⌜ r ≡ activation-refusal answer ⌝ }
+{
+    match answer {
+        Activation::Accepted(_) => 0,
+        Activation::Refused(k, _) => k,
+    }
+}
+
+// The position after an activation.
+fn position_after(answer: Activation) -> Position
+    ensures { λ r. ⌜ r ≡ activation-position answer ⌝ }
+{
+    match answer {
+        Activation::Accepted(p) => p,
+        Activation::Refused(_, p) => p,
+    }
+}
+
+// Nothing for refusal 0, else the line of a refusal; the place behind it.
+fn print_unless(out: &mut [u8], at: usize, line: u64, k: u32) -> usize
+    requires { ⌜ at + 18 ≤ length (now out) ⌝ }
+    ensures { λ r. ⌜ Prints (now (out .entry)) at (answered line k []) (now (out .exit)) r ⌝ }
+{
+    if k == 0 {
+        return at;
+    }
+    crate::print_refusal(out, at, line, k)
+}
+
+// An activation line, on tables of C places.
+fn list_activation(
+    s: Settings,
+    rows: &mut [u32],
+    counts: &mut [u32],
+    p: Position,
+    row: u32,
+    line: u64,
+    out: &mut [u8],
+    at: usize,
+) -> Moved
+    requires { ⌜ Reached s (given (now rows) (now counts) p) × (at + 200 ≤ length (now out)) ⌝ }
+    ensures { λ r. ⌜ Lists (activation-step line s (activated s (given (now (rows .entry)) (now (counts .entry)) p) row)) s (now (rows .exit)) (now (counts .exit)) (r .position) (now (out .entry)) at (now (out .exit)) (r .end) ⌝ }
+{
+    let answer = tracker::activate(s, rows, counts, p, row);
+    let end = print_unless(out, at, line, refusal_of(answer));
+    Moved {
+        position: position_after(answer),
+        end,
+    }
+}
+
+// An event line, on tables of C places.
+fn list_event(
+    s: Settings,
+    rows: &mut [u32],
+    counts: &mut [u32],
+    p: Position,
+    line: u64,
+    out: &mut [u8],
+    at: usize,
+) -> Moved
+    requires { ⌜ Reached s (given (now rows) (now counts) p) × (at + 200 ≤ length (now out)) ⌝ }
+    ensures { λ r. ⌜ Lists (refresh-step line s (p .events) (refreshed s (given (now (rows .entry)) (now (counts .entry)) p) (replicate (s .volume) 0))) s (now (rows .exit)) (now (counts .exit)) (r .position) (now (out .entry)) at (now (out .exit)) (r .end) ⌝ }
+{
+    let mut list = [0; 16];
+    let answer = tracker::refresh(s, rows, counts, p, &mut list);
+    let end = crate::print_refresh(out, at, p.events, &list, count_of(answer) as usize);
+    Moved {
+        position: position_of(answer),
+        end,
+    }
+}
+
+// An activation line, on the first C places.
+fn front_activation(
+    s: Settings,
+    rows: &mut [u32],
+    counts: &mut [u32],
+    p: Position,
+    row: u32,
+    line: u64,
+    out: &mut [u8],
+    at: usize,
+) -> Moved
+    requires { ⌜ Reached s (given (take (s .counters) (now rows)) (take (s .counters) (now counts)) p) × (at + 200 ≤ length (now out)) × (s .counters ≤ length (now rows)) × (s .counters ≤ length (now counts)) ⌝ }
+    ensures { λ r. ⌜ Lists (activation-step line s (activated s (given (take (s .counters) (now (rows .entry))) (take (s .counters) (now (counts .entry))) p) row)) s (take (s .counters) (now (rows .exit))) (take (s .counters) (now (counts .exit))) (r .position) (now (out .entry)) at (now (out .exit)) (r .end) ⌝ }
+{
+    let c = s.counters as usize;
+    list_activation(s, &mut rows[0..c], &mut counts[0..c], p, row, line, out, at)
+}
+
+// An event line, on the first C places.
+fn front_event(
+    s: Settings,
+    rows: &mut [u32],
+    counts: &mut [u32],
+    p: Position,
+    line: u64,
+    out: &mut [u8],
+    at: usize,
+) -> Moved
+    requires { ⌜ Reached s (given (take (s .counters) (now rows)) (take (s .counters) (now counts)) p) × (at + 200 ≤ length (now out)) × (s .counters ≤ length (now rows)) × (s .counters ≤ length (now counts)) ⌝ }
+    ensures { λ r. ⌜ Lists (refresh-step line s (p .events) (refreshed s (given (take (s .counters) (now (rows .entry))) (take (s .counters) (now (counts .entry))) p) (replicate (s .volume) 0))) s (take (s .counters) (now (rows .exit))) (take (s .counters) (now (counts .exit))) (r .position) (now (out .entry)) at (now (out .exit)) (r .end) ⌝ }
+{
+    let c = s.counters as usize;
+    list_event(s, &mut rows[0..c], &mut counts[0..c], p, line, out, at)
+}
+
+// Sets up on the first C places.
+fn front_set_up(s: Settings, rows: &mut [u32], counts: &mut [u32]) -> SetUp
+    requires { ⌜ (s .counters ≤ length (now rows)) × (s .counters ≤ length (now counts)) ⌝ }
+    ensures { λ r. ⌜ set-up-call r (take (s .counters) (now (rows .exit))) (take (s .counters) (now (counts .exit))) ≡ set-up s (take (s .counters) (now (rows .entry))) (take (s .counters) (now (counts .entry))) ⌝ }
+{
+    let c = s.counters as usize;
+    tracker::set_up(s, &mut rows[0..c], &mut counts[0..c])
+}
+
+// The line of settings, by the bound's answer; the place behind it.
+fn print_settings(out: &mut [u8], at: usize, line: u64, answer: Answer) -> usize
+    requires { ⌜ (at + 22 ≤ length (now out)) × Small (outcome answer) ⌝ }
+    ensures { λ r. ⌜ Prints (now (out .entry)) at (settings-line line (outcome answer)) (now (out .exit)) r ⌝ }
+{
+    match answer {
+        Answer::Value(h) => crate::print_bound(out, at, h),
+        Answer::Refused(k) => crate::print_refusal(out, at, line, k),
+    }
+}
+
+// A settings line, on tables of 2,048 places.
+fn list_settings(
+    s: Settings,
+    rows: &mut [u32],
+    counts: &mut [u32],
+    line: u64,
+    out: &mut [u8],
+    at: usize,
+) -> Listed
+    requires { ⌜ (at + 200 ≤ length (now out)) × (length (now rows) ≡ 2048) × (length (now counts) ≡ 2048) ⌝ }
+    ensures { λ r. ⌜ Leaves (record-step line none (Set s)) (r .place) (now (rows .exit)) (now (counts .exit)) (now (out .entry)) at (now (out .exit)) (r .end) × (r .place .lines ≡ line) ⌝ }
+{
+    let end = print_settings(out, at, line, bound::bound(s));
+    let position = Position {
+        events: 0,
+        activations: 0,
+        tracked: 0,
+        spillover: 0,
+    };
+    if device::settings_refusal(s) != 0 {
+        return Listed {
+            place: Place {
+                stands: false,
+                settings: s,
+                position,
+                lines: line,
+            },
+            end,
+        };
+    }
+    front_set_up(s, rows, counts);
+    Listed {
+        place: Place {
+            stands: true,
+            settings: s,
+            position,
+            lines: line,
+        },
+        end,
+    }
+}
