@@ -24,7 +24,7 @@ numbers (refused k) = k ∷ []
 
 -- 'fold of .. is ..'
 unfoldable pub remap-figure : ℕ → ℕ → Figure
-remap-figure row die = record { given = die ∷ []; defined = physical row ∷ [] }
+remap-figure row place = record { given = place ∷ []; defined = physical row ∷ [] }
 
 -- 'H for N B V C T n P gives ..'
 unfoldable pub bound-figure : Settings → ℕ → Figure
