@@ -19,13 +19,13 @@ use Rattle.limit.specs.Reachable.{Reached}
 use Rattle.limit.proofs.Further.{activation-refused-with, refresh-refused-with}
 
 module _ {s : Settings} {st : State} (r : Reached s st) where
-  pub row-outside : (row : ℕ) → s .rows ≤ row → record { refusal = 9; state = st } ≡ activate s st row
+  pub row-outside : (row : ℕ) → s .rows ≤ row → record { accepts = false; refusal = 9; state = st } ≡ activate s st row
   unfolding refuse
   row-outside row h =
       let nine : first-failed (activation-tests s st row) ≡ 9 = activation-refused-with r row ∙ rw (le-ltb row (s .rows) h) in
       activation-refused s st row 9 (sym nine) (λ e. omega arith)
 
-  pub interval-full : (row : ℕ) → row < s .rows → s .interval ≤ st .position .activations → record { refusal = 22; state = st } ≡ activate s st row
+  pub interval-full : (row : ℕ) → row < s .rows → s .interval ≤ st .position .activations → record { accepts = false; refusal = 22; state = st } ≡ activate s st row
   unfolding refuse
   interval-full row b h =
       let full : first-failed (activation-tests s st row) ≡ 22 =

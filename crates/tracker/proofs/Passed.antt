@@ -6,7 +6,7 @@ use mathlib.Core.List.{List, [], _∷_, _++_}
 use Prim.Native.Nat.{ℕ, zero, suc, _+_, _≤_, _<_}
 use native.Mathlib.Nat.{sub-zero}
 use native.Mathlib.Omega.{arith}
-use borrow.Author.Tests.{eqb-true, ltb-true, leb-true}
+use borrow.Author.Tests.{eqb-true, ne-eqb, ltb-true, leb-true}
 use lib.Dec.{eqb, ltb, leb}
 use lib.ListN.{length, replicate}
 use Rattle.device.specs.declared.Settings.{Settings}
@@ -167,22 +167,22 @@ set-up-done s rows counts e er ec =
     let o = open-tables s rows counts e in
     rw (e, er, ec, o .rows-long, o .counts-long, sub-zero (s .counters))
 
-pub activation-refused : (s : Settings) (st : State) (row k : ℕ) → k ≡ first-failed (activation-tests s st row) → (k ≡ 0 → ⊥) → record { refusal = k; state = st } ≡ activate s st row
+pub activation-refused : (s : Settings) (st : State) (row k : ℕ) → k ≡ first-failed (activation-tests s st row) → (k ≡ 0 → ⊥) → record { accepts = false; refusal = k; state = st } ≡ activate s st row
 unfolding activate kept-unless
 activation-refused s st row zero e h = absurd (h refl)
-activation-refused s st row (suc k) e h = rw (← e)
+activation-refused s st row (suc k) e h = rw (← e, ne-eqb (suc k) 0 h)
 
-pub activation-done : (s : Settings) (st : State) (row : ℕ) {st′ : State} → first-failed (activation-tests s st row) ≡ 0 → st′ ≡ activate s st row .state → record { refusal = 0; state = st′ } ≡ activate s st row
+pub activation-done : (s : Settings) (st : State) (row : ℕ) {st′ : State} → first-failed (activation-tests s st row) ≡ 0 → st′ ≡ activate s st row .state → record { accepts = true; refusal = 0; state = st′ } ≡ activate s st row
 unfolding activate
-activation-done s st row e same = λ i. record { refusal = sym e i; state = same i }
+activation-done s st row e same = λ i. record { accepts = eqb (sym e i) 0; refusal = sym e i; state = same i }
 
-pub refresh-refused : (s : Settings) (st : State) (picks : List ℕ) (k : ℕ) → k ≡ first-failed (refresh-tests s st picks) → (k ≡ 0 → ⊥) → record { refusal = k; count = 0; state = st; picks = picks } ≡ refresh s st picks
+pub refresh-refused : (s : Settings) (st : State) (picks : List ℕ) (k : ℕ) → k ≡ first-failed (refresh-tests s st picks) → (k ≡ 0 → ⊥) → record { accepts = false; refusal = k; count = 0; state = st; picks = picks } ≡ refresh s st picks
 unfolding refresh kept-unless
 refresh-refused s st picks zero e h = absurd (h refl)
-refresh-refused s st picks (suc k) e h = rw (← e)
+refresh-refused s st picks (suc k) e h = rw (← e, ne-eqb (suc k) 0 h)
 
 -- an accepted event, from what was picked and what the tables hold
-pub refresh-done : (s : Settings) (st : State) (list₀ : List ℕ) {rows counts list : List ℕ} {count e k spill : ℕ} → first-failed (refresh-tests s st list₀) ≡ 0 → PickedFrom (s .volume) (summary-of st) list₀ list count → Holds (length (st .rows)) 4294967296 (event (length (st .rows)) (victims-in s) (s .volume) (block-rows s (st .position .events)) (ends-window s (st .position .events)) (summary-of st)) rows counts k spill → e ≡ next-event s (st .position .events) → record { refusal = 0; count = count; state = given rows counts (record { events = e; activations = 0; tracked = k; spillover = spill }); picks = list } ≡ refresh s st list₀
+pub refresh-done : (s : Settings) (st : State) (list₀ : List ℕ) {rows counts list : List ℕ} {count e k spill : ℕ} → first-failed (refresh-tests s st list₀) ≡ 0 → PickedFrom (s .volume) (summary-of st) list₀ list count → Holds (length (st .rows)) 4294967296 (event (length (st .rows)) (victims-in s) (s .volume) (block-rows s (st .position .events)) (ends-window s (st .position .events)) (summary-of st)) rows counts k spill → e ≡ next-event s (st .position .events) → record { accepts = true; refusal = 0; count = count; state = given rows counts (record { events = e; activations = 0; tracked = k; spillover = spill }); picks = list } ≡ refresh s st list₀
 unfolding refresh kept-unless picked
 refresh-done s st list₀ none x h ee =
     let r = refresh-ready s st list₀ none in

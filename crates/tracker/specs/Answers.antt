@@ -1,6 +1,6 @@
 -- What the calls' answers say: for each case the paper's number and the values it carries.
 use Prim.Native.Nat.{ℕ}
-use mathlib.Core.Bool.{Bool}
+use mathlib.Core.Bool.{Bool, true, false}
 use mathlib.Core.List.{List}
 use Rattle.device.specs.Refusal.{Outcome, accepted, refused}
 use Rattle.tracker.specs.declared.Position.{Position}
@@ -19,7 +19,11 @@ unfoldable pub set-up-outcome : SetUp → Outcome Position
 set-up-outcome (Ready p) = accepted p
 set-up-outcome (SetUp-refused k) = refused k
 
--- the refusal, 0 where accepted, and the position left
+-- whether it is accepted; the refusal, 0 where it is; the position left
+unfoldable pub activation-accepts : Activation → Bool
+activation-accepts (Activation-accepted p) = true
+activation-accepts (Activation-refused k p) = false
+
 unfoldable pub activation-refusal : Activation → ℕ
 activation-refusal (Activation-accepted p) = 0
 activation-refusal (Activation-refused k p) = k
@@ -28,7 +32,11 @@ unfoldable pub activation-position : Activation → Position
 activation-position (Activation-accepted p) = p
 activation-position (Activation-refused k p) = p
 
--- the refusal, 0 where accepted, the number picked and the position left
+-- whether it is accepted; the refusal, 0 where it is; the number picked; the position left
+unfoldable pub refresh-accepts : Refreshed → Bool
+refresh-accepts (Refresh-accepted v p) = true
+refresh-accepts (Refresh-refused k p) = false
+
 unfoldable pub refresh-refusal : Refreshed → ℕ
 refresh-refusal (Refresh-accepted v p) = 0
 refresh-refusal (Refresh-refused k p) = k
@@ -55,11 +63,16 @@ set-up-call r rows counts = record { answer = set-up-outcome r; rows = rows; cou
 
 unfoldable pub activation-call : Activation → List ℕ → List ℕ → Activation-call
 activation-call r rows counts =
-    record { refusal = activation-refusal r; state = given rows counts (activation-position r) }
+    record {
+      accepts = activation-accepts r;
+      refusal = activation-refusal r;
+      state = given rows counts (activation-position r);
+    }
 
 unfoldable pub refresh-call : Refreshed → List ℕ → List ℕ → List ℕ → Refresh-call
 refresh-call r rows counts picks =
     record {
+      accepts = refresh-accepts r;
       refusal = refresh-refusal r;
       count = refresh-count r;
       state = given rows counts (refresh-position r);

@@ -80,8 +80,9 @@ set-up s rows counts =
       counts = kept-unless k counts (begun .counts);
     }
 
--- an activation: the refusal (0: accepted) and the state that it leaves
+-- an activation: whether it is accepted, the refusal (0 where it is) and the state that it leaves
 pub record Activation-call : Type 0 where
+  pub accepts : Bool
   pub refusal : ℕ
   pub state : State
 
@@ -89,6 +90,7 @@ unfoldable pub activate : Settings → State → ℕ → Activation-call
 activate s st row =
     let k = first-failed (activation-tests s st row) in
     record {
+      accepts = eqb k 0;
       refusal = k;
       state =
           kept-unless k st
@@ -96,8 +98,9 @@ activate s st row =
           (activation (s .counters) (victims-in s) (physical row) (summary-of st)));
     }
 
--- an event: the refusal, the number picked, the state and the list that it leaves
+-- an event: whether it is accepted, the refusal, the number picked, the state and the list that it leaves
 pub record Refresh-call : Type 0 where
+  pub accepts : Bool
   pub refusal : ℕ
   pub count : ℕ
   pub state : State
@@ -109,6 +112,7 @@ refresh s st picks =
     let e = st .position .events in
     let named = picked (s .volume) (summary-of st) in
     record {
+      accepts = eqb k 0;
       refusal = k;
       count = kept-unless k 0 (length named);
       state =

@@ -1,13 +1,13 @@
 -- `tracker::activate` meets its contract.
 use mathlib.Core.Path.{_≡_, sym, _∙_, ap}
 use borrow.Author.Needs.{needs}
-use Rattle.tracker.specs.Answers.{activation-call, activation-refusal, activation-position, given}
+use Rattle.tracker.specs.Answers.{activation-call, activation-accepts, activation-refusal, activation-position, given}
 use Rattle.tracker.proofs.Passed.{activation-refused, activation-done}
 use Rattle.tracker.proofs.activate.Statement.{statement}
 use Rattle.tracker.proofs.activate.Tie as tie
 
 returns : tie.Need-returns
-unfolding activation-call activation-refusal activation-position
+unfolding activation-call activation-accepts activation-refusal activation-position
 returns c =
     let a = c .before .before .before .before .before .before .args in
     let k = c .before .activation-refusal in
@@ -17,7 +17,7 @@ activate-accepted-requires : tie.Need-activate-accepted-requires
 activate-accepted-requires c κs = sym (c .before .before .before .activation-refusal .ensures) ∙ c .before .before .if1 .left
 
 returns-2 : tie.Need-returns-2
-unfolding activation-call activation-refusal activation-position
+unfolding activation-call activation-accepts activation-refusal activation-position
 returns-2 c =
     let a = c .before .before .before .before .before .before .before .before .before .before .before .before .before .args in
     activation-done (a .s) (given (a .rows .now) (a .counts .now) (a .p)) (a .row) (sym (c .before .before .before .before .before .before .before .before .activation-refusal .ensures) ∙ c .before .before .before .before .before .before .before .if1 .left) (c .before .before .before .before .activate-accepted .ensures)

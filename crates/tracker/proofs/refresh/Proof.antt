@@ -1,13 +1,13 @@
 -- `tracker::refresh` meets its contract.
 use mathlib.Core.Path.{_≡_, sym, _∙_}
 use borrow.Author.Needs.{needs}
-use Rattle.tracker.specs.Answers.{refresh-call, refresh-refusal, refresh-count, refresh-position, given}
+use Rattle.tracker.specs.Answers.{refresh-call, refresh-accepts, refresh-refusal, refresh-count, refresh-position, given}
 use Rattle.tracker.proofs.Passed.{refresh-refused}
 use Rattle.tracker.proofs.refresh.Statement.{statement}
 use Rattle.tracker.proofs.refresh.Tie as tie
 
 returns : tie.Need-returns
-unfolding refresh-call refresh-refusal refresh-count refresh-position
+unfolding refresh-call refresh-accepts refresh-refusal refresh-count refresh-position
 returns c =
     let a = c .before .before .before .before .before .before .before .before .args in
     let k = c .before .refresh-refusal in

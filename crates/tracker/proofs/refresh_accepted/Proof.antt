@@ -5,7 +5,7 @@ use native.Mathlib.Omega.{arith}
 use borrow.Author.Needs.{needs}
 use Rattle.summary.proofs.Stored.{tracked-few}
 use Rattle.tracker.specs.State.{summary-of}
-use Rattle.tracker.specs.Answers.{refresh-call, refresh-refusal, refresh-count, refresh-position, given}
+use Rattle.tracker.specs.Answers.{refresh-call, refresh-accepts, refresh-refusal, refresh-count, refresh-position, given}
 use Rattle.tracker.proofs.Chain.{named-few}
 use Rattle.tracker.proofs.Passed.{refresh-ready, ready-held, diameter-four, refresh-done}
 use Rattle.tracker.proofs.refresh_accepted.Statement.{statement}
@@ -47,7 +47,7 @@ cast-t18 c =
     omega (arith, tracked-few (c .before .before .before .before .before .before .before .before .before .before .event-tables .ensures .1), r .0 .fitting .rows-long, r .0 .settings .counters .most)
 
 returns : tie.Need-returns
-unfolding refresh-call refresh-refusal refresh-count refresh-position given summary-of
+unfolding refresh-call refresh-accepts refresh-refusal refresh-count refresh-position given summary-of
 returns c =
     let a = c .before .before .before .before .before .before .before .before .before .before .before .before .before .before .before .before .before .before in
     refresh-done (a .args .s) (given (a .args .rows .now) (a .args .counts .now) (a .args .p)) (a .args .list .now) (a .pre) (c .before .before .before .before .before .before .before .before .before .before .event-tables .ensures .0) (c .before .before .before .before .before .before .before .before .before .before .event-tables .ensures .1) (c .before .next-event .ensures)
