@@ -7,3 +7,4 @@ pub mod Turns
 pub mod Parts
 pub mod Alike
 pub mod Settled
+pub mod Carries

@@ -1,19 +1,21 @@
 -- An activation line and an event line of a reached state: what the calls answered and what was printed make the definition's step.
 use mathlib.Core.Path.{_≡_, refl, sym, _∙_, ap, subst}
+use mathlib.Core.Bool.{false}
 use mathlib.Core.List.{List, [], _∷_}
 use mathlib.Core.Option.{Option, some}
 use Prim.Native.Nat.{ℕ, zero, suc, _+_, _≤_, _<_}
 use native.Mathlib.Omega.{arith}
 use lib.ListN.{length, take, replicate, length-replicate}
 use Rattle.device.specs.declared.Settings.{Settings}
+use Rattle.device.specs.Refusal.{first-failed}
 use Rattle.device.proofs.Accepted.{accepted}
 use Rattle.summary.specs.Steps.{picked}
 use Rattle.tracker.specs.declared.Position.{Position}
-use Rattle.tracker.specs.declared.Activation.{Activation}
 use Rattle.tracker.specs.declared.Refreshed.{Refreshed}
 use Rattle.tracker.specs.State.{State, summary-of}
-use Rattle.tracker.specs.Calls.{Activation-call, Refresh-call, activate, refresh}
-use Rattle.tracker.specs.Answers.{given, activation-call, activation-refusal, activation-position, refresh-call, refresh-count, refresh-position}
+use Rattle.tracker.specs.Calls.{Refresh-call, activation-tests, activate, refresh}
+use Rattle.tracker.proofs.Passed.{activation-done}
+use Rattle.tracker.specs.Answers.{given, refresh-call, refresh-count, refresh-position}
 use Rattle.limit.specs.Reachable.{Reached}
 use Rattle.limit.proofs.Further.{reached-settled}
 use Rattle.listing.specs.Output.{refusal-line, refresh-line, Prints}
@@ -22,25 +24,16 @@ use Rattle.listing.specs.Carried.{Lists, stood}
 use Rattle.listing.proofs.Writing.{prints-nothing}
 use Rattle.listing.proofs.Accepts.{event-is, event-names, event-leaves, names-few}
 
-pub none-printed : (before : List ℕ) (at line k : ℕ) → k ≡ 0 → at ≤ length before → Prints before at (answered line k []) before at
-unfolding answered
-none-printed before at line k e h = rw e (prints-nothing before at h)
+-- a refused activation: the state is as it came
+pub activation-refusal-listed : {before after : List ℕ} {at end : ℕ} (s : Settings) (rows counts : List ℕ) (p : Position) (row line k : ℕ) → record { accepts = false; refusal = suc k; state = given rows counts p } ≡ activate s (given rows counts p) row → Prints before at (refusal-line line (suc k)) after end → Lists (activation-step line s (activate s (given rows counts p) row)) s rows counts p before at after end
+unfolding activation-step stood answered
+activation-refusal-listed s rows counts p row line k call printed = rw (← call) (record { printed = printed; left = refl })
 
-pub refusal-printed : {before after : List ℕ} {at end : ℕ} (line k : ℕ) → (k ≡ 0 → ⊥) → Prints before at (refusal-line line k) after end → Prints before at (answered line k []) after end
-unfolding answered
-refusal-printed line zero h p = absurd (h refl)
-refusal-printed line (suc k) h p = p
-
-pub activation-listed : {before after : List ℕ} {at end : ℕ} (s : Settings) (st : State) (row line : ℕ) (answer : Activation) (rows counts : List ℕ) (k : ℕ) (p : Position) → activation-call answer rows counts ≡ activate s st row → k ≡ activation-refusal answer → p ≡ activation-position answer → Prints before at (answered line k []) after end → Lists (activation-step line s (activate s st row)) s rows counts p before at after end
-unfolding activation-step activation-call stood
-activation-listed {before} {after} {at} {end} s st row line answer rows counts k p call ek ep printed =
-    let given-k : k ≡ activate s st row .refusal = ek ∙ ap (λ (c : Activation-call). c .refusal) call in
-    let left : given rows counts p ≡ activate s st row .state =
-    ap (λ (q : Position). given rows counts q) ep ∙ ap (λ (c : Activation-call). c .state) call in
-    record {
-      printed = subst (λ (x : ℕ). Prints before at (answered line x []) after end) given-k printed;
-      left = ap (λ (x : State). some (record { settings = s; state = x })) (sym left);
-    }
+-- an accepted one prints nothing
+pub activation-listed : (s : Settings) (st : State) (row line : ℕ) (rows counts : List ℕ) (p : Position) (before : List ℕ) (at : ℕ) → first-failed (activation-tests s st row) ≡ 0 → given rows counts p ≡ activate s st row .state → at ≤ length before → Lists (activation-step line s (activate s st row)) s rows counts p before at before at
+unfolding activation-step stood answered
+activation-listed s st row line rows counts p before at none left h =
+    rw (← activation-done s st row none left) (record { printed = prints-nothing before at h; left = refl })
 
 pub volume-most : {s : Settings} {st : State} → Reached s st → s .volume ≤ 16
 volume-most {s} r = accepted s (reached-settled r) .others .volume .most

@@ -2,9 +2,9 @@
 use crate::Listed;
 use crate::Moved;
 use crate::Place;
+use crate::print;
 use bound::Answer;
 use device::Settings;
-use tracker::Activation;
 use tracker::Position;
 use tracker::Refreshed;
 use tracker::SetUp;
@@ -16,9 +16,9 @@ ghost use mathlib.Core.Option.{none};
 ghost use Rattle.bound.specs.Answers.{outcome, Small};
 ghost use Rattle.trace.specs.declared.Record.the-variants.{Set};
 ghost use Rattle.tracker.specs.Calls.{set-up, activate as activated, refresh as refreshed};
-ghost use Rattle.tracker.specs.Answers.{given, set-up-call, activation-refusal, activation-position, refresh-count, refresh-position};
+ghost use Rattle.tracker.specs.Answers.{given, set-up-call, refresh-count, refresh-position};
 ghost use Rattle.limit.specs.Reachable.{Reached};
-ghost use Rattle.listing.specs.Steps.{answered, record-step, activation-step, refresh-step};
+ghost use Rattle.listing.specs.Steps.{record-step, activation-step, refresh-step};
 ghost use Rattle.listing.specs.Output.{Prints};
 ghost use Rattle.listing.specs.Carried.{Lists, Leaves, settings-line};
 
@@ -42,37 +42,6 @@ fn position_of(answer: Refreshed) -> Position
     }
 }
 
-// The refusal of an activation, or 0.
-fn refusal_of(answer: Activation) -> u32
-    ensures { λ r. ⌜ r ≡ activation-refusal answer ⌝ }
-{
-    match answer {
-        Activation::Accepted(_) => 0,
-        Activation::Refused(k, _) => k,
-    }
-}
-
-// The position after an activation.
-fn position_after(answer: Activation) -> Position
-    ensures { λ r. ⌜ r ≡ activation-position answer ⌝ }
-{
-    match answer {
-        Activation::Accepted(p) => p,
-        Activation::Refused(_, p) => p,
-    }
-}
-
-// Nothing for refusal 0, else the line of a refusal; the place behind it.
-fn print_unless(out: &mut [u8], at: usize, line: u64, k: u32) -> usize
-    requires { ⌜ at + 18 ≤ length (now out) ⌝ }
-    ensures { λ r. ⌜ Prints (now (out .entry)) at (answered line k []) (now (out .exit)) r ⌝ }
-{
-    if k == 0 {
-        return at;
-    }
-    crate::print_refusal(out, at, line, k)
-}
-
 // An activation line, on tables of C places.
 fn list_activation(
     s: Settings,
@@ -87,12 +56,16 @@ fn list_activation(
     requires { ⌜ Reached s (given (now rows) (now counts) p) × (at + 200 ≤ length (now out)) ⌝ }
     ensures { λ r. ⌜ Lists (activation-step line s (activated s (given (now (rows .entry)) (now (counts .entry)) p) row)) s (now (rows .exit)) (now (counts .exit)) (r .position) (now (out .entry)) at (now (out .exit)) (r .end) ⌝ }
 {
-    let answer = tracker::activate(s, rows, counts, p, row);
-    let end = print_unless(out, at, line, refusal_of(answer));
-    Moved {
-        position: position_after(answer),
-        end,
+    if s.rows <= row {
+        let end = print::print_refusal(out, at, line, 9);
+        return Moved { position: p, end };
     }
+    if s.interval <= p.activations {
+        let end = print::print_refusal(out, at, line, 22);
+        return Moved { position: p, end };
+    }
+    let position = tracker::activate_accepted(s, rows, counts, p, row);
+    Moved { position, end: at }
 }
 
 // An event line, on tables of C places.
@@ -109,8 +82,8 @@ fn list_event(
     ensures { λ r. ⌜ Lists (refresh-step line s (p .events) (refreshed s (given (now (rows .entry)) (now (counts .entry)) p) (replicate (s .volume) 0))) s (now (rows .exit)) (now (counts .exit)) (r .position) (now (out .entry)) at (now (out .exit)) (r .end) ⌝ }
 {
     let mut list = [0; 16];
-    let answer = tracker::refresh(s, rows, counts, p, &mut list);
-    let end = crate::print_refresh(out, at, p.events, &list, count_of(answer) as usize);
+    let answer = tracker::refresh_accepted(s, rows, counts, p, &mut list);
+    let end = print::print_refresh(out, at, p.events, &list, count_of(answer) as usize);
     Moved {
         position: position_of(answer),
         end,
@@ -118,7 +91,7 @@ fn list_event(
 }
 
 // An activation line, on the first C places.
-fn front_activation(
+pub fn front_activation(
     s: Settings,
     rows: &mut [u32],
     counts: &mut [u32],
@@ -136,7 +109,7 @@ fn front_activation(
 }
 
 // An event line, on the first C places.
-fn front_event(
+pub fn front_event(
     s: Settings,
     rows: &mut [u32],
     counts: &mut [u32],
@@ -167,13 +140,13 @@ fn print_settings(out: &mut [u8], at: usize, line: u64, answer: Answer) -> usize
     ensures { λ r. ⌜ Prints (now (out .entry)) at (settings-line line (outcome answer)) (now (out .exit)) r ⌝ }
 {
     match answer {
-        Answer::Value(h) => crate::print_bound(out, at, h),
-        Answer::Refused(k) => crate::print_refusal(out, at, line, k),
+        Answer::Value(h) => print::print_bound(out, at, h),
+        Answer::Refused(k) => print::print_refusal(out, at, line, k),
     }
 }
 
 // A settings line, on tables of 2,048 places.
-fn list_settings(
+pub fn list_settings(
     s: Settings,
     rows: &mut [u32],
     counts: &mut [u32],

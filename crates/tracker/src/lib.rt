@@ -116,7 +116,7 @@ pub fn set_up(s: Settings, rows: &mut [u32], counts: &mut [u32]) -> SetUp
 }
 
 // An activation that no test refuses.
-fn activate_accepted(
+pub fn activate_accepted(
     s: Settings,
     rows: &mut [u32],
     counts: &mut [u32],
@@ -165,7 +165,7 @@ fn next_event(s: Settings, e: u32) -> u32
 }
 
 // A refresh event that no test refuses.
-fn refresh_accepted(
+pub fn refresh_accepted(
     s: Settings,
     rows: &mut [u32],
     counts: &mut [u32],

@@ -2,15 +2,21 @@
 use Prim.Native.Nat.{_+_, _*_, _≤_}
 use native.Mathlib.Omega.{arith}
 use Rattle.tracker.specs.Answers.{given}
+use Rattle.listing.proofs.Accepts.{event-accepted}
 use Rattle.listing.proofs.Turns.{volume-most, event-few, event-listed}
 use borrow.Author.Needs.{needs}
 use Rattle.listing.proofs.line.list_event.Statement.{statement}
 use Rattle.listing.proofs.line.list_event.Tie as tie
 
+refresh-accepted-requires : tie.Need-refresh-accepted-requires
+refresh-accepted-requires c κs =
+    let a = c .before .before .before .before .before .before in
+    event-accepted (a .pre .0) _ (omega (arith, volume-most (a .pre .0)))
+
 print-refresh-requires : tie.Need-print-refresh-requires
 print-refresh-requires c κs =
     let a = c .before .before .before .before .before .before .before .before .before .before .before .before .before .before .before in
-    let r = c .before .before .before .before .before .before .before .before .refresh in
+    let r = c .before .before .before .before .before .before .before .before .refresh-accepted in
     let few = event-few (a .pre .0) _ (omega (arith, volume-most (a .pre .0))) (r .result) (r .last .1 .0) (r .last .1 .1 .0) (r .last .1 .1 .1 .1 .0) (r .ensures) (c .count-of .result) (c .count-of .ensures) in
     (omega (arith, r .kept .1 .1 .1 .1 .0, few), omega (arith, a .pre .1, few))
 
@@ -18,7 +24,7 @@ returns : tie.Need-returns
 unfolding given
 returns c =
     let a = c .before .before .before .before .before .before .before .before .before .before .before .before .before .before .before .before .before .before .before in
-    let r = c .before .before .before .before .before .before .before .before .before .before .before .before .refresh in
+    let r = c .before .before .before .before .before .before .before .before .before .before .before .before .refresh-accepted in
     let k = c .before .before .before .before .count-of in
     event-listed (a .pre .0) _ (omega (arith, volume-most (a .pre .0))) (r .result) (r .last .1 .0) (r .last .1 .1 .0) (r .last .1 .1 .1 .1 .0) (r .ensures) (k .result) (k .ensures) (a .args .line) (c .position-of .result) (c .position-of .ensures) (c .before .before .before .print-refresh .ensures)
 
@@ -27,7 +33,7 @@ list-event-spec =
     tie.close
     (tie.spec
     (λ c. search needs)
-    (λ c κs. search needs)
+    refresh-accepted-requires
     (λ c. search needs)
     (λ c κs. search needs)
     (λ c. search needs)

@@ -1,9 +1,9 @@
--- `listing::print_byte` meets its contract.
+-- `listing::print::print_byte` meets its contract.
 use native.Mathlib.Omega.{arith}
 use borrow.Author.Needs.{needs}
 use Rattle.listing.proofs.Writing.{prints-byte}
-use Rattle.listing.proofs.print_byte.Statement.{statement}
-use Rattle.listing.proofs.print_byte.Tie as tie
+use Rattle.listing.proofs.print.print_byte.Statement.{statement}
+use Rattle.listing.proofs.print.print_byte.Tie as tie
 
 returns : tie.Need-returns
 returns c = prints-byte (c .args .out .now) (c .args .at) (c .args .b) (omega arith)

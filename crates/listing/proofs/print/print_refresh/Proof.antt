@@ -1,12 +1,12 @@
--- `listing::print_refresh` meets its contract: a byte, two numbers, the rows and a byte, each right behind the last.
+-- `listing::print::print_refresh` meets its contract: a byte, two numbers, the rows and a byte, each right behind the last.
 use native.Mathlib.Omega.{arith}
 use borrow.Author.Needs.{needs}
 use lib.Seq.{length-take-le}
 use Rattle.trace.proofs.Printing.{length-printed}
 use Rattle.listing.specs.Output.{refresh-line}
 use Rattle.listing.proofs.Writing.{prints-then, length-taken}
-use Rattle.listing.proofs.print_refresh.Statement.{statement}
-use Rattle.listing.proofs.print_refresh.Tie as tie
+use Rattle.listing.proofs.print.print_refresh.Statement.{statement}
+use Rattle.listing.proofs.print.print_refresh.Tie as tie
 
 print-columns-requires-2 : tie.Need-print-columns-requires-2
 print-columns-requires-2 c κs = omega (arith, length-printed 6 (c .before .before .before .before .before .before .before .before .before .before .before .args .e))

@@ -1,4 +1,4 @@
--- `listing::print_rows` meets its contract. The invariant: the rows before i are printed.
+-- `listing::print::print_rows` meets its contract. The invariant: the rows before i are printed.
 use mathlib.Core.Path.{_≡_}
 use mathlib.Core.List.{List}
 use Prim.Native.Nat.{ℕ, _+_, _-_, _*_, _≤_, _<_}
@@ -7,8 +7,8 @@ use lib.ListN.{length, getD, take}
 use Rattle.trace.specs.Numbers.{printed}
 use Rattle.listing.specs.Output.{row-columns, Prints}
 use Rattle.listing.proofs.Writing.{prints-nothing, prints-then, prints-long, length-taken, rows-on}
-use Rattle.listing.proofs.print_rows.Statement.{statement}
-use Rattle.listing.proofs.print_rows.Tie as tie
+use Rattle.listing.proofs.print.print_rows.Statement.{statement}
+use Rattle.listing.proofs.print.print_rows.Tie as tie
 
 record Done (out₀ : List ℕ) (at : ℕ) (picks : List ℕ) (count : ℕ) (out : List ℕ) (place i : ℕ) : Type 0 where
   prints : Prints out₀ at (row-columns (take i picks)) out place

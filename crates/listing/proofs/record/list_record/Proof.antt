@@ -1,0 +1,51 @@
+-- `listing::record::list_record` meets its contract: by the case of the record.
+use native.Mathlib.Omega.{arith}
+use borrow.Author.Needs.{needs}
+use Rattle.listing.specs.Steps.{record-step}
+use Rattle.listing.proofs.Writing.{prints-nothing}
+use Rattle.listing.proofs.Carries.{stays}
+use Rattle.listing.proofs.record.list_record.Statement.{statement}
+use Rattle.listing.proofs.record.list_record.Tie as tie
+
+returns : tie.Need-returns
+unfolding record-step
+returns c = rw (c .before .before .before .before .before .before .before .before .before .before .before .what .given .1) (c .before .before .before .before .before .before .list-settings .ensures)
+
+returns-2 : tie.Need-returns-2
+returns-2 c = rw (c .before .before .before .before .before .before .before .before .before .before .before .what2 .given .1) (c .before .before .before .before .before .before .activation-line .ensures)
+
+returns-3 : tie.Need-returns-3
+returns-3 c = rw (c .before .before .before .before .before .before .before .before .before .before .enum-told .given .1) (c .before .before .before .before .before .before .event-line .ensures)
+
+returns-4 : tie.Need-returns-4
+unfolding record-step
+returns-4 c =
+    let a = c .before .before .before .before .before .before .before in
+    rw (c .before .enum-told2 .given .1)
+    (stays (a .args .p) (c .at-line .result) (a .args .rows .now) (a .args .counts .now) (a .args .line) _ (c .at-line .ensures) (prints-nothing (a .args .out .now) (a .args .at) (omega (arith, a .pre .1))))
+
+pub list-record-spec : {M : Type 1} → statement M
+list-record-spec =
+    tie.close
+    (tie.spec
+    (λ c. search needs)
+    (λ c κs. search needs)
+    (λ c. search needs)
+    (λ c κs. search needs)
+    (λ c. search needs)
+    (λ c κs. search needs)
+    (λ c. search needs)
+    (λ c κs. search needs)
+    (λ c. search needs)
+    (λ c. search needs)
+    (λ c. search needs)
+    returns
+    (λ c. search needs)
+    (λ c. search needs)
+    (λ c. search needs)
+    returns-2
+    (λ c. search needs)
+    (λ c. search needs)
+    (λ c. search needs)
+    returns-3
+    returns-4)
