@@ -1,4 +1,4 @@
--- Lines alike: counted modulo 10,000,000,000 they print the same, and settings do not ask what the lent tables held.
+-- Lines alike: counted modulo 10,000,000,000 they print the same. And setting up on tables of C places is refused for the settings only.
 use mathlib.Core.Path.{_≡_, refl, sym, _∙_, ap}
 use mathlib.Core.Bool.{true, false, not}
 use mathlib.Core.List.{List, []}
@@ -9,13 +9,11 @@ use borrow.Author.Tests.{eq-eqb}
 use lib.Dec.{eqb}
 use lib.ListN.{length, replicate}
 use Rattle.device.specs.declared.Settings.{Settings}
-use Rattle.device.specs.Refusal.{first-failed, refuse, Outcome, accepted, refused, tested}
+use Rattle.device.specs.Refusal.{first-failed, refuse, Outcome, accepted, refused}
 use Rattle.device.specs.Acceptance.{settings-tests}
 use Rattle.device.proofs.Accepted.{or-later}
-use Rattle.summary.specs.Steps.{empty}
 use Rattle.tracker.specs.declared.Position.{Position}
-use Rattle.tracker.specs.State.{state-of}
-use Rattle.tracker.specs.Calls.{SetUp-call, kept-unless, tables-long, set-up-tests, set-up, activate, refresh}
+use Rattle.tracker.specs.Calls.{SetUp-call, tables-long, set-up-tests, set-up, activate, refresh}
 use Rattle.tracker.proofs.Passed.{set-up-tested}
 use Rattle.trace.specs.declared.Record.{Record}
 use Rattle.trace.specs.declared.Record.the-variants.{Set, Activate, Refresh, Blank}
@@ -23,7 +21,7 @@ use Rattle.listing.specs.Output.{refusal-line}
 use Rattle.listing.specs.Steps.{Standing, refused-step, set-up-step, answered, activation-step, refresh-step, record-step, line-step}
 
 -- the number of the next line, from lines counted modulo 10,000,000,000
-pub counted-on : (lines count : ℕ) → lines ≡ count % 10000000000 → (lines + 1) % 10000000000 ≡ suc count % 10000000000
+pub counted-on : (lines count : ℕ) → lines % 10000000000 ≡ count % 10000000000 → (lines % 10000000000 + 1) % 10000000000 ≡ suc count % 10000000000
 counted-on lines count e = omega arith
 
 module _ (n m : ℕ) (e : n % 10000000000 ≡ m % 10000000000) where
@@ -68,16 +66,3 @@ pub set-up-first : (s : Settings) (rows counts : List ℕ) → length rows ≡ s
 unfolding tables-long refuse
 set-up-first s rows counts h h′ =
     set-up-tested s rows counts ∙ rw (eq-eqb (length rows) (s .counters) h, eq-eqb (length counts) (s .counters) h′)
-
-left-alike : (number : ℕ) (s : Settings) (p : Position) (rows counts rows′ counts′ made made′ : List ℕ) (k : ℕ) → set-up-step number s (record { answer = tested k (accepted p); rows = kept-unless k rows made; counts = kept-unless k counts made′ }) (tested k (accepted p)) ≡ set-up-step number s (record { answer = tested k (accepted p); rows = kept-unless k rows′ made; counts = kept-unless k counts′ made′ }) (tested k (accepted p))
-unfolding set-up-step tested kept-unless
-left-alike number s p rows counts rows′ counts′ made made′ zero = refl
-left-alike number s p rows counts rows′ counts′ made made′ (suc k) = refl
-
--- what the lent tables held does not matter to a settings line
-pub settings-alike : (number : ℕ) (s : Settings) (rows counts rows′ counts′ : List ℕ) → length rows ≡ s .counters → length counts ≡ s .counters → length rows′ ≡ s .counters → length counts′ ≡ s .counters → set-up-step number s (set-up s rows counts) (set-up s rows counts .answer) ≡ set-up-step number s (set-up s rows′ counts′) (set-up s rows′ counts′ .answer)
-unfolding set-up
-settings-alike number s rows counts rows′ counts′ h1 h2 h3 h4 =
-    let begun = state-of s 0 0 empty in
-    rw (set-up-first s rows counts h1 h2, set-up-first s rows′ counts′ h3 h4)
-    (left-alike number s (begun .position) rows counts rows′ counts′ (begun .rows) (begun .counts) (or-later (first-failed (settings-tests s)) 0))

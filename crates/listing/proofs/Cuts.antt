@@ -30,16 +30,16 @@ lines-cut (x ∷ y ∷ ys) b h =
     (λ e. rw (e, lines-cut (y ∷ ys) b h))
     (λ e. rw (e, lines-cut (y ∷ ys) b h, lines-front y ys))
 
-outcomes-cut : (a b : List ℕ) → whole a ≡ true → outcomes (a ++ b) ≡ outcomes a ++ outcomes b
+pub outcomes-cut : (a b : List ℕ) → whole a ≡ true → outcomes (a ++ b) ≡ outcomes a ++ outcomes b
 unfolding outcomes
 outcomes-cut a b h = rw (lines-cut a b h, map-append)
 
-listed-append : (g : Progress) (os ps : List (Outcome Record)) → listed g (os ++ ps) ≡ listed g os ++ listed (passed g os) ps
+pub listed-append : (g : Progress) (os ps : List (Outcome Record)) → listed g (os ++ ps) ≡ listed g os ++ listed (passed g os) ps
 unfolding listed passed
 listed-append g [] ps = refl
 listed-append g (o ∷ os) ps = rw (listed-append (next g o) os ps, append-assoc)
 
-passed-append : (g : Progress) (os ps : List (Outcome Record)) → passed g (os ++ ps) ≡ passed (passed g os) ps
+pub passed-append : (g : Progress) (os ps : List (Outcome Record)) → passed g (os ++ ps) ≡ passed (passed g os) ps
 unfolding passed
 passed-append g [] ps = refl
 passed-append g (o ∷ os) ps = passed-append (next g o) os ps

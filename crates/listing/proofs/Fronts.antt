@@ -26,7 +26,7 @@ unfolding extent ended choose
 extent-most [] h = refl
 extent-most (b ∷ text) h = split (eqb b 10) (λ e. clash (rw e at h)) (λ e. rw e (ap suc (extent-most text (rw e at h))))
 
-extent-within : (text : List ℕ) → extent text ≤ length text
+pub extent-within : (text : List ℕ) → extent text ≤ length text
 unfolding extent choose
 extent-within [] = omega arith
 extent-within (b ∷ text) = split (eqb b 10) (λ e. rw e (omega arith)) (λ e. rw e (omega (arith, extent-within text)))
@@ -38,7 +38,7 @@ ended-front (b ∷ text) h =
     split (eqb b 10) (λ e. rw (e, e)) (λ e. rw (e, e) (ended-front text (rw e at h)))
 
 -- the first line alone reads as it does in the text
-read-front : (text : List ℕ) → read (take (extent text) text) ≡ read text
+pub read-front : (text : List ℕ) → read (take (extent text) text) ≡ read text
 unfolding read
 read-front text =
     let front = take (extent text) text in

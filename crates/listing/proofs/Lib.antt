@@ -8,3 +8,6 @@ pub mod Parts
 pub mod Alike
 pub mod Settled
 pub mod Carries
+pub mod Progress
+pub mod Taking
+pub mod Going

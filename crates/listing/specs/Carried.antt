@@ -1,18 +1,21 @@
 -- How the code carries a listing: a place, and tables of 2,048 places of which the first C are the tracker's.
-use Prim.Native.Nat.{ℕ, _%_}
+use Prim.Native.Nat.{ℕ, _+_, _%_, _≤_}
 use mathlib.Core.Path.{_≡_}
-use mathlib.Core.Bool.{cond}
+use mathlib.Core.Bool.{Bool, true, not, _||_, cond}
 use mathlib.Core.List.{List}
 use mathlib.Core.Option.{Option, none, some}
-use lib.ListN.{length, take}
+use lib.Dec.{ltb}
+use lib.ListN.{length, take, drop}
 use Rattle.device.specs.declared.Settings.{Settings}
 use Rattle.device.specs.Refusal.{Outcome, accepted, refused}
 use Rattle.tracker.specs.declared.Position.{Position}
 use Rattle.tracker.specs.Answers.{given}
 use Rattle.limit.specs.Reachable.{Reached}
+use Rattle.trace.specs.Lines.{ended}
 use Rattle.listing.specs.declared.Place.{Place}
 use Rattle.listing.specs.Output.{bound-line, refusal-line, Prints}
 use Rattle.listing.specs.Steps.{Standing, Progress, Step}
+use Rattle.listing.specs.Texts.{whole, listing, after as follow}
 
 -- a tracker in tables of C places
 unfoldable pub stood : Settings → List ℕ → List ℕ → Position → Option Standing
@@ -38,7 +41,7 @@ pub record Represents (p : Place) (rows counts : List ℕ) (g : Progress) : Type
   pub rows-long : length rows ≡ 2048
   pub counts-long : length counts ≡ 2048
   pub tracker : g .tracker ≡ carried p rows counts
-  pub lines : p .lines ≡ g .count % 10000000000
+  pub lines : p .lines % 10000000000 ≡ g .count % 10000000000
   pub running : Running (g .tracker)
 
 -- what a settings line prints, by the bound's answer
@@ -50,3 +53,14 @@ settings-line number (refused k) = refusal-line number k
 pub record Leaves (step : Step) (p : Place) (rows counts : List ℕ) (before : List ℕ) (at : ℕ) (after : List ℕ) (end : ℕ) : Type 0 where
   pub printed : Prints before at (step .prints) after end
   pub left : step .tracker ≡ carried p rows counts
+
+-- a part of a text: whole lines were taken from its front, and their listing was printed at the front of a buffer
+pub record Taken (p : Place) (rows counts text before : List ℕ) (p′ : Place) (rows′ counts′ after : List ℕ) (taken end : ℕ) : Type 0 where
+  pub within : taken ≤ length text
+  pub ends : whole (take taken text) ≡ true
+  pub prints : (g : Progress) → Represents p rows counts g → Prints before 0 (listing g (take taken text)) after end
+  pub represents : (g : Progress) → Represents p rows counts g → Represents p′ rows′ counts′ (follow g (take taken text))
+
+-- no further line could be taken: none is left that has ended, or less than 200 bytes are left to print in
+unfoldable pub stopped : List ℕ → ℕ → List ℕ → ℕ → Bool
+stopped text taken buffer end = not (ended (drop taken text)) || ltb (length buffer) (end + 200)
