@@ -2,7 +2,7 @@
 use mathlib.Core.Path.{_≡_, refl, ap, sym, _∙_}
 use mathlib.Core.Bool.{true, false}
 use mathlib.Core.Logic.{⊎-elim}
-use mathlib.Core.List.{List, [], _∷_, _++_, append-assoc, map-append}
+use mathlib.Core.List.{List, [], _∷_, _++_, append-assoc, append-nil, map-append}
 use Prim.Native.Nat.{ℕ, zero, suc, _+_, _≤_}
 use native.Mathlib.Omega.{arith}
 use lib.Dec.{eqb}
@@ -18,6 +18,7 @@ use Rattle.trace.proofs.Choices.{clash}
 use Rattle.trace.proofs.Streams.{unended-refused}
 use Rattle.listing.specs.Steps.{Progress, next}
 use Rattle.listing.specs.Texts.{in-front, lines, whole, read, outcomes, listed, passed, listing, after}
+use Rattle.listing.specs.Parts.{Printed, comes, lists, keeps, ends, joined, Parts-joined}
 use Rattle.listing.proofs.Fronts.{lines-front, outcomes-front}
 
 -- behind the end of a line
@@ -76,19 +77,18 @@ outcomes-kept u b e =
     (λ h. rw (take-all 64 u (omega arith)))
     (le-or-lt 64 (length u))
 
-module _ (g : Progress) (u b : List ℕ) (e : ended u ≡ false) where
-  listing-kept : listing g (u ++ b) ≡ listing g (take 64 u ++ b)
-  unfolding listing
-  listing-kept = rw (outcomes-kept u b e)
+-- of a line that has not ended, the first 64 bytes tell as much as the whole
+pub listing-kept : (g : Progress) (u b : List ℕ) → ended u ≡ false → listing g (u ++ b) ≡ listing g (take 64 u ++ b)
+unfolding listing
+listing-kept g u b e = rw (outcomes-kept u b e)
 
-  after-kept : after g (u ++ b) ≡ after g (take 64 u ++ b)
-  unfolding after
-  after-kept = rw (outcomes-kept u b e)
-
--- a part of whole lines a and an unfinished one u: of u, the first 64 bytes are kept and go in front of the next part b
-module _ (g : Progress) (a u b : List ℕ) (h : whole a ≡ true) (e : ended u ≡ false) where
-  pub listing-part : listing g (a ++ u ++ b) ≡ listing g a ++ listing (after g a) (take 64 u ++ b)
-  listing-part = rw (append-assoc, listing-cut g a (u ++ b) h, listing-kept (after g a) u b e)
-
-  pub after-part : after g (a ++ u ++ b) ≡ after (after g a) (take 64 u ++ b)
-  after-part = rw (append-assoc, after-cut g a (u ++ b) h, after-kept (after g a) u b e)
+pub parts-joined : Parts-joined
+unfolding Parts-joined joined
+parts-joined g text _ out (comes part {parts = parts} later) =
+    parts-joined g (text ++ part) parts out later ∙ ap (listing g) (append-assoc text part (joined parts))
+parts-joined g _ parts _ (lists a text {out = out} h later) =
+    ap (λ (o : List ℕ). listing g a ++ o) (parts-joined (after g a) text parts out later) ∙
+    sym (listing-cut g a (text ++ joined parts) h) ∙ ap (listing g) (sym (append-assoc a text (joined parts)))
+parts-joined g _ parts out (keeps text e later) =
+    parts-joined g (take 64 text) parts out later ∙ sym (listing-kept g text (joined parts) e)
+parts-joined g _ _ _ (ends text e) = ap (listing g) (sym (append-nil text))

@@ -21,7 +21,7 @@ unfolding lines in-front extent choose
 lines-front b [] = split (eqb b 10) (λ e. rw e) (λ e. rw e)
 lines-front b (c ∷ cs) = split (eqb b 10) (λ e. rw e) (λ e. rw (e, lines-front c cs))
 
-extent-most : (text : List ℕ) → ended text ≡ false → extent text ≡ length text
+pub extent-most : (text : List ℕ) → ended text ≡ false → extent text ≡ length text
 unfolding extent ended choose
 extent-most [] h = refl
 extent-most (b ∷ text) h = split (eqb b 10) (λ e. clash (rw e at h)) (λ e. rw e (ap suc (extent-most text (rw e at h))))

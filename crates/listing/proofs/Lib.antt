@@ -11,3 +11,5 @@ pub mod Carries
 pub mod Progress
 pub mod Taking
 pub mod Going
+pub mod Kept
+pub mod Last

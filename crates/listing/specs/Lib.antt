@@ -3,3 +3,4 @@ pub mod Output
 pub mod Steps
 pub mod Texts
 pub mod Carried
+pub mod Parts

@@ -7,10 +7,16 @@ use device::Settings;
 use trace::Read;
 use tracker::Position;
 ghost use mathlib.Core.Path.{_≡_};
-ghost use mathlib.Core.Bool.{true};
-ghost use lib.ListN.{length};
+ghost use mathlib.Core.Bool.{true, false};
+ghost use mathlib.Core.List.{List};
+ghost use Prim.Native.Nat.{ℕ, _≤_, min};
+ghost use lib.ListN.{length, take, drop};
+ghost use Rattle.trace.specs.Lines.{ended};
 ghost use Rattle.trace.specs.Reading.{said};
-ghost use Rattle.listing.specs.Carried.{carried, Running, Taken, stopped};
+ghost use Rattle.listing.specs.Output.{Prints};
+ghost use Rattle.listing.specs.Steps.{Progress, start as beginning};
+ghost use Rattle.listing.specs.Texts.{listing};
+ghost use Rattle.listing.specs.Carried.{carried, Running, Represents, Taken, stopped};
 
 // Where a listing is: whether a tracker stands, its settings and position, and the lines so far modulo 10,000,000,000.
 pub struct Place {
@@ -37,6 +43,31 @@ pub struct Part {
     pub place: Place,
     pub taken: usize,
     pub end: usize,
+}
+
+// Where a listing begins: no tracker stands.
+pub fn start() -> Place
+    ensures { λ r. ⌜ ((rows counts : List ℕ) → length rows ≡ 2048 → length counts ≡ 2048 → Represents r rows counts beginning) ⌝ }
+{
+    Place {
+        stands: false,
+        settings: Settings {
+            rows: 0,
+            blast_diameter: 0,
+            volume: 0,
+            counters: 0,
+            interval: 0,
+            window: 0,
+            block: 0,
+        },
+        position: Position {
+            events: 0,
+            activations: 0,
+            tracked: 0,
+            spillover: 0,
+        },
+        lines: 0,
+    }
 }
 
 // The place behind a line that was read.
@@ -83,4 +114,41 @@ pub fn list_part(
         taken: at,
         end,
     }
+}
+
+// The end of a trace: what is left of it is a last line without byte 10, which is refused, or nothing.
+pub fn list_end(p: Place, text: &[u8], out: &mut [u8]) -> usize
+    ensures { λ r. ⌜ r ≤ length (now (out .entry)) ⌝ }
+    ensures { λ r. ⌜ ((rows counts : List ℕ) (g : Progress) → Represents p rows counts g → ended (now (text .entry)) ≡ false → 18 ≤ length (now (out .entry)) → Prints (now (out .entry)) 0 (listing g (now (text .entry))) (now (out .exit)) r) ⌝ }
+{
+    if text.len() == 0 {
+        return 0;
+    }
+    if out.len() < 18 {
+        return 0;
+    }
+    print::print_refusal(out, 0, p.lines % 10000000000 + 1, 11)
+}
+
+// The smaller of two numbers.
+fn smaller(a: usize, b: usize) -> usize
+    ensures { λ r. ⌜ r ≡ min a b ⌝ }
+{
+    if a <= b { a } else { b }
+}
+
+// Of the text's bytes from one place to another, the first 64 go to its front; how many they are.
+pub fn keep(text: &mut [u8], from: usize, to: usize) -> usize
+    ensures { λ r. ⌜ r ≤ 64 ⌝ }
+    ensures { λ r. ⌜ take r (now (text .exit)) ≡ take 64 (drop from (take to (now (text .entry)))) ⌝ }
+{
+    let end = smaller(to, text.len());
+    let begin = smaller(from, end);
+    let kept = smaller(end - begin, 64);
+    let mut i = 0;
+    while i < kept {
+        text[i] = text[begin + i];
+        i += 1;
+    }
+    kept
 }

@@ -1,0 +1,41 @@
+-- The end of a trace: a last line that has not ended is refused with 11.
+use mathlib.Core.Path.{_≡_, refl, ap, sym, _∙_, subst}
+use mathlib.Core.Bool.{false}
+use mathlib.Core.List.{List, [], _∷_, append-nil}
+use Prim.Native.Nat.{ℕ, suc, _+_, _%_, _≤_, _<_}
+use native.Mathlib.Omega.{arith}
+use lib.ListN.{length, drop, drop-of-length-le}
+use Rattle.trace.specs.Numbers.{choose}
+use Rattle.trace.specs.Lines.{ended, extent}
+use Rattle.trace.specs.Reading.{reading, reading-by, or-refused}
+use Rattle.listing.specs.declared.Place.{Place}
+use Rattle.listing.specs.Output.{refusal-line, Prints}
+use Rattle.listing.specs.Steps.{Progress, refused-step, line-step, step}
+use Rattle.listing.specs.Texts.{lines, read, outcomes, listed, listing}
+use Rattle.listing.specs.Carried.{Represents}
+use Rattle.listing.proofs.Alike.{counted-on, refusal-alike}
+use Rattle.listing.proofs.Fronts.{extent-most, outcomes-front}
+use Rattle.listing.proofs.Writing.{prints-nothing}
+
+none-left : outcomes [] ≡ []
+unfolding outcomes lines
+none-left = refl
+
+none-listed : (g : Progress) (text : List ℕ) → length text ≡ 0 → listing g text ≡ []
+unfolding listing listed
+none-listed g [] e = rw none-left
+none-listed g (b ∷ text) e = absurd (omega arith)
+
+unended-listing : (g : Progress) (text : List ℕ) → ended text ≡ false → 0 < length text → listing g text ≡ refusal-line (suc (g .count)) 11
+unfolding listing listed read reading reading-by choose or-refused step line-step refused-step
+unended-listing g text e h =
+    let rest : drop (extent text) text ≡ [] = drop-of-length-le text {i = extent text} (omega (arith, extent-most text e)) in
+    rw (outcomes-front text h, rest, none-left, e, append-nil)
+
+module _ {before : List ℕ} (p : Place) (text rows counts : List ℕ) (g : Progress) (r : Represents p rows counts g) where
+  pub nothing-last : length text ≡ 0 → Prints before 0 (listing g text) before 0
+  nothing-last e = rw (none-listed g text e) (prints-nothing before 0 (omega arith))
+
+  pub refused-last : {after : List ℕ} {end : ℕ} → ended text ≡ false → 0 < length text → Prints before 0 (refusal-line (p .lines % 10000000000 + 1) 11) after end → Prints before 0 (listing g text) after end
+  refused-last e h printed =
+      rw (unended-listing g text e h, ← refusal-alike (p .lines % 10000000000 + 1) (suc (g .count)) (counted-on (p .lines) (g .count) (r .lines)) 11) printed

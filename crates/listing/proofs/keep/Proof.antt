@@ -1,0 +1,68 @@
+-- `listing::keep` meets its contract. The invariant: so many bytes are copied.
+use mathlib.Core.Path.{_≡_, refl, _∙_}
+use Prim.Native.Nat.{_+_, _-_, _≤_, _<_, min}
+use native.Mathlib.Omega.{arith}
+use borrow.Author.Needs.{needs}
+use lib.ListN.{length}
+use Rattle.listing.proofs.Kept.{kept-few, kept-is, Copied, copied-long, copied-front, copied-on}
+use Rattle.listing.proofs.keep.Statement.{statement}
+use Rattle.listing.proofs.keep.Tie as tie
+
+abbrev Inv-loop : tie.InvT-loop
+Inv-loop text₀ from to end begin kept i₀ text i = Copied text₀ begin i text × (i ≤ kept)
+
+abbrev μ-loop : tie.MeasureT-loop
+μ-loop text₀ from to end begin kept i₀ text i = kept - i
+
+loop-holds : tie.Need-loop-holds Inv-loop μ-loop
+loop-holds c = (refl, omega arith)
+
+slice-read-text : tie.Need-slice-read-text Inv-loop μ-loop
+slice-read-text c =
+    let l = c .before .before .loop in
+    let few = kept-few (c .before .before .before .before .before .before .before .args .text .now) (c .before .before .before .before .before .before .before .args .from) (c .before .before .before .before .before .before .before .args .to) (c .before .before .before .before .before .smaller .ensures) (c .before .before .before .before .smaller2 .ensures) (c .before .before .before .smaller3 .ensures) in
+    omega (arith, few .1, c .before .loop-test .taken, copied-long (c .before .before .before .before .before .before .before .args .text .now) (c .before .before .before .before .smaller2 .result) (l .i) (omega (arith, few .1, l .inv .1)) (l .inv .0))
+
+slice-write-text : tie.Need-slice-write-text Inv-loop μ-loop
+slice-write-text c = omega (arith, slice-read-text c)
+
+loop-again : tie.Need-loop-again Inv-loop μ-loop
+loop-again c =
+    let l = c .before .before .loop in
+    let few = kept-few (c .before .before .before .before .before .before .before .args .text .now) (c .before .before .before .before .before .before .before .args .from) (c .before .before .before .before .before .before .before .args .to) (c .before .before .before .before .before .smaller .ensures) (c .before .before .before .before .smaller2 .ensures) (c .before .before .before .smaller3 .ensures) in
+    let less = c .before .loop-test .taken in
+    (copied-on (c .before .before .before .before .before .before .before .args .text .now) (c .before .before .before .before .smaller2 .result) (l .i) (omega (arith, few .1, l .inv .1)) (l .inv .0) (omega (arith, few .1, less)), omega (arith, less))
+
+same-length : tie.Need-same-length Inv-loop μ-loop
+same-length c =
+    let l = c .before .loop in
+    let few = kept-few (c .before .before .before .before .before .before .args .text .now) (c .before .before .before .before .before .before .args .from) (c .before .before .before .before .before .before .args .to) (c .before .before .before .before .smaller .ensures) (c .before .before .before .smaller2 .ensures) (c .before .before .smaller3 .ensures) in
+    copied-long (c .before .before .before .before .before .before .args .text .now) (c .before .before .before .smaller2 .result) (l .i) (omega (arith, few .1, l .inv .1)) (l .inv .0)
+
+returns : tie.Need-returns Inv-loop μ-loop
+returns c =
+    let l = c .before .loop in
+    let t = c .before .before .before .before .before .before .args .text .now in
+    let few = kept-few t (c .before .before .before .before .before .before .args .from) (c .before .before .before .before .before .before .args .to) (c .before .before .before .before .smaller .ensures) (c .before .before .before .smaller2 .ensures) (c .before .before .smaller3 .ensures) in
+    let done : l .i ≡ c .before .before .smaller3 .result = omega (arith, l .inv .1, c .loop-test .left) in
+    (few .0, (rw done at (copied-front t (c .before .before .before .smaller2 .result) (l .i) (omega (arith, few .1, l .inv .1)) (l .inv .0))) ∙ kept-is t (c .before .before .before .before .before .before .args .from) (c .before .before .before .before .before .before .args .to) (c .before .before .before .before .smaller .ensures) (c .before .before .before .smaller2 .ensures) (c .before .before .smaller3 .ensures))
+
+pub keep-spec : {M : Type 1} → statement M
+keep-spec =
+    tie.close
+    (tie.spec
+    Inv-loop
+    μ-loop
+    (λ c κs. search needs)
+    (λ c κs. search needs)
+    (λ c. omega (arith, c .smaller2 .ensures))
+    (λ c κs. search needs)
+    loop-holds
+    (λ c. omega (arith, kept-few (c .before .before .before .before .before .before .args .text .now) (c .before .before .before .before .before .before .args .from) (c .before .before .before .before .before .before .args .to) (c .before .before .before .before .smaller .ensures) (c .before .before .before .smaller2 .ensures) (c .before .before .smaller3 .ensures), c .loop-test .taken))
+    slice-read-text
+    slice-write-text
+    (λ c. omega (arith, c .before .loop-test .taken))
+    (λ c. omega (arith, c .before .loop-test .taken))
+    loop-again
+    same-length
+    returns)
