@@ -6,7 +6,8 @@ use Prim.Native.Nat.{ℕ, _+_, _%_, _≤_, _<_}
 use native.Mathlib.Omega.{arith}
 use borrow.Author.Tests.{lt-ltb}
 use lib.Dec.{ltb}
-use lib.ListN.{length, take, drop, drop-of-length-le}
+use lib.ListN.{length, take, drop, length-drop, drop-of-length-le}
+use lib.Seq.{take-add}
 use Rattle.trace.specs.Lines.{ended}
 use Rattle.trace.specs.Reading.{reading}
 use Rattle.device.proofs.Cases.{split}
@@ -14,60 +15,83 @@ use Rattle.listing.specs.declared.Place.{Place}
 use Rattle.listing.specs.Output.{Prints}
 use Rattle.listing.specs.Steps.{Progress, line-step}
 use Rattle.listing.specs.Texts.{whole, outcomes, lines, listed, passed, listing, after as follow}
-use Rattle.listing.specs.Carried.{carried, Running, Represents, Leaves, Taken, stopped}
+use Rattle.listing.specs.Carried.{carried, Running, Represents, Leaves, Passed, Taken, stopped}
 use Rattle.listing.proofs.Writing.{prints-nothing, prints-long, prints-then}
 use Rattle.listing.proofs.Progress.{line-prints, line-represents}
-use Rattle.listing.proofs.Taking.{place-within, whole-on, listing-on, after-on}
+use Rattle.listing.proofs.Taking.{place-within, whole-append, whole-on, listing-on, after-on}
+use Rattle.listing.proofs.Cuts.{after-cut}
 
 -- nothing is taken yet
+pub passed-none : (p : Place) (rows counts text : List ℕ) → Passed p rows counts text p rows counts 0
+unfolding whole follow outcomes lines passed
+passed-none p rows counts text = record { within = omega arith; ends = refl; represents = λ g h. h }
+
 pub taken-none : (p : Place) (rows counts text before : List ℕ) → Taken p rows counts text before p rows counts before 0 0
-unfolding whole listing follow outcomes lines listed passed
+unfolding listing outcomes lines listed
 taken-none p rows counts text before =
-    record {
-      within = omega arith;
-      ends = refl;
-      prints = λ g h. prints-nothing before 0 (omega arith);
-      represents = λ g h. h;
-    }
+    record { passed = passed-none p rows counts text; prints = λ g h. prints-nothing before 0 (omega arith) }
+
+-- where a listing is that a place and the tables hold, its lines counted as the place counts them
+abbrev began : Place → List ℕ → List ℕ → Progress
+began p rows counts = record { tracker = carried p rows counts; count = p .lines }
+
+begins : {p : Place} {rows counts : List ℕ} → Running (carried p rows counts) → length rows ≡ 2048 → length counts ≡ 2048 → Represents p rows counts (began p rows counts)
+begins running rows-long counts-long =
+    record { rows-long = rows-long; counts-long = counts-long; tracker = refl; lines = refl; running = running }
+
+-- between two lines
+module _ {p p′ : Place} {rows counts text rows′ counts′ : List ℕ} {taken : ℕ} (t : Passed p rows counts text p′ rows′ counts′ taken) (running : Running (carried p rows counts)) (rows-long : length rows ≡ 2048) (counts-long : length counts ≡ 2048) where
+  pub still-running : Running (carried p′ rows′ counts′)
+  still-running =
+      let r = t .represents (began p rows counts) (begins running rows-long counts-long) in
+      rw (r .tracker) at (r .running)
+
+  pub still-rows : length rows′ ≡ 2048
+  still-rows = t .represents (began p rows counts) (begins running rows-long counts-long) .rows-long
+
+  pub still-counts : length counts′ ≡ 2048
+  still-counts = t .represents (began p rows counts) (begins running rows-long counts-long) .counts-long
 
 module _ {p p′ : Place} {rows counts text before rows′ counts′ after : List ℕ} {taken end : ℕ} (t : Taken p rows counts text before p′ rows′ counts′ after taken end) where
   module _ (running : Running (carried p rows counts)) (rows-long : length rows ≡ 2048) (counts-long : length counts ≡ 2048) where
-    abbrev began : Progress
-    began = record { tracker = carried p rows counts; count = p .lines }
-
-    begins : Represents p rows counts began
-    begins = record { rows-long = rows-long; counts-long = counts-long; tracker = refl; lines = refl; running = running }
-
-    pub still-running : Running (carried p′ rows′ counts′)
-    still-running = let r = t .represents began begins in rw (r .tracker) at (r .running)
-
-    pub still-rows : length rows′ ≡ 2048
-    still-rows = t .represents began begins .rows-long
-
-    pub still-counts : length counts′ ≡ 2048
-    still-counts = t .represents began begins .counts-long
-
     pub still-long : length after ≡ length before
-    still-long = prints-long (t .prints began begins)
+    still-long = prints-long (t .prints (began p rows counts) (begins running rows-long counts-long))
 
     pub end-within : end ≤ length before
-    end-within = let f = t .prints began begins in omega (arith, f .fits, f .behind)
+    end-within =
+        let f = t .prints (began p rows counts) (begins running rows-long counts-long) in
+        omega (arith, f .fits, f .behind)
 
   -- one line more, which has ended
   pub taken-on : {p″ : Place} {rows″ counts″ after″ : List ℕ} {end″ : ℕ} → taken < length text → ended (drop taken text) ≡ true → Leaves (line-step (p′ .lines % 10000000000 + 1) (carried p′ rows′ counts′) (reading text taken .outcome)) p″ rows″ counts″ after end after″ end″ → p″ .lines ≡ p′ .lines % 10000000000 + 1 → length rows″ ≡ 2048 → length counts″ ≡ 2048 → Taken p rows counts text before p″ rows″ counts″ after″ (reading text taken .place) end″
   taken-on less e l counted rl cl =
+      let w = t .passed .ends in
       record {
-        within = place-within text taken less .1;
-        ends = whole-on text taken less (t .ends) e;
+        passed = record {
+          within = place-within text taken less .1;
+          ends = whole-on text taken less w e;
+          represents =
+              λ g h.
+              rw (after-on text taken less w g)
+              (line-represents (t .passed .represents g h) (reading text taken .outcome) l counted rl cl);
+        };
         prints =
             λ g h.
-            rw (listing-on text taken less (t .ends) g)
-            (prints-then (t .prints g h) (line-prints (t .represents g h) (reading text taken .outcome) l counted rl cl));
-        represents =
-            λ g h.
-            rw (after-on text taken less (t .ends) g)
-            (line-represents (t .represents g h) (reading text taken .outcome) l counted rl cl);
+            rw (listing-on text taken less w g)
+            (prints-then (t .prints g h) (line-prints (t .passed .represents g h) (reading text taken .outcome) l counted rl cl));
       }
+
+-- lines taken from what others left
+pub passed-then : {p p′ p″ : Place} {rows counts text rows′ counts′ rows″ counts″ : List ℕ} {taken more : ℕ} → Passed p rows counts text p′ rows′ counts′ taken → Passed p′ rows′ counts′ (drop taken text) p″ rows″ counts″ more → Passed p rows counts text p″ rows″ counts″ (taken + more)
+passed-then {text} {taken} {more} a b =
+    record {
+      within = omega (arith, a .within, b .within, length-drop taken text);
+      ends = rw (take-add taken more text) (whole-append (take taken text) (take more (drop taken text)) (a .ends) (b .ends));
+      represents =
+          λ g h.
+          rw (take-add taken more text, after-cut g (take taken text) (take more (drop taken text)) (a .ends))
+          (b .represents (follow g (take taken text)) (a .represents g h));
+    }
 
 module _ (text : List ℕ) (taken : ℕ) (buffer : List ℕ) (end : ℕ) where
   pub stopped-unended : ended (drop taken text) ≡ false → stopped text taken buffer end ≡ true

@@ -54,12 +54,16 @@ pub record Leaves (step : Step) (p : Place) (rows counts : List ℕ) (before : L
   pub printed : Prints before at (step .prints) after end
   pub left : step .tracker ≡ carried p rows counts
 
--- a part of a text: whole lines were taken from its front, and their listing was printed at the front of a buffer
-pub record Taken (p : Place) (rows counts text before : List ℕ) (p′ : Place) (rows′ counts′ after : List ℕ) (taken end : ℕ) : Type 0 where
+-- whole lines at the front of a text, so many bytes, were taken
+pub record Passed (p : Place) (rows counts text : List ℕ) (p′ : Place) (rows′ counts′ : List ℕ) (taken : ℕ) : Type 0 where
   pub within : taken ≤ length text
   pub ends : whole (take taken text) ≡ true
-  pub prints : (g : Progress) → Represents p rows counts g → Prints before 0 (listing g (take taken text)) after end
   pub represents : (g : Progress) → Represents p rows counts g → Represents p′ rows′ counts′ (follow g (take taken text))
+
+-- and their listing was printed at the front of a buffer
+pub record Taken (p : Place) (rows counts text before : List ℕ) (p′ : Place) (rows′ counts′ after : List ℕ) (taken end : ℕ) : Type 0 where
+  pub passed : Passed p rows counts text p′ rows′ counts′ taken
+  pub prints : (g : Progress) → Represents p rows counts g → Prints before 0 (listing g (take taken text)) after end
 
 -- no further line could be taken: none is left that has ended, or less than 200 bytes are left to print in
 unfoldable pub stopped : List ℕ → ℕ → List ℕ → ℕ → Bool
