@@ -1,3 +1,2 @@
 -- The edges computed from the definitions.
 pub mod Computed
-pub mod Fresh

@@ -1,3 +1,3 @@
 -- What the edge cases hold.
-pub mod Numbers
+pub mod Lent
 pub mod Edges

@@ -1,0 +1,55 @@
+// A program over the tracker: it is set up, rows are activated, and a refresh event names the row to refresh.
+use device::Settings;
+use libc::STDOUT_FILENO;
+use tracker::Activation;
+use tracker::Position;
+use tracker::Refreshed;
+use tracker::SetUp;
+
+// Prints a word and a number on a line.
+fn print(word: &[u8], number: u32) {
+    io::write_all(STDOUT_FILENO, word);
+    io::print_decimal(STDOUT_FILENO, number as u64);
+    io::write_all(STDOUT_FILENO, b"\n");
+}
+
+// Activates a row. The answer holds the position for the next call, also when it refuses.
+fn activate(s: Settings, rows: &mut [u32], counts: &mut [u32], p: Position, row: u32) -> Position {
+    match tracker::activate(s, rows, counts, p, row) {
+        Activation::Accepted(next) => next,
+        Activation::Refused(k, same) => {
+            print(b"refused ", k);
+            same
+        }
+    }
+}
+
+// Sets up on lent tables, activates logical rows 5, 5 and 2, then runs a refresh event with a lent list.
+fn main() {
+    let s = Settings {
+        rows: 16,
+        blast_diameter: 2,
+        volume: 1,
+        counters: 2,
+        interval: 4,
+        window: 4,
+        block: 4,
+    };
+    let mut rows = [0u32; 2];
+    let mut counts = [0u32; 2];
+    let mut list = [0u32; 1];
+    let SetUp::Ready(p) = tracker::set_up(s, &mut rows, &mut counts) else {
+        return;
+    };
+    let p = activate(s, &mut rows, &mut counts, p, 5);
+    let p = activate(s, &mut rows, &mut counts, p, 5);
+    let p = activate(s, &mut rows, &mut counts, p, 2);
+    match tracker::refresh(s, &mut rows, &mut counts, p, &mut list) {
+        Refreshed::Accepted(count, next) => {
+            if count == 1 {
+                print(b"picked ", list[0]);
+            }
+        }
+        Refreshed::Refused(k, same) => print(b"refused ", k),
+    }
+}
