@@ -4,13 +4,14 @@ use mathlib.Core.Bool.{true, false, not, _||_}
 use mathlib.Core.List.{List, []}
 use Prim.Native.Nat.{ℕ, _+_, _%_, _≤_, _<_}
 use native.Mathlib.Omega.{arith}
-use borrow.Author.Tests.{lt-ltb}
+use borrow.Author.Tests.{lt-ltb, le-ltb}
 use lib.Dec.{ltb}
 use lib.ListN.{length, take, drop, length-drop, drop-of-length-le}
 use lib.Seq.{take-add}
 use Rattle.trace.specs.Lines.{ended}
 use Rattle.trace.specs.Reading.{reading}
 use Rattle.device.proofs.Cases.{split}
+use Rattle.trace.proofs.Choices.{clash}
 use Rattle.listing.specs.declared.Place.{Place}
 use Rattle.listing.specs.Output.{Prints}
 use Rattle.listing.specs.Steps.{Progress, line-step}
@@ -57,6 +58,10 @@ module _ {p p′ : Place} {rows counts text before rows′ counts′ after : Lis
     pub still-long : length after ≡ length before
     still-long = prints-long (t .prints (began p rows counts) (begins running rows-long counts-long))
 
+    pub end-none : taken ≡ 0 → end ≡ 0
+    unfolding listing listed outcomes lines
+    end-none e = rw e at (t .prints (began p rows counts) (begins running rows-long counts-long) .behind)
+
     pub end-within : end ≤ length before
     end-within =
         let f = t .prints (began p rows counts) (begins running rows-long counts-long) in
@@ -93,16 +98,25 @@ passed-then {text} {taken} {more} a b =
           (b .represents (follow g (take taken text)) (a .represents g h));
     }
 
+pub none-ended : (text : List ℕ) (taken : ℕ) → length text ≤ taken → ended (drop taken text) ≡ false
+unfolding ended
+none-ended text taken h = rw (drop-of-length-le text h)
+
 module _ (text : List ℕ) (taken : ℕ) (buffer : List ℕ) (end : ℕ) where
   pub stopped-unended : ended (drop taken text) ≡ false → stopped text taken buffer end ≡ true
   unfolding stopped
   stopped-unended e = rw e
 
   pub stopped-end : length text ≤ taken → stopped text taken buffer end ≡ true
-  unfolding ended
-  stopped-end h = stopped-unended (rw (drop-of-length-le text h))
+  stopped-end h = stopped-unended (none-ended text taken h)
 
   pub stopped-short : length buffer < end + 200 → stopped text taken buffer end ≡ true
   unfolding stopped
   stopped-short h =
       split (ended (drop taken text)) (λ e. rw (e, lt-ltb (length buffer) (end + 200) h)) (λ e. rw e)
+
+  -- where there is room, it stopped since no line is left that has ended
+  pub stopped-there : stopped text taken buffer end ≡ true → end + 200 ≤ length buffer → ended (drop taken text) ≡ false
+  unfolding stopped
+  stopped-there s h =
+      split (ended (drop taken text)) (λ e. clash (rw (e, le-ltb (length buffer) (end + 200) h) at (sym s))) (λ e. e)

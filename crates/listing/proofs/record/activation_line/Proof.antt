@@ -28,7 +28,7 @@ returns-2 c =
     let none = carried-none (a .args .p) (a .args .rows .now) (a .args .counts .now) (c .before .before .before .before .before .if1 .left) in
     rw none
     (rw none at
-        (stays (a .args .p) (c .at-line2 .result) (a .args .rows .now) (a .args .counts .now) (a .args .line) _ (c .at-line2 .ensures) (c .before .before .before .print-refusal .ensures)))
+    (stays (a .args .p) (c .at-line2 .result) (a .args .rows .now) (a .args .counts .now) (a .args .line) _ (c .at-line2 .ensures) (c .before .before .before .print-refusal .ensures)))
 
 pub activation-line-spec : {M : Type 1} → statement M
 activation-line-spec =

@@ -1,0 +1,23 @@
+-- `rowlist::finish` is safe.
+use mathlib.Core.Path.{_≡_, sym, _∙_}
+use native.Mathlib.Omega.{arith}
+use borrow.Author.Needs.{needs}
+use lib.Seq.{length-take-le}
+use Rattle.rowlist.proofs.finish.Statement.{statement}
+use Rattle.rowlist.proofs.finish.Tie as tie
+
+slice-aggregate-write-all : tie.Need-slice-aggregate-write-all
+slice-aggregate-write-all c =
+    let l = c .before .before .before .list-end in
+    sym (length-take-le (l .result) (l .last .1 .1 .0) (omega (arith, l .ensures .0, l .kept .1 .1 .0)))
+
+pub finish-spec : {M : Type 1} → statement M
+finish-spec =
+    tie.close
+    (tie.spec
+    (λ c κs. search needs)
+    (λ c. search needs)
+    slice-aggregate-write-all
+    (λ c κs. search needs)
+    (λ c. search needs)
+    (λ c. search needs))

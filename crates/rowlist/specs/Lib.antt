@@ -1,0 +1,2 @@
+-- What a read leaves at hand.
+pub mod Reads
