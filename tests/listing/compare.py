@@ -30,6 +30,7 @@ from comparison import (
     BUILD_MODEL, FIXED_SEED, MODEL, ROOT, Run, Tally, arguments_with_seeds, build, give_up,
     read_figures,
 )
+from failures import check_failures
 from traces import plain_trace, long_lines, random_traces
 
 HERE = "tests/listing"
@@ -204,6 +205,12 @@ def check_written(tally, command):
             check_listing(tally, command, feed, f"{name} by the program", text, wanted)
 
 
+def check_broken(tally, command):
+    tally.begin("input or output that fails")
+    text = b"S    16     2    16    16     4     4     4\n" + b"A     5\nA    10\nR\n" * 20_000
+    check_failures(tally, command, f"{OUT}/trace", text, model_listing(text))
+
+
 def main():
     parser = argparse.ArgumentParser(description="Compares the program's listings with the model's.")
     parser.add_argument("--program", default=shlex.quote(str(ROOT / "target/bin/rowlist")),
@@ -221,6 +228,7 @@ def main():
     tally = Tally()
     kinds = collections.Counter()
     check_written(tally, command)
+    check_broken(tally, command)
     compare(tally, kinds, command, FIXED_SEED, "fixed")
     compare(tally, kinds, command, fresh_seed, "fresh")
     tally.begin("how often each kind of trace and of line occurred")

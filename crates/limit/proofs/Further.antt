@@ -1,8 +1,8 @@
 -- A reached state: one more call reaches one, it is valid, and its calls are refused with 9, 22 or 10 only.
 use mathlib.Core.Path.{_≡_, refl, sym, _∙_, ap}
-use mathlib.Core.Bool.{Bool, true, false, not}
+use mathlib.Core.Bool.{not}
 use mathlib.Core.List.{List, [], _∷_, _++_}
-use Prim.Native.Nat.{ℕ, _≤_, _<_}
+use Prim.Native.Nat.{ℕ}
 use lib.Dec.{ltb, leb}
 use lib.ListN.{length}
 use Rattle.device.specs.declared.Settings.{Settings}
@@ -11,13 +11,12 @@ use Rattle.device.specs.Acceptance.{settings-tests}
 use Rattle.device.proofs.Accepted.{accepted}
 use Rattle.summary.specs.Steps.{Summary}
 use Rattle.tracker.specs.State.{State, state-of, valid}
-use Rattle.tracker.specs.Calls.{tables-long, activate, refresh, activation-tests, refresh-tests}
-use Rattle.tracker.proofs.LaidOut.{long-enough}
-use Rattle.tracker.proofs.Refusals.{Held, held-valid, activation-refusals, refresh-refusals}
+use Rattle.tracker.specs.Calls.{activate, refresh, activation-tests, refresh-tests}
+use Rattle.tracker.proofs.Refusals.{Held, activation-refusals, refresh-refusals}
 use Rattle.limit.specs.Run.{Command, activation-of, refresh-into, left-by, state-after, Begun}
 use Rattle.limit.specs.Reachable.{Reached}
 use Rattle.limit.proofs.Instance.{held}
-use Rattle.limit.proofs.Invariant.{Kept, begun-accepted}
+use Rattle.limit.proofs.Invariant.{begun-accepted}
 use Rattle.limit.proofs.Theorem.{kept-run}
 
 -- a list of calls behind another
@@ -70,16 +69,6 @@ summed {s} {st} r =
       stored = r .leads ∙ k .stored;
       holds = held s (accepted s (reached-settled r)) (i .window) (i .few) (i .within) (i .early);
     }
-
-pub reached-valid : {s : Settings} {st : State} → Reached s st → valid s st ≡ true
-reached-valid {s} r =
-    let k = summed r in
-    rw (k .stored) (held-valid s (k .events) (k .activations) (k .sum) (reached-settled r) (k .holds))
-
-pub reached-long : {s : Settings} {st : State} → Reached s st → tables-long s (st .rows) (st .counts) ≡ true
-reached-long {s} r =
-    let k = summed r in
-    rw (k .stored) (long-enough s (k .events) (k .activations) (k .sum) (k .holds .sound .fits))
 
 pub activation-refused-with : {s : Settings} {st : State} → Reached s st → (row : ℕ) → first-failed (activation-tests s st row) ≡ refuse (not (ltb row (s .rows))) 9 (refuse (not (ltb (st .position .activations) (s .interval))) 22 0)
 unfolding state-of

@@ -1,11 +1,10 @@
 -- Calls on a reached state: which are refused, and that an event does the same whatever the lent list held.
-use mathlib.Core.Path.{_≡_, refl, sym, _∙_, ap}
-use mathlib.Core.Bool.{Bool, true, false, not}
-use mathlib.Core.List.{List, [], _∷_, _++_}
-use Prim.Native.Nat.{ℕ, _+_, _≤_, _<_}
+use mathlib.Core.Path.{_≡_, refl, sym, _∙_}
+use mathlib.Core.Bool.{false, not}
+use mathlib.Core.List.{List}
+use Prim.Native.Nat.{ℕ, _≤_, _<_}
 use native.Mathlib.Omega.{arith}
 use borrow.Author.Tests.{le-ltb, lt-ltb, le-leb}
-use lib.Dec.{ltb, leb}
 use lib.ListN.{length, take, drop}
 use lib.Seq.{take-at}
 use Rattle.device.specs.declared.Settings.{Settings}
@@ -13,8 +12,8 @@ use Rattle.device.specs.Refusal.{first-failed, refuse}
 use Rattle.summary.specs.Steps.{picked}
 use Rattle.summary.proofs.Distinct.{picks-few}
 use Rattle.tracker.specs.State.{State, summary-of}
-use Rattle.tracker.specs.Calls.{Activation-call, Refresh-call, kept-unless, activation-tests, refresh-tests, activate, refresh}
-use Rattle.tracker.proofs.Passed.{activation-refused, activation-done}
+use Rattle.tracker.specs.Calls.{kept-unless, activation-tests, refresh-tests, activate, refresh}
+use Rattle.tracker.proofs.Passed.{activation-refused}
 use Rattle.limit.specs.Reachable.{Reached}
 use Rattle.limit.proofs.Further.{activation-refused-with, refresh-refused-with}
 

@@ -18,7 +18,7 @@ use Rattle.trace.proofs.Choices.{clash}
 use Rattle.trace.proofs.Streams.{unended-refused}
 use Rattle.listing.specs.Steps.{Progress, next}
 use Rattle.listing.specs.Texts.{in-front, lines, whole, read, outcomes, listed, passed, listing, after}
-use Rattle.listing.specs.Parts.{Printed, comes, lists, keeps, ends, joined, Parts-joined}
+use Rattle.listing.specs.Parts.{comes, lists, keeps, ends, joined, Parts-joined}
 use Rattle.listing.proofs.Fronts.{lines-front, outcomes-front}
 
 -- behind the end of a line

@@ -1,16 +1,16 @@
 -- The first line of a text, as the reader reads it, and the lines behind it.
 use mathlib.Core.Path.{_≡_, refl, ap, sym, _∙_}
 use mathlib.Core.Bool.{true, false}
-use mathlib.Core.List.{List, [], _∷_, _++_}
+use mathlib.Core.List.{List, [], _∷_}
 use Prim.Native.Nat.{ℕ, suc, _≤_, _<_}
 use native.Mathlib.Omega.{arith}
 use lib.Dec.{eqb}
-use lib.ListN.{length, take, drop, take-append-drop, length-append, length-drop}
-use lib.Seq.{take-all, drop-drop, drop-append-le}
+use lib.ListN.{length, take, drop, take-append-drop}
+use lib.Seq.{take-all}
 use Rattle.device.proofs.Cases.{split}
 use Rattle.trace.specs.Numbers.{choose}
 use Rattle.trace.specs.Lines.{ended, extent}
-use Rattle.trace.specs.Reading.{Reading, reading, reading-by}
+use Rattle.trace.specs.Reading.{Reading}
 use Rattle.trace.proofs.Choices.{clash}
 use Rattle.trace.proofs.Streams.{ended-alike}
 use Rattle.listing.specs.Texts.{in-front, lines, read, outcomes}
@@ -53,29 +53,3 @@ pub outcomes-front : (text : List ℕ) → 0 < length text → outcomes text ≡
 unfolding outcomes
 outcomes-front [] h = absurd (omega arith)
 outcomes-front (b ∷ bs) h = rw (lines-front b bs, read-front (b ∷ bs))
-
--- the same at a place of a text
-pub outcomes-at : (text : List ℕ) (p : ℕ) → p < length text → outcomes (drop p text) ≡ reading text p .outcome ∷ outcomes (drop (reading text p .place) text)
-unfolding read reading reading-by
-outcomes-at text p h =
-    outcomes-front (drop p text) (rw length-drop (omega arith)) ∙ rw (drop-drop (extent (drop p text)) p text)
-
-ended-some : (text : List ℕ) → ended text ≡ true → 0 < length text
-unfolding ended
-ended-some [] h = clash (sym h)
-ended-some (b ∷ text) h = omega arith
-
--- a line that ended, with more text behind it
-ended-front-on : (text more : List ℕ) → ended text ≡ true → outcomes (text ++ more) ≡ read text ∷ outcomes (drop (extent text) text ++ more)
-unfolding read reading reading-by
-ended-front-on text more h =
-    let alike = ended-alike text more 0 h in
-    let same-end : extent (text ++ more) ≡ extent text = omega (arith, ap (λ (r : Reading). r .place) alike) in
-    outcomes-front (text ++ more) (rw length-append (omega (arith, ended-some text h))) ∙
-    rw (ap (λ (r : Reading). r .outcome) alike, same-end, drop-append-le (extent text) text more (extent-within text))
-
--- and of a line that ends within a text that goes on
-pub outcomes-within : (a b : List ℕ) (p : ℕ) → ended (drop p a) ≡ true
-    → outcomes (drop p a ++ b) ≡ reading a p .outcome ∷ outcomes (drop (reading a p .place) a ++ b)
-unfolding read reading reading-by
-outcomes-within a b p h = ended-front-on (drop p a) b h ∙ rw (drop-drop (extent (drop p a)) p a)

@@ -1,11 +1,10 @@
 -- The loop over a part of a text: what holds of the place and the tables between two lines, one line further, and where it stops.
-use mathlib.Core.Path.{_≡_, refl, sym, _∙_, ap}
-use mathlib.Core.Bool.{true, false, not, _||_}
-use mathlib.Core.List.{List, []}
+use mathlib.Core.Path.{_≡_, refl, sym}
+use mathlib.Core.Bool.{true, false}
+use mathlib.Core.List.{List}
 use Prim.Native.Nat.{ℕ, _+_, _%_, _≤_, _<_}
 use native.Mathlib.Omega.{arith}
 use borrow.Author.Tests.{lt-ltb, le-ltb}
-use lib.Dec.{ltb}
 use lib.ListN.{length, take, drop, length-drop, drop-of-length-le}
 use lib.Seq.{take-add}
 use Rattle.trace.specs.Lines.{ended}
@@ -13,7 +12,6 @@ use Rattle.trace.specs.Reading.{reading}
 use Rattle.device.proofs.Cases.{split}
 use Rattle.trace.proofs.Choices.{clash}
 use Rattle.listing.specs.declared.Place.{Place}
-use Rattle.listing.specs.Output.{Prints}
 use Rattle.listing.specs.Steps.{Progress, line-step}
 use Rattle.listing.specs.Texts.{whole, outcomes, lines, listed, passed, listing, after as follow}
 use Rattle.listing.specs.Carried.{carried, Running, Represents, Leaves, Passed, Taken, stopped}

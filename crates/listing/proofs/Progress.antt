@@ -13,7 +13,7 @@ use Rattle.trace.specs.declared.Record.{Record}
 use Rattle.trace.specs.declared.Record.the-variants.{Set, Activate, Refresh, Blank}
 use Rattle.listing.specs.declared.Place.{Place}
 use Rattle.listing.specs.Output.{Prints}
-use Rattle.listing.specs.Steps.{Standing, Progress, Step, refused-step, set-up-step, activation-step, refresh-step, record-step, line-step, step, next}
+use Rattle.listing.specs.Steps.{Standing, Progress, refused-step, set-up-step, activation-step, refresh-step, record-step, line-step, step, next}
 use Rattle.listing.specs.Carried.{carried, Running, Represents, Leaves}
 use Rattle.listing.proofs.Alike.{counted-on, line-alike}
 

@@ -1,8 +1,7 @@
 -- A settings line: what the bound and setting up answered make the definition's step.
 use mathlib.Core.Path.{_≡_, refl, sym, _∙_, ap, subst}
-use mathlib.Core.Bool.{true, false, cond}
-use mathlib.Core.List.{List, []}
-use mathlib.Core.Option.{Option, none, some}
+use mathlib.Core.List.{List}
+use mathlib.Core.Option.{Option, none}
 use Prim.Native.Nat.{ℕ, zero, suc, _≤_}
 use lib.ListN.{length, take, replicate, length-replicate}
 use lib.Seq.{length-take-le}
@@ -16,7 +15,7 @@ use Rattle.bound.specs.Answers.{outcome, bound-answer}
 use Rattle.summary.specs.Steps.{empty}
 use Rattle.tracker.specs.declared.Position.{Position}
 use Rattle.tracker.specs.declared.SetUp.{SetUp}
-use Rattle.tracker.specs.State.{State, state-of}
+use Rattle.tracker.specs.State.{state-of}
 use Rattle.tracker.specs.Calls.{SetUp-call, kept-unless, set-up-tests, set-up}
 use Rattle.tracker.specs.Answers.{given, set-up-call}
 use Rattle.trace.specs.declared.Record.the-variants.{Set}

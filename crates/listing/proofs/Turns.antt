@@ -1,9 +1,9 @@
 -- An activation line and an event line of a reached state: what the calls answered and what was printed make the definition's step.
 use mathlib.Core.Path.{_≡_, refl, sym, _∙_, ap, subst}
 use mathlib.Core.Bool.{false}
-use mathlib.Core.List.{List, [], _∷_}
-use mathlib.Core.Option.{Option, some}
-use Prim.Native.Nat.{ℕ, zero, suc, _+_, _≤_, _<_}
+use mathlib.Core.List.{List}
+use mathlib.Core.Option.{some}
+use Prim.Native.Nat.{ℕ, suc, _≤_}
 use native.Mathlib.Omega.{arith}
 use lib.ListN.{length, take, replicate, length-replicate}
 use Rattle.device.specs.declared.Settings.{Settings}
@@ -19,7 +19,7 @@ use Rattle.tracker.specs.Answers.{given, refresh-call, refresh-count, refresh-p
 use Rattle.limit.specs.Reachable.{Reached}
 use Rattle.limit.proofs.Further.{reached-settled}
 use Rattle.listing.specs.Output.{refusal-line, refresh-line, Prints}
-use Rattle.listing.specs.Steps.{Standing, answered, activation-step, refresh-step}
+use Rattle.listing.specs.Steps.{answered, activation-step, refresh-step}
 use Rattle.listing.specs.Carried.{Lists, stood}
 use Rattle.listing.proofs.Writing.{prints-nothing}
 use Rattle.listing.proofs.Accepts.{event-is, event-names, event-leaves, names-few}

@@ -83,11 +83,9 @@ fn list_event(
 {
     let mut list = [0; 16];
     let answer = tracker::refresh_accepted(s, rows, counts, p, &mut list);
+    let position = position_of(answer);
     let end = print::print_refresh(out, at, p.events, &list, count_of(answer) as usize);
-    Moved {
-        position: position_of(answer),
-        end,
-    }
+    Moved { position, end }
 }
 
 // An activation line, on the first C places.

@@ -99,13 +99,13 @@ fn list_record(
     requires { ⌜ Running (carried p (now rows) (now counts)) × (at + 200 ≤ length (now out)) × (length (now rows) ≡ 2048) × (length (now counts) ≡ 2048) ⌝ }
     ensures { λ r. ⌜ Leaves (record-step line (carried p (now (rows .entry)) (now (counts .entry))) what) (r .place) (now (rows .exit)) (now (counts .exit)) (now (out .entry)) at (now (out .exit)) (r .end) × (r .place .lines ≡ line) ⌝ }
 {
-    let position = p.position;
+    let came = p.position;
     match what {
         Record::Set(s) => line::list_settings(s, rows, counts, line, out, at),
         Record::Activate(row) => activation_line(p, rows, counts, row, line, out, at),
         Record::Refresh => event_line(p, rows, counts, line, out, at),
         Record::Blank => Listed {
-            place: at_line(p, position, line),
+            place: at_line(p, came, line),
             end: at,
         },
     }

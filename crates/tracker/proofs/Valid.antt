@@ -14,7 +14,7 @@ use Rattle.summary.specs.Entries.{Entry, rows-of, counts-of}
 use Rattle.summary.specs.Tables.{table, entries-of, read, Holds}
 use Rattle.summary.specs.Rules.{Floor, floor-none, floor-more, Ceiling, bare, under, Ordered, ordered-none, ordered-more, Room}
 use Rattle.summary.proofs.Laid.{length-rows}
-use Rattle.tracker.specs.State.{State, summary-of, state-of, zeros, ascending, counts-allowed, valid}
+use Rattle.tracker.specs.State.{State, summary-of, zeros, ascending, counts-allowed, valid}
 use Rattle.tracker.specs.Calls.{tables-long}
 
 -- what is read from the front of two tables
@@ -128,13 +128,3 @@ valid-facts s st long e =
       };
       room = record { counts = allowed .ceiling; spilt = leb-true (st .position .spillover) 2000000000 (p7 .1) };
     }
-
-same-state : {rows rows′ counts counts′ : List ℕ} (e a : ℕ) {k k′ : ℕ} (spill : ℕ) → rows ≡ rows′ → counts ≡ counts′ → k ≡ k′ → _≡_ {A = State} (record { rows = rows; counts = counts; position = record { events = e; activations = a; tracked = k; spillover = spill } }) (record { rows = rows′; counts = counts′; position = record { events = e; activations = a; tracked = k′; spillover = spill } })
-same-state e a spill r c t = cc
-
--- a valid state is the one that holds its summary
-pub valid-stored : (s : Settings) (st : State) → tables-long s (st .rows) (st .counts) ≡ true → valid s st ≡ true → st ≡ state-of s (st .position .events) (st .position .activations) (summary-of st)
-unfolding state-of summary-of read
-valid-stored s st long e =
-    let h = valid-facts s st long e .holds in
-    same-state (st .position .events) (st .position .activations) (st .position .spillover) (h .rows-laid) (h .counts-laid) (h .tracked-is)

@@ -1,9 +1,8 @@
 -- `listing::keep` meets its contract. The invariant: so many bytes are copied.
 use mathlib.Core.Path.{_≡_, refl, _∙_}
-use Prim.Native.Nat.{_+_, _-_, _≤_, _<_, min}
+use Prim.Native.Nat.{_-_, _≤_}
 use native.Mathlib.Omega.{arith}
 use borrow.Author.Needs.{needs}
-use lib.ListN.{length}
 use Rattle.listing.proofs.Kept.{kept-few, kept-is, Copied, copied-long, copied-front, copied-on}
 use Rattle.listing.proofs.keep.Statement.{statement}
 use Rattle.listing.proofs.keep.Tie as tie

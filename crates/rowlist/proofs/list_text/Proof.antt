@@ -1,12 +1,12 @@
 -- `rowlist::list_text` meets its contract. The invariant: the lines before `at` are taken.
 use mathlib.Core.Path.{_≡_, refl, sym, _∙_}
-use Prim.Native.Nat.{_+_, _-_, _≤_, _<_}
+use Prim.Native.Nat.{_+_, _-_, _≤_}
 use native.Mathlib.Omega.{arith}
 use borrow.Author.Needs.{needs}
-use lib.ListN.{length, drop, length-drop}
+use lib.ListN.{length, length-drop}
 use lib.Seq.{length-take-le, drop-drop}
 use Rattle.trace.proofs.Choices.{clash}
-use Rattle.listing.specs.Carried.{Passed, Taken}
+use Rattle.listing.specs.Carried.{Passed}
 use Rattle.listing.proofs.Going.{passed-none, still-running, still-rows, still-counts, still-long, end-none, end-within, passed-then, none-ended, stopped-there}
 use Rattle.rowlist.proofs.list_text.Statement.{statement}
 use Rattle.rowlist.proofs.list_text.Tie as tie

@@ -15,8 +15,8 @@ refresh-accepted-requires c κs =
 
 print-refresh-requires : tie.Need-print-refresh-requires
 print-refresh-requires c κs =
-    let a = c .before .before .before .before .before .before .before .before .before .before .before .before .before .before .before in
-    let r = c .before .before .before .before .before .before .before .before .refresh-accepted in
+    let a = c .before .before .before .before .before .before .before .before .before .before .before .before .before .before .before .before in
+    let r = c .before .before .before .before .before .before .before .before .before .refresh-accepted in
     let few = event-few (a .pre .0) _ (omega (arith, volume-most (a .pre .0))) (r .result) (r .last .1 .0) (r .last .1 .1 .0) (r .last .1 .1 .1 .1 .0) (r .ensures) (c .count-of .result) (c .count-of .ensures) in
     (omega (arith, r .kept .1 .1 .1 .1 .0, few), omega (arith, a .pre .1, few))
 
@@ -25,8 +25,9 @@ unfolding given
 returns c =
     let a = c .before .before .before .before .before .before .before .before .before .before .before .before .before .before .before .before .before .before .before in
     let r = c .before .before .before .before .before .before .before .before .before .before .before .before .refresh-accepted in
-    let k = c .before .before .before .before .count-of in
-    event-listed (a .pre .0) _ (omega (arith, volume-most (a .pre .0))) (r .result) (r .last .1 .0) (r .last .1 .1 .0) (r .last .1 .1 .1 .1 .0) (r .ensures) (k .result) (k .ensures) (a .args .line) (c .position-of .result) (c .position-of .ensures) (c .before .before .before .print-refresh .ensures)
+    let k = c .before .before .before .count-of in
+    let p = c .before .before .before .before .before .before .position-of in
+    event-listed (a .pre .0) _ (omega (arith, volume-most (a .pre .0))) (r .result) (r .last .1 .0) (r .last .1 .1 .0) (r .last .1 .1 .1 .1 .0) (r .ensures) (k .result) (k .ensures) (a .args .line) (p .result) (p .ensures) (c .before .before .print-refresh .ensures)
 
 pub list-event-spec : {M : Type 1} → statement M
 list-event-spec =
@@ -34,11 +35,11 @@ list-event-spec =
     (tie.spec
     (λ c. search needs)
     refresh-accepted-requires
+    (λ c κs. search needs)
     (λ c. search needs)
     (λ c κs. search needs)
     (λ c. search needs)
     print-refresh-requires
-    (λ c κs. search needs)
     (λ c. search needs)
     (λ c. search needs)
     (λ c. search needs)
