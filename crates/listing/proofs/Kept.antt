@@ -6,8 +6,9 @@ use Prim.Native.Nat.{ℕ, suc, _+_, _-_, _≤_, _<_, min}
 use native.Mathlib.Numerals.{add-one}
 use native.Mathlib.Omega.{arith}
 use lib.ListN.{length, getD, set, take, drop, length-take, length-drop, length-append, drop-of-length-le}
-use lib.Seq.{take-all, length-take-le, take-take, take-add, drop-at, take-at, set-at, take-suc, drop-cons, append-snoc, getD-append-add, getD-drop}
+use lib.Seq.{take-all, length-take-le, take-take, take-add, drop-at, set-at, take-suc, drop-cons, append-snoc, getD-append-add, getD-drop}
 use Rattle.device.proofs.Cases.{le-or-lt}
+use Rattle.listing.specs.Carried.{kept-bytes}
 
 take-within : (to : ℕ) (t : List ℕ) → take to t ≡ take (min to (length t)) t
 take-within to t =
@@ -37,7 +38,8 @@ module _ (t : List ℕ) (from to : ℕ) {end begin kept : ℕ} (e : end ≡ min 
   pub kept-few : (kept ≤ 64) × (begin + kept ≤ length t)
   kept-few = (omega arith, omega arith)
 
-  pub kept-is : take kept (drop begin t) ≡ take 64 (drop from (take to t))
+  pub kept-is : take kept (drop begin t) ≡ kept-bytes from to t
+  unfolding kept-bytes
   kept-is =
       let long : length (take end t) ≡ end = length-take-le end t (omega arith) in
       let same : min from (length (take end t)) ≡ begin = omega arith in
@@ -50,20 +52,17 @@ module _ (t : List ℕ) (from to : ℕ) {end begin kept : ℕ} (e : end ≡ min 
 abbrev pub Copied : List ℕ → ℕ → ℕ → List ℕ → Type 0
 Copied t begin i t′ = t′ ≡ take i (drop begin t) ++ drop i t
 
+pub front-long : (t : List ℕ) (begin i : ℕ) → begin + i ≤ length t → length (take i (drop begin t)) ≡ i
+front-long t begin i h = length-take-le i (drop begin t) (omega (arith, length-drop begin t))
+
 module _ (t : List ℕ) (begin i : ℕ) (h : begin + i ≤ length t) {t′ : List ℕ} (c : Copied t begin i t′) where
-  front-long : length (take i (drop begin t)) ≡ i
-  front-long = length-take-le i (drop begin t) (omega (arith, length-drop begin t))
-
   pub copied-long : length t′ ≡ length t
-  copied-long = rw (c, length-append) (omega (arith, front-long, length-drop i t))
-
-  pub copied-front : take i t′ ≡ take i (drop begin t)
-  copied-front = rw c (take-at (take i (drop begin t)) (drop i t) i front-long)
+  copied-long = rw (c, length-append) (omega (arith, front-long t begin i h, length-drop i t))
 
   -- the byte that is read is still the text's
   copied-read : getD t′ (begin + i) 0 ≡ getD (drop begin t) i 0
   copied-read =
-      let at : begin + i ≡ length (take i (drop begin t)) + begin = omega (arith, front-long) in
+      let at : begin + i ≡ length (take i (drop begin t)) + begin = omega (arith, front-long t begin i h) in
       let back : i + begin ≡ begin + i = omega arith in
       rw (c, at) (getD-append-add (take i (drop begin t)) (drop i t) begin 0) ∙ getD-drop i t begin 0 ∙
       ap (λ (n : ℕ). getD t n 0) back ∙ sym (getD-drop begin t i 0)
@@ -72,4 +71,4 @@ module _ (t : List ℕ) (begin i : ℕ) (h : begin + i ≤ length t) {t′ : Lis
   copied-on less =
       let s : List ℕ = drop begin t in
       rw (copied-read, c, drop-cons t i 0 (omega arith), add-one i, take-suc s i 0 (omega (arith, length-drop begin t)))
-      (set-at (take i s) (getD t i 0) (drop (suc i) t) (getD s i 0) i front-long ∙ sym (append-snoc (take i s) (getD s i 0) (drop (suc i) t)))
+      (set-at (take i s) (getD t i 0) (drop (suc i) t) (getD s i 0) i (front-long t begin i h) ∙ sym (append-snoc (take i s) (getD s i 0) (drop (suc i) t)))

@@ -1,9 +1,10 @@
 -- The end of a trace: a last line that has not ended is refused with 11.
 use mathlib.Core.Path.{_≡_, refl}
-use mathlib.Core.Bool.{false}
+use mathlib.Core.Bool.{false, cond}
 use mathlib.Core.List.{List, [], _∷_, append-nil}
-use Prim.Native.Nat.{ℕ, suc, _+_, _%_, _<_}
+use Prim.Native.Nat.{ℕ, suc, _+_, _%_, _≤_, _<_}
 use native.Mathlib.Omega.{arith}
+use borrow.Author.Tests.{lt-ltb, le-ltb}
 use lib.ListN.{length, drop, drop-of-length-le}
 use Rattle.trace.specs.Numbers.{choose}
 use Rattle.trace.specs.Lines.{ended, extent}
@@ -12,7 +13,7 @@ use Rattle.listing.specs.declared.Place.{Place}
 use Rattle.listing.specs.Output.{refusal-line, Prints}
 use Rattle.listing.specs.Steps.{Progress, refused-step, line-step, step}
 use Rattle.listing.specs.Texts.{lines, read, outcomes, listed, listing}
-use Rattle.listing.specs.Carried.{Represents}
+use Rattle.listing.specs.Carried.{Represents, last-line}
 use Rattle.listing.proofs.Alike.{counted-on, refusal-alike}
 use Rattle.listing.proofs.Fronts.{extent-most, outcomes-front}
 use Rattle.listing.proofs.Writing.{prints-nothing}
@@ -31,6 +32,22 @@ unfolding listing listed read reading reading-by choose or-refused step line-ste
 unended-listing g text e h =
     let rest : drop (extent text) text ≡ [] = drop-of-length-le text {i = extent text} (omega (arith, extent-most text e)) in
     rw (outcomes-front text h, rest, none-left, e, append-nil)
+
+-- what the end of a trace prints, by what is left of it and by the room
+pub empty-last : (number : ℕ) (text : List ℕ) (room : ℕ) → length text ≡ 0 → last-line number text room ≡ []
+unfolding last-line
+empty-last number [] room e = refl
+empty-last number (b ∷ text) room e = absurd (omega arith)
+
+pub short-last : (number : ℕ) (text : List ℕ) (room : ℕ) → room < 18 → last-line number text room ≡ []
+unfolding last-line
+short-last number [] room h = refl
+short-last number (b ∷ text) room h = rw (lt-ltb room 18 h)
+
+pub some-last : (number : ℕ) (text : List ℕ) (room : ℕ) → 0 < length text → 18 ≤ room → last-line number text room ≡ refusal-line number 11
+unfolding last-line
+some-last number [] room some h = absurd (omega arith)
+some-last number (b ∷ text) room some h = rw (le-ltb room 18 h)
 
 module _ {before : List ℕ} (p : Place) (text rows counts : List ℕ) (g : Progress) (r : Represents p rows counts g) where
   pub nothing-last : length text ≡ 0 → Prints before 0 (listing g text) before 0

@@ -1,8 +1,8 @@
--- How the code carries a listing: a place, and tables of 2,048 places of which the first C are the tracker's.
+-- How the code carries a listing: a place, and tables of 2,048 places of which the first C are the tracker's. What the others hold is left free.
 use Prim.Native.Nat.{ℕ, _+_, _%_, _≤_}
 use mathlib.Core.Path.{_≡_}
 use mathlib.Core.Bool.{Bool, true, not, _||_, cond}
-use mathlib.Core.List.{List}
+use mathlib.Core.List.{List, [], _∷_}
 use mathlib.Core.Option.{Option, none, some}
 use lib.Dec.{ltb}
 use lib.ListN.{length, take, drop}
@@ -68,3 +68,12 @@ pub record Taken (p : Place) (rows counts text before : List ℕ) (p′ : Place)
 -- no further line could be taken: none is left that has ended, or less than 200 bytes are left to print in
 unfoldable pub stopped : List ℕ → ℕ → List ℕ → ℕ → Bool
 stopped text taken buffer end = not (ended (drop taken text)) || ltb (length buffer) (end + 200)
+
+-- what the end of a trace prints: a last line that has not ended is refused, if a byte of it is left and 18 are there to print in
+unfoldable pub last-line : ℕ → List ℕ → ℕ → List ℕ
+last-line number [] room = []
+last-line number (b ∷ bs) room = cond (ltb room 18) [] (refusal-line number 11)
+
+-- of the bytes of a text from one place to another, the first 64
+unfoldable pub kept-bytes : ℕ → ℕ → List ℕ → List ℕ
+kept-bytes from to text = take 64 (drop from (take to text))

@@ -8,17 +8,17 @@ use trace::Read;
 use tracker::Position;
 ghost use mathlib.Core.Path.{_≡_};
 ghost use mathlib.Core.Bool.{true, false};
-ghost use mathlib.Core.List.{List};
-ghost use Prim.Native.Nat.{ℕ, _≤_, min};
-ghost use lib.ListN.{length, take, drop};
+ghost use mathlib.Core.List.{List, _++_};
+ghost use Prim.Native.Nat.{ℕ, _+_, _%_, _≤_, min};
+ghost use lib.ListN.{length, drop};
 ghost use Rattle.trace.specs.Lines.{ended};
 ghost use Rattle.trace.specs.Reading.{said};
 ghost use Rattle.listing.specs.Output.{Prints};
 ghost use Rattle.listing.specs.Steps.{Progress, start as beginning};
 ghost use Rattle.listing.specs.Texts.{listing};
-ghost use Rattle.listing.specs.Carried.{carried, Running, Represents, Taken, stopped};
+ghost use Rattle.listing.specs.Carried.{carried, Running, Represents, Taken, stopped, last-line, kept-bytes};
 
-// Where a listing is: whether a tracker stands, its settings and position, and the lines so far modulo 10,000,000,000.
+// Where a listing is: whether a tracker stands, its settings and position, and the lines so far, which count modulo 10,000,000,000.
 pub struct Place {
     pub stands: bool,
     pub settings: Settings,
@@ -118,7 +118,7 @@ pub fn list_part(
 
 // The end of a trace: what is left of it is a last line without byte 10, which is refused, or nothing.
 pub fn list_end(p: Place, text: &[u8], out: &mut [u8]) -> usize
-    ensures { λ r. ⌜ r ≤ length (now (out .entry)) ⌝ }
+    ensures { λ r. ⌜ Prints (now (out .entry)) 0 (last-line (p .lines % 10000000000 + 1) (now (text .entry)) (length (now (out .entry)))) (now (out .exit)) r ⌝ }
     ensures { λ r. ⌜ ((rows counts : List ℕ) (g : Progress) → Represents p rows counts g → ended (now (text .entry)) ≡ false → 18 ≤ length (now (out .entry)) → Prints (now (out .entry)) 0 (listing g (now (text .entry))) (now (out .exit)) r) ⌝ }
 {
     if text.len() == 0 {
@@ -140,7 +140,7 @@ fn smaller(a: usize, b: usize) -> usize
 // Of the text's bytes from one place to another, the first 64 go to its front; how many they are.
 pub fn keep(text: &mut [u8], from: usize, to: usize) -> usize
     ensures { λ r. ⌜ r ≤ 64 ⌝ }
-    ensures { λ r. ⌜ take r (now (text .exit)) ≡ take 64 (drop from (take to (now (text .entry)))) ⌝ }
+    ensures { λ r. ⌜ (r ≡ length (kept-bytes from to (now (text .entry)))) × (now (text .exit) ≡ kept-bytes from to (now (text .entry)) ++ drop r (now (text .entry))) ⌝ }
 {
     let end = smaller(to, text.len());
     let begin = smaller(from, end);

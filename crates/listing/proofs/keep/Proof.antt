@@ -1,9 +1,11 @@
 -- `listing::keep` meets its contract. The invariant: so many bytes are copied.
-use mathlib.Core.Path.{_≡_, refl, _∙_}
-use Prim.Native.Nat.{_-_, _≤_}
+use mathlib.Core.Path.{_≡_, refl, sym, _∙_, ap}
+use mathlib.Core.List.{List, _++_}
+use Prim.Native.Nat.{ℕ, _-_, _≤_}
 use native.Mathlib.Omega.{arith}
 use borrow.Author.Needs.{needs}
-use Rattle.listing.proofs.Kept.{kept-few, kept-is, Copied, copied-long, copied-front, copied-on}
+use lib.ListN.{length, drop}
+use Rattle.listing.proofs.Kept.{kept-few, kept-is, Copied, copied-long, front-long, copied-on}
 use Rattle.listing.proofs.keep.Statement.{statement}
 use Rattle.listing.proofs.keep.Tie as tie
 
@@ -41,10 +43,18 @@ same-length c =
 returns : tie.Need-returns Inv-loop μ-loop
 returns c =
     let l = c .before .loop in
-    let t = c .before .before .before .before .before .before .args .text .now in
-    let few = kept-few t (c .before .before .before .before .before .before .args .from) (c .before .before .before .before .before .before .args .to) (c .before .before .before .before .smaller .ensures) (c .before .before .before .smaller2 .ensures) (c .before .before .smaller3 .ensures) in
-    let done : l .i ≡ c .before .before .smaller3 .result = omega (arith, l .inv .1, c .loop-test .left) in
-    (few .0, (rw done at (copied-front t (c .before .before .before .smaller2 .result) (l .i) (omega (arith, few .1, l .inv .1)) (l .inv .0))) ∙ kept-is t (c .before .before .before .before .before .before .args .from) (c .before .before .before .before .before .before .args .to) (c .before .before .before .before .smaller .ensures) (c .before .before .before .smaller2 .ensures) (c .before .before .smaller3 .ensures))
+    let a = c .before .before .before .before .before .before .args in
+    let begin = c .before .before .before .smaller2 .result in
+    let kept = c .before .before .smaller3 .result in
+    let few = kept-few (a .text .now) (a .from) (a .to) (c .before .before .before .before .smaller .ensures) (c .before .before .before .smaller2 .ensures) (c .before .before .smaller3 .ensures) in
+    let is = kept-is (a .text .now) (a .from) (a .to) (c .before .before .before .before .smaller .ensures) (c .before .before .before .smaller2 .ensures) (c .before .before .smaller3 .ensures) in
+    let done : l .i ≡ kept = omega (arith, l .inv .1, c .loop-test .left) in (
+      few .0,
+      (
+        sym (front-long (a .text .now) begin kept (few .1)) ∙ ap length is,
+        (rw done at (l .inv .0)) ∙ ap (λ (front : List ℕ). front ++ drop kept (a .text .now)) is,
+      ),
+    )
 
 pub keep-spec : {M : Type 1} → statement M
 keep-spec =
