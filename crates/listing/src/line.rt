@@ -1,4 +1,4 @@
-// One line of a trace on a tracker that stands, on the caller's tables.
+// The lines of an activation and an event, on a tracker that stands, and of settings, on the caller's tables.
 use crate::Listed;
 use crate::Moved;
 use crate::Place;
@@ -9,7 +9,6 @@ use tracker::Position;
 use tracker::Refreshed;
 use tracker::SetUp;
 ghost use mathlib.Core.Path.{_≡_};
-ghost use mathlib.Core.List.{[]};
 ghost use Prim.Native.Nat.{_+_, _≤_};
 ghost use lib.ListN.{length, take, replicate};
 ghost use mathlib.Core.Option.{none};

@@ -10,7 +10,6 @@ use summary::Tally;
 ghost use mathlib.Core.Path.{_≡_};
 ghost use mathlib.Core.Bool.{_&&_};
 ghost use Prim.Native.Nat.{_≤_};
-ghost use lib.ListN.{length};
 ghost use Rattle.device.specs.Refusal.{first-failed};
 ghost use Rattle.tracker.specs.Calls.{next-event as event-after, tables-long, set-up-tests, activation-tests, refresh-tests, agreement-tests, set-up, activate as activated, refresh as refreshed, agree as agreed};
 ghost use Rattle.tracker.specs.Answers.{given, set-up-call, activation-call, refresh-call, agreement-outcome};
