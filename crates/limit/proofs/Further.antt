@@ -3,13 +3,16 @@ use mathlib.Core.Path.{_≡_, refl, sym, _∙_, ap}
 use mathlib.Core.Bool.{not}
 use mathlib.Core.List.{List, [], _∷_, _++_}
 use Prim.Native.Nat.{ℕ}
+use native.Mathlib.Omega.{arith}
 use lib.Dec.{ltb, leb}
 use lib.ListN.{length}
 use Rattle.device.specs.declared.Settings.{Settings}
 use Rattle.device.specs.Refusal.{first-failed, refuse}
 use Rattle.device.specs.Acceptance.{settings-tests}
 use Rattle.device.proofs.Accepted.{accepted}
+use Rattle.summary.specs.Entries.{rows-of, counts-of}
 use Rattle.summary.specs.Steps.{Summary}
+use Rattle.summary.proofs.Laid.{length-rows, length-counts, length-table}
 use Rattle.tracker.specs.State.{State, state-of, valid}
 use Rattle.tracker.specs.Calls.{activate, refresh, activation-tests, refresh-tests}
 use Rattle.tracker.proofs.Refusals.{Held, activation-refusals, refresh-refusals}
@@ -80,3 +83,15 @@ pub refresh-refused-with : {s : Settings} {st : State} → Reached s st → (pic
 refresh-refused-with {s} r picks =
     let k = summed r in
     rw (k .stored) (refresh-refusals s (k .events) (k .activations) (k .sum) (reached-settled r) (k .holds) picks)
+
+-- its tables have C places
+pub reached-long : {s : Settings} {st : State} → Reached s st → (length (st .rows) ≡ s .counters) × (length (st .counts) ≡ s .counters)
+unfolding state-of
+reached-long {s} r =
+    let k = summed r in
+    let es = k .sum .entries in
+    let fits = k .holds .sound .fits in
+    rw (k .stored) (
+      length-table (s .counters) (rows-of es) (omega (arith, length-rows es)),
+      length-table (s .counters) (counts-of es) (omega (arith, length-counts es)),
+    )

@@ -63,7 +63,7 @@ refused-on u b e h =
     outcomes-front (u ++ b) (rw length-append (omega arith)) ∙
     rw (ap (λ (r : Reading). r .outcome) says, far, drop-append-add)
 
-ended-less : (n : ℕ) (u : List ℕ) → ended u ≡ false → ended (take n u) ≡ false
+pub ended-less : (n : ℕ) (u : List ℕ) → ended u ≡ false → ended (take n u) ≡ false
 unfolding ended choose
 ended-less zero u h = refl
 ended-less (suc n) [] h = refl

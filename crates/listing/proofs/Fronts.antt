@@ -37,6 +37,13 @@ ended-front [] h = clash (sym h)
 ended-front (b ∷ text) h =
     split (eqb b 10) (λ e. rw (e, e)) (λ e. rw (e, e) (ended-front text (rw e at h)))
 
+-- the first line alone has ended where it has in the text
+pub ended-first : (text : List ℕ) → ended (take (extent text) text) ≡ ended text
+ended-first text =
+    split (ended text)
+    (λ e. ended-front text e ∙ sym e)
+    (λ e. rw (take-all (extent text) text (omega (arith, extent-most text e))))
+
 -- the first line alone reads as it does in the text
 pub read-front : (text : List ℕ) → read (take (extent text) text) ≡ read text
 unfolding read

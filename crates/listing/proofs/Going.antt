@@ -1,120 +1,153 @@
--- The loop over a part of a text: what holds of the place and the tables between two lines, one line further, and where it stops.
-use mathlib.Core.Path.{_≡_, refl, sym}
-use mathlib.Core.Bool.{true, false}
-use mathlib.Core.List.{List}
-use Prim.Native.Nat.{ℕ, _+_, _%_, _≤_, _<_}
+-- Lines taken one after another from the front of a text: what they print is the listing of what was taken, and with room enough every line that
+-- has ended is taken.
+use mathlib.Core.Path.{_≡_, refl, sym, _∙_, ap}
+use mathlib.Core.Bool.{true, false, _&&_}
+use mathlib.Core.List.{List, [], _∷_}
+use Prim.Native.Nat.{ℕ, _+_, _*_, _≤_, _<_}
 use native.Mathlib.Omega.{arith}
-use borrow.Author.Tests.{lt-ltb, le-ltb}
-use lib.ListN.{length, take, drop, length-drop, drop-of-length-le}
-use lib.Seq.{take-add}
-use Rattle.trace.specs.Lines.{ended}
-use Rattle.trace.specs.Reading.{reading}
+use borrow.Author.Tests.{leb-true, le-leb}
+use lib.Dec.{leb}
+use lib.ListN.{length, take, drop, length-drop}
+use lib.Seq.{drop-drop, length-take-le}
+use Rattle.device.specs.Refusal.{Outcome}
 use Rattle.device.proofs.Cases.{split}
+use Rattle.trace.specs.declared.Record.{Record}
+use Rattle.trace.specs.Numbers.{written}
+use Rattle.trace.specs.Lines.{ended, extent}
+use Rattle.trace.specs.Reading.{reading, reading-by}
 use Rattle.trace.proofs.Choices.{clash}
-use Rattle.listing.specs.declared.Place.{Place}
-use Rattle.listing.specs.Steps.{Progress, line-step}
-use Rattle.listing.specs.Texts.{whole, outcomes, lines, listed, passed, listing, after as follow}
-use Rattle.listing.specs.Carried.{carried, Running, Represents, Leaves, Passed, Taken, stopped}
+use Rattle.listing.specs.Output.{Prints}
+use Rattle.listing.specs.Steps.{Progress, Step}
+use Rattle.listing.specs.Texts.{whole, read, outcomes, lines, listed, passed, listing, after}
+use Rattle.listing.specs.Carried.{Memory, carried, Represents}
+use Rattle.listing.specs.Chunks.{next-number, step-in, Going, gone, takes, going, part}
+use Rattle.listing.proofs.Fronts.{lines-front, extent-within, ended-first, read-front}
 use Rattle.listing.proofs.Writing.{prints-nothing, prints-long, prints-then}
-use Rattle.listing.proofs.Progress.{line-prints, line-represents}
-use Rattle.listing.proofs.Taking.{place-within, whole-append, whole-on, listing-on, after-on}
-use Rattle.listing.proofs.Cuts.{after-cut}
+use Rattle.listing.proofs.Progress.{step-same, next-represents}
+use Rattle.listing.proofs.Lengths.{line-most, line-spent}
+use Rattle.listing.proofs.Taking.{place-within, whole-on, listing-on, after-on}
 
--- nothing is taken yet
-pub passed-none : (p : Place) (rows counts text : List ℕ) → Passed p rows counts text p rows counts 0
-unfolding whole follow outcomes lines passed
-passed-none p rows counts text = record { within = omega arith; ends = refl; represents = λ g h. h }
+-- whole lines were taken, their listing was printed, and few bytes of the buffer are used
+pub record Taken (g : Progress) (text buffer : List ℕ) (q : Going) : Type 0 where
+  pub within : q .taken ≤ length text
+  pub ends : whole (take (q .taken) text) ≡ true
+  pub represents : Represents (q .memory) (after g (take (q .taken) text))
+  pub prints : Prints buffer 0 (listing g (take (q .taken) text)) (q .buffer) (q .end)
+  pub spent : q .end ≤ 55 * q .taken
 
-pub taken-none : (p : Place) (rows counts text before : List ℕ) → Taken p rows counts text before p rows counts before 0 0
-unfolding listing outcomes lines listed
-taken-none p rows counts text before =
-    record { passed = passed-none p rows counts text; prints = λ g h. prints-nothing before 0 (omega arith) }
-
--- where a listing is that a place and the tables hold, its lines counted as the place counts them
-abbrev began : Place → List ℕ → List ℕ → Progress
-began p rows counts = record { tracker = carried p rows counts; count = p .lines }
-
-begins : {p : Place} {rows counts : List ℕ} → Running (carried p rows counts) → length rows ≡ 2048 → length counts ≡ 2048 → Represents p rows counts (began p rows counts)
-begins running rows-long counts-long =
-    record { rows-long = rows-long; counts-long = counts-long; tracker = refl; lines = refl; running = running }
-
--- between two lines
-module _ {p p′ : Place} {rows counts text rows′ counts′ : List ℕ} {taken : ℕ} (t : Passed p rows counts text p′ rows′ counts′ taken) (running : Running (carried p rows counts)) (rows-long : length rows ≡ 2048) (counts-long : length counts ≡ 2048) where
-  pub still-running : Running (carried p′ rows′ counts′)
-  still-running =
-      let r = t .represents (began p rows counts) (begins running rows-long counts-long) in
-      rw (r .tracker) at (r .running)
-
-  pub still-rows : length rows′ ≡ 2048
-  still-rows = t .represents (began p rows counts) (begins running rows-long counts-long) .rows-long
-
-  pub still-counts : length counts′ ≡ 2048
-  still-counts = t .represents (began p rows counts) (begins running rows-long counts-long) .counts-long
-
-module _ {p p′ : Place} {rows counts text before rows′ counts′ after : List ℕ} {taken end : ℕ} (t : Taken p rows counts text before p′ rows′ counts′ after taken end) where
-  module _ (running : Running (carried p rows counts)) (rows-long : length rows ≡ 2048) (counts-long : length counts ≡ 2048) where
-    pub still-long : length after ≡ length before
-    still-long = prints-long (t .prints (began p rows counts) (begins running rows-long counts-long))
-
-    pub end-none : taken ≡ 0 → end ≡ 0
-    unfolding listing listed outcomes lines
-    end-none e = rw e at (t .prints (began p rows counts) (begins running rows-long counts-long) .behind)
-
-    pub end-within : end ≤ length before
-    end-within =
-        let f = t .prints (began p rows counts) (begins running rows-long counts-long) in
-        omega (arith, f .fits, f .behind)
-
-  -- one line more, which has ended
-  pub taken-on : {p″ : Place} {rows″ counts″ after″ : List ℕ} {end″ : ℕ} → taken < length text → ended (drop taken text) ≡ true → Leaves (line-step (p′ .lines % 10000000000 + 1) (carried p′ rows′ counts′) (reading text taken .outcome)) p″ rows″ counts″ after end after″ end″ → p″ .lines ≡ p′ .lines % 10000000000 + 1 → length rows″ ≡ 2048 → length counts″ ≡ 2048 → Taken p rows counts text before p″ rows″ counts″ after″ (reading text taken .place) end″
-  taken-on less e l counted rl cl =
-      let w = t .passed .ends in
-      record {
-        passed = record {
-          within = place-within text taken less .1;
-          ends = whole-on text taken less w e;
-          represents =
-              λ g h.
-              rw (after-on text taken less w g)
-              (line-represents (t .passed .represents g h) (reading text taken .outcome) l counted rl cl);
-        };
-        prints =
-            λ g h.
-            rw (listing-on text taken less w g)
-            (prints-then (t .prints g h) (line-prints (t .passed .represents g h) (reading text taken .outcome) l counted rl cl));
-      }
-
--- lines taken from what others left
-pub passed-then : {p p′ p″ : Place} {rows counts text rows′ counts′ rows″ counts″ : List ℕ} {taken more : ℕ} → Passed p rows counts text p′ rows′ counts′ taken → Passed p′ rows′ counts′ (drop taken text) p″ rows″ counts″ more → Passed p rows counts text p″ rows″ counts″ (taken + more)
-passed-then {text} {taken} {more} a b =
+pub taken-none : {m : Memory} {g : Progress} (text buffer : List ℕ) → Represents m g → Taken g text buffer (record { memory = m; taken = 0; buffer = buffer; end = 0 })
+unfolding whole listing after outcomes lines listed passed
+taken-none text buffer r =
     record {
-      within = omega (arith, a .within, b .within, length-drop taken text);
-      ends = rw (take-add taken more text) (whole-append (take taken text) (take more (drop taken text)) (a .ends) (b .ends));
-      represents =
-          λ g h.
-          rw (take-add taken more text, after-cut g (take taken text) (take more (drop taken text)) (a .ends))
-          (b .represents (follow g (take taken text)) (a .represents g h));
+      within = omega arith;
+      ends = refl;
+      represents = r;
+      prints = prints-nothing buffer 0 (omega arith);
+      spent = omega arith;
     }
 
-pub none-ended : (text : List ℕ) (taken : ℕ) → length text ≤ taken → ended (drop taken text) ≡ false
+-- when a line is taken
+module _ (q : Going) (line : List ℕ) where
+  took-it : takes q line ≡ true → (ended line ≡ true) × (q .end + 200 ≤ length (q .buffer))
+  unfolding takes
+  took-it h =
+      split (ended line) (λ e. (e, leb-true (q .end + 200) (length (q .buffer)) (rw e at h))) (λ e. clash (sym (rw e at h)))
+
+  left-it : takes q line ≡ false → q .end + 200 ≤ length (q .buffer) → ended line ≡ false
+  unfolding takes
+  left-it h room =
+      split (ended line) (λ e. clash (rw (e, le-leb (q .end + 200) (length (q .buffer)) room) at h)) (λ e. e)
+
+-- the first line of a text
+abbrev pub first : List ℕ → List ℕ
+first text = take (extent text) text
+
+first-long : (text : List ℕ) → length (first text) ≡ extent text
+first-long text = length-take-le (extent text) text (extent-within text)
+
+module _ (text : List ℕ) (at : ℕ) where
+  pub first-end : at + length (first (drop at text)) ≡ reading text at .place
+  unfolding reading reading-by
+  first-end = rw (first-long (drop at text))
+
+  at-front : read (drop at text) ≡ reading text at .outcome
+  unfolding read reading reading-by
+  at-front = refl
+
+  pub first-says : read (first (drop at text)) ≡ reading text at .outcome
+  first-says = read-front (drop at text) ∙ at-front
+
+-- one line further
+pub taken-on : {g : Progress} {text buffer : List ℕ} {q : Going} → Taken g text buffer q → q .taken < length text → takes q (first (drop (q .taken) text)) ≡ true → Taken g text buffer (gone q (first (drop (q .taken) text)))
+unfolding gone step-in
+taken-on {g} {text} {buffer} {q} t less h =
+    let at : ℕ = q .taken in
+    let line : List ℕ = first (drop at text) in
+    let ok = took-it q line h in
+    let o : Outcome Record = read line in
+    let same = step-same (t .represents) o in
+    let running = t .represents .ready .running in
+    let ends = sym (ended-first (drop at text)) ∙ ok .0 in
+    let number : ℕ = next-number (q .memory .place .lines) in
+    let fits = line-most number (carried (q .memory)) o running in
+    let on : Prints (q .buffer) (q .end) (step-in (q .memory) o .prints) (written (q .buffer) (q .end) (step-in (q .memory) o .prints)) (q .end + length (step-in (q .memory) o .prints)) = record { fits = omega (arith, fits, ok .1); holds = refl; behind = refl } in
+    record {
+      within = rw (first-end text at) (place-within text at less .1);
+      ends = rw (first-end text at) (whole-on text at less (t .ends) ends);
+      represents = rw (first-end text at, after-on text at less (t .ends) g, ← first-says text at) (next-represents (t .represents) o);
+      prints = rw (first-end text at, listing-on text at less (t .ends) g, ← first-says text at, ← same) (prints-then (t .prints) on);
+      spent = omega (arith, t .spent, line-spent number (carried (q .memory)) line (ok .0) running);
+    }
+
+none-ended : (text : List ℕ) → length text ≡ 0 → ended text ≡ false
 unfolding ended
-none-ended text taken h = rw (drop-of-length-le text h)
+none-ended [] e = refl
+none-ended (b ∷ bs) e = absurd (omega arith)
 
-module _ (text : List ℕ) (taken : ℕ) (buffer : List ℕ) (end : ℕ) where
-  pub stopped-unended : ended (drop taken text) ≡ false → stopped text taken buffer end ≡ true
-  unfolding stopped
-  stopped-unended e = rw e
+-- the lines of a text: none where no byte is left, else the first and those behind it
+lines-none : (text : List ℕ) → [] ≡ lines text → length text ≡ 0
+lines-none [] e = refl
+lines-none (b ∷ bs) e = let z : _≡_ {A = ℕ} 0 1 = cc (lines-front b bs) in absurd (omega arith)
 
-  pub stopped-end : length text ≤ taken → stopped text taken buffer end ≡ true
-  stopped-end h = stopped-unended (none-ended text taken h)
+record Split (text : List ℕ) (l : List ℕ) (ls : List (List ℕ)) : Type 0 where
+  some : 0 < length text
+  line : l ≡ first text
+  others : ls ≡ lines (drop (extent text) text)
 
-  pub stopped-short : length buffer < end + 200 → stopped text taken buffer end ≡ true
-  unfolding stopped
-  stopped-short h =
-      split (ended (drop taken text)) (λ e. rw (e, lt-ltb (length buffer) (end + 200) h)) (λ e. rw e)
+lines-split : (text l : List ℕ) (ls : List (List ℕ)) → l ∷ ls ≡ lines text → Split text l ls
+unfolding lines
+lines-split [] l ls e = let z : _≡_ {A = ℕ} 0 1 = cc in absurd (omega arith)
+lines-split (b ∷ bs) l ls e = record { some = omega arith; line = cc (lines-front b bs); others = cc (lines-front b bs) }
 
-  -- where there is room, it stopped since no line is left that has ended
-  pub stopped-there : stopped text taken buffer end ≡ true → end + 200 ≤ length buffer → ended (drop taken text) ≡ false
-  unfolding stopped
-  stopped-there s h =
-      split (ended (drop taken text)) (λ e. clash (rw (e, le-ltb (length buffer) (end + 200) h) at (sym s))) (λ e. e)
+-- what the lines of a text come to: with room enough, no line that has ended is left
+pub record Done (g : Progress) (text buffer : List ℕ) (q : Going) : Type 0 where
+  pub took : Taken g text buffer q
+  pub all : 55 * length text + 200 ≤ length buffer → ended (drop (q .taken) text) ≡ false
+
+pub behind-first : (text : List ℕ) (at : ℕ) (l : List ℕ) → l ≡ first (drop at text) → drop (extent (drop at text)) (drop at text) ≡ drop (at + length l) text
+behind-first text at l e = rw (e, first-long (drop at text)) (drop-drop (extent (drop at text)) at text)
+
+going-done : {g : Progress} {text buffer : List ℕ} (ls : List (List ℕ)) {q : Going} → ls ≡ lines (drop (q .taken) text) → Taken g text buffer q → Done g text buffer (going q ls)
+unfolding going gone
+going-done {g} {text} {buffer} [] {q} e t =
+    record { took = t; all = λ room. none-ended (drop (q .taken) text) (lines-none (drop (q .taken) text) e) }
+going-done {g} {text} {buffer} (l ∷ ls) {q} e t =
+    let s = lines-split (drop (q .taken) text) l ls e in
+    let less : q .taken < length text = omega (arith, s .some, length-drop (q .taken) text) in
+    split (takes q l)
+    (λ yes.
+    rw yes
+    (going-done ls (s .others ∙ ap lines (behind-first text (q .taken) l (s .line))) (rw (← s .line) at (taken-on t less (rw (s .line) at yes)))))
+    (λ no.
+    rw no
+    (record {
+      took = t;
+      all = λ room.
+          sym (ended-first (drop (q .taken) text)) ∙
+          rw (s .line) at (left-it q l no (omega (arith, room, t .spent, t .within, prints-long (t .prints))));
+    }))
+
+-- the lines at the front of a text
+pub part-done : {m : Memory} {g : Progress} (text buffer : List ℕ) → Represents m g → Done g text buffer (part m text buffer)
+unfolding part
+part-done text buffer r = going-done (lines text) refl (taken-none text buffer r)

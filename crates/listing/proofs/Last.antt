@@ -1,22 +1,24 @@
 -- The end of a trace: a last line that has not ended is refused with 11.
-use mathlib.Core.Path.{_≡_, refl}
+use mathlib.Core.Path.{_≡_, refl, sym, _∙_}
 use mathlib.Core.Bool.{false, cond}
+use mathlib.Core.Logic.{⊎-elim}
 use mathlib.Core.List.{List, [], _∷_, append-nil}
 use Prim.Native.Nat.{ℕ, suc, _+_, _%_, _≤_, _<_}
 use native.Mathlib.Omega.{arith}
 use borrow.Author.Tests.{lt-ltb, le-ltb}
 use lib.ListN.{length, drop, drop-of-length-le}
+use Rattle.device.proofs.Cases.{le-or-lt}
 use Rattle.trace.specs.Numbers.{choose}
 use Rattle.trace.specs.Lines.{ended, extent}
 use Rattle.trace.specs.Reading.{reading, reading-by, or-refused}
-use Rattle.listing.specs.declared.Place.{Place}
-use Rattle.listing.specs.Output.{refusal-line, Prints}
+use Rattle.listing.specs.Output.{refusal-line}
 use Rattle.listing.specs.Steps.{Progress, refused-step, line-step, step}
 use Rattle.listing.specs.Texts.{lines, read, outcomes, listed, listing}
-use Rattle.listing.specs.Carried.{Represents, last-line}
+use Rattle.listing.specs.Carried.{Memory, Represents}
+use Rattle.listing.specs.Chunks.{next-number, last-line}
 use Rattle.listing.proofs.Alike.{counted-on, refusal-alike}
+use Rattle.listing.proofs.Lengths.{refusal-length}
 use Rattle.listing.proofs.Fronts.{extent-most, outcomes-front}
-use Rattle.listing.proofs.Writing.{prints-nothing}
 
 none-left : outcomes [] ≡ []
 unfolding outcomes lines
@@ -49,10 +51,20 @@ unfolding last-line
 some-last number [] room some h = absurd (omega arith)
 some-last number (b ∷ text) room some h = rw (le-ltb room 18 h)
 
-module _ {before : List ℕ} (p : Place) (text rows counts : List ℕ) (g : Progress) (r : Represents p rows counts g) where
-  pub nothing-last : length text ≡ 0 → Prints before 0 (listing g text) before 0
-  nothing-last e = rw (none-listed g text e) (prints-nothing before 0 (omega arith))
+-- and it is the listing of what is left
+pub last-listed : (m : Memory) (g : Progress) (text : List ℕ) (room : ℕ) → Represents m g → ended text ≡ false → 18 ≤ room → last-line (next-number (m .place .lines)) text room ≡ listing g text
+unfolding next-number
+last-listed m g [] room r e h = empty-last _ [] room refl ∙ sym (none-listed g [] refl)
+last-listed m g (b ∷ bs) room r e h =
+    some-last (m .place .lines % 10000000000 + 1) (b ∷ bs) room (omega arith) h ∙
+    refusal-alike (m .place .lines % 10000000000 + 1) (suc (g .count)) (counted-on (m .place .lines) (g .count) (r .lines)) 11 ∙
+    sym (unended-listing g (b ∷ bs) e (omega arith))
 
-  pub refused-last : {after : List ℕ} {end : ℕ} → ended text ≡ false → 0 < length text → Prints before 0 (refusal-line (p .lines % 10000000000 + 1) 11) after end → Prints before 0 (listing g text) after end
-  refused-last e h printed =
-      rw (unended-listing g text e h, ← refusal-alike (p .lines % 10000000000 + 1) (suc (g .count)) (counted-on (p .lines) (g .count) (r .lines)) 11) printed
+-- it fits
+pub last-fits : (number : ℕ) (text : List ℕ) (room : ℕ) → length (last-line number text room) ≤ room
+last-fits number [] room = rw (empty-last number [] room refl) (omega arith)
+last-fits number (b ∷ bs) room =
+    ⊎-elim
+    (λ h. rw (some-last number (b ∷ bs) room (omega arith) h) (omega (arith, refusal-length number 11)))
+    (λ h. rw (short-last number (b ∷ bs) room h) (omega arith))
+    (le-or-lt 18 room)

@@ -9,7 +9,10 @@ pub mod Alike
 pub mod Settled
 pub mod Carries
 pub mod Progress
+pub mod Lengths
 pub mod Taking
 pub mod Going
+pub mod Turning
 pub mod Kept
 pub mod Last
+pub mod Moves

@@ -11,11 +11,11 @@ use Rattle.tracker.specs.Calls.{set-up}
 use Rattle.limit.proofs.Further.{reached-set-up, reached-activation, reached-refresh}
 use Rattle.trace.specs.declared.Record.{Record}
 use Rattle.trace.specs.declared.Record.the-variants.{Set, Activate, Refresh, Blank}
-use Rattle.listing.specs.declared.Place.{Place}
-use Rattle.listing.specs.Output.{Prints}
-use Rattle.listing.specs.Steps.{Standing, Progress, refused-step, set-up-step, activation-step, refresh-step, record-step, line-step, step, next}
-use Rattle.listing.specs.Carried.{carried, Running, Represents, Leaves}
+use Rattle.listing.specs.Steps.{Standing, Progress, start, Step, refused-step, set-up-step, activation-step, refresh-step, record-step, line-step, step, next}
+use Rattle.listing.specs.Carried.{Memory, memory, start-place, carried, stored, Running, Ready, Represents}
+use Rattle.listing.specs.Chunks.{next-number, step-in, next-in}
 use Rattle.listing.proofs.Alike.{counted-on, line-alike}
+use Rattle.listing.proofs.Carries.{stored-carried, stored-ready}
 
 set-up-runs : (number : ℕ) (s : Settings) (rows counts : List ℕ) (o : Outcome Position) → set-up s rows counts .answer ≡ o → Running (set-up-step number s (set-up s rows counts) o .tracker)
 unfolding set-up-step refused-step Running
@@ -23,7 +23,12 @@ set-up-runs number s rows counts (accepted p) e =
     reached-set-up (record { rows = rows; counts = counts; accepts = e; rows-left = refl; counts-left = refl })
 set-up-runs number s rows counts (refused k) e = tt
 
-pub running-on : (number : ℕ) (t : Option Standing) (o : Outcome Record) → Running t → Running (line-step number t o .tracker)
+stored-lines : (t : Option Standing) (lines : ℕ) (m : Memory) → stored t lines m .place .lines ≡ lines
+unfolding stored
+stored-lines none lines m = refl
+stored-lines (some t) lines m = refl
+
+running-on : (number : ℕ) (t : Option Standing) (o : Outcome Record) → Running t → Running (line-step number t o .tracker)
 unfolding Running line-step record-step refused-step activation-step refresh-step
 running-on number t (refused k) r = r
 running-on number t (accepted (Set s)) r = set-up-runs number s (replicate (s .counters) 0) (replicate (s .counters) 0) _ refl
@@ -33,23 +38,44 @@ running-on number none (accepted Refresh) r = tt
 running-on number (some t) (accepted Refresh) r = reached-refresh (replicate (t .settings .volume) 0) r
 running-on number t (accepted Blank) r = r
 
-module _ {p p′ : Place} {rows counts rows′ counts′ : List ℕ} {g : Progress} (h : Represents p rows counts g) (o : Outcome Record) {before after : List ℕ} {at end : ℕ} (l : Leaves (line-step (p .lines % 10000000000 + 1) (carried p rows counts) o) p′ rows′ counts′ before at after end) (counted : p′ .lines ≡ p .lines % 10000000000 + 1) (rows-long : length rows′ ≡ 2048) (counts-long : length counts′ ≡ 2048) where
-  same : line-step (p .lines % 10000000000 + 1) (carried p rows counts) o ≡ step g o
-  unfolding step
-  same =
-      line-alike (p .lines % 10000000000 + 1) (suc (g .count)) (counted-on (p .lines) (g .count) (h .lines)) (carried p rows counts) o ∙
+module _ {m : Memory} {g : Progress} (h : Represents m g) (o : Outcome Record) where
+  pub step-same : step-in m o ≡ step g o
+  unfolding step step-in next-number
+  step-same =
+      line-alike (m .place .lines % 10000000000 + 1) (suc (g .count)) (counted-on (m .place .lines) (g .count) (h .lines)) (carried m) o ∙
       ap (λ (t : Option Standing). line-step (suc (g .count)) t o) (sym (h .tracker))
 
-  pub line-prints : Prints before at (step g o .prints) after end
-  line-prints = rw same at (l .printed)
+  step-running : Running (step-in m o .tracker)
+  unfolding step-in
+  step-running = running-on (next-number (m .place .lines)) (carried m) o (h .ready .running)
 
-  pub line-represents : Represents p′ rows′ counts′ (next g o)
-  unfolding next step
-  line-represents =
+  pub next-represents : Represents (next-in m o) (next g o)
+  unfolding next next-in next-number
+  next-represents =
+      let t = step-in m o .tracker in
       record {
-        rows-long = rows-long;
-        counts-long = counts-long;
-        tracker = rw same at (l .left);
-        lines = ap (λ (n : ℕ). n % 10000000000) counted ∙ counted-on (p .lines) (g .count) (h .lines);
-        running = running-on (suc (g .count)) (g .tracker) o (h .running);
+        ready = stored-ready m (m .place .lines % 10000000000 + 1) (h .ready) t step-running;
+        tracker =
+            sym (stored-carried m (m .place .lines % 10000000000 + 1) (h .ready) t step-running ∙ ap (λ (x : Step). x .tracker) step-same);
+        lines =
+            ap (λ (n : ℕ). n % 10000000000) (stored-lines t (m .place .lines % 10000000000 + 1) m) ∙
+            counted-on (m .place .lines) (g .count) (h .lines);
       }
+
+-- a listing that is where the memory says
+pub memory-represents : {m : Memory} → Ready m → Represents m (record { tracker = carried m; count = m .place .lines })
+memory-represents r = record { ready = r; tracker = refl; lines = refl }
+
+-- and the memory stays a listing's
+pub next-ready : {m : Memory} → Ready m → (o : Outcome Record) → Ready (next-in m o)
+next-ready r o = next-represents (memory-represents r) o .ready
+
+-- where a listing begins
+pub start-represents : (rows counts : List ℕ) → length rows ≡ 2048 → length counts ≡ 2048 → Represents (memory start-place rows counts) start
+unfolding start-place start carried Running
+start-represents rows counts rows-long counts-long =
+    record {
+      ready = record { running = tt; rows-long = rows-long; counts-long = counts-long };
+      tracker = refl;
+      lines = refl;
+    }

@@ -38,8 +38,8 @@ activation-listed s st row line rows counts p before at none left h =
 pub volume-most : {s : Settings} {st : State} → Reached s st → s .volume ≤ 16
 volume-most {s} r = accepted s (reached-settled r) .others .volume .most
 
-whole : (n : ℕ) → n ≤ length {A = ℕ} (replicate n 0)
-whole n = let long : length {A = ℕ} (replicate n 0) ≡ n = length-replicate n 0 in omega arith
+pub list-long : (n : ℕ) → n ≤ length {A = ℕ} (replicate n 0)
+list-long n = let long : length {A = ℕ} (replicate n 0) ≡ n = length-replicate n 0 in omega arith
 
 module _ {s : Settings} {st : State} (r : Reached s st) (list : List ℕ) (h : s .volume ≤ length list) (answer : Refreshed) (rows counts left : List ℕ) (call : refresh-call answer rows counts left ≡ refresh s st list) (k : ℕ) (ek : k ≡ refresh-count answer) where
   pub event-few : k ≤ 16
@@ -53,7 +53,7 @@ module _ {s : Settings} {st : State} (r : Reached s st) (list : List ℕ) (h : s
   unfolding refresh-step refresh-call stood answered
   event-listed {before} {after} {at} {end} line p ep printed =
       let lent : List ℕ = replicate (s .volume) 0 in
-      let long : s .volume ≤ length lent = whole (s .volume) in
+      let long : s .volume ≤ length lent = list-long (s .volume) in
       let names : take k left ≡ take (refresh s st lent .count) (refresh s st lent .picks) =
       ap (λ (n : ℕ). take n left) ek ∙ ap (λ (c : Refresh-call). take (c .count) (c .picks)) call ∙ event-names r list lent h long in
       let state : given rows counts p ≡ refresh s st lent .state =

@@ -66,7 +66,7 @@ prints-then {b} {c} {d} {x} {y} {at} {p} {q} f s =
       behind = omega arith;
     }
 
-length-rows : (rows : List ℕ) → length (row-columns rows) ≡ 6 * length rows
+pub length-rows : (rows : List ℕ) → length (row-columns rows) ≡ 6 * length rows
 unfolding row-columns
 length-rows [] = refl
 length-rows (row ∷ rows) = rw length-append (omega (arith, length-printed 6 row, length-rows rows))

@@ -1,79 +1,104 @@
--- How the code carries a listing: a place, and tables of 2,048 places of which the first C are the tracker's. What the others hold is left free.
-use Prim.Native.Nat.{ℕ, _+_, _%_, _≤_}
+-- How the code carries a listing from line to line: a place, and tables of 2,048 places of which the first C are the tracker's.
+use Prim.Native.Nat.{ℕ, _+_, _%_}
 use mathlib.Core.Path.{_≡_}
-use mathlib.Core.Bool.{Bool, true, not, _||_, cond}
-use mathlib.Core.List.{List, [], _∷_}
+use mathlib.Core.Bool.{true, false, cond}
+use mathlib.Core.List.{List, _++_}
 use mathlib.Core.Option.{Option, none, some}
-use lib.Dec.{ltb}
 use lib.ListN.{length, take, drop}
 use Rattle.device.specs.declared.Settings.{Settings}
 use Rattle.device.specs.Refusal.{Outcome, accepted, refused}
 use Rattle.tracker.specs.declared.Position.{Position}
 use Rattle.tracker.specs.Answers.{given}
 use Rattle.limit.specs.Reachable.{Reached}
-use Rattle.trace.specs.Lines.{ended}
 use Rattle.listing.specs.declared.Place.{Place}
 use Rattle.listing.specs.Output.{bound-line, refusal-line, Prints}
 use Rattle.listing.specs.Steps.{Standing, Progress, Step}
-use Rattle.listing.specs.Texts.{whole, listing, after as follow}
+
+-- what the caller keeps of a listing: where it is, and both tables
+pub record Memory : Type 0 where
+  pub place : Place
+  pub rows : List ℕ
+  pub counts : List ℕ
+
+abbrev pub memory : Place → List ℕ → List ℕ → Memory
+memory place rows counts = record { place = place; rows = rows; counts = counts }
+
+-- where a listing begins: no tracker stands, no line was read, and every number is 0
+unfoldable pub start-place : Place
+start-place =
+    record {
+      stands = false;
+      settings = record {
+        rows = 0;
+        «blast_diameter» = 0;
+        volume = 0;
+        counters = 0;
+        interval = 0;
+        window = 0;
+        block = 0;
+      };
+      position = record { events = 0; activations = 0; tracked = 0; spillover = 0 };
+      lines = 0;
+    }
 
 -- a tracker in tables of C places
 unfoldable pub stood : Settings → List ℕ → List ℕ → Position → Option Standing
 stood s rows counts p = some (record { settings = s; state = given rows counts p })
 
--- what a line did to a tracker that stands, and what it printed
-pub record Lists (step : Step) (s : Settings) (rows counts : List ℕ) (p : Position) (before : List ℕ) (at : ℕ) (after : List ℕ) (place : ℕ) : Type 0 where
-  pub printed : Prints before at (step .prints) after place
-  pub left : step .tracker ≡ stood s rows counts p
+-- the tracker that the memory holds, if one stands
+unfoldable pub carried : Memory → Option Standing
+carried m =
+    let s = m .place .settings in
+    cond (m .place .stands) (stood s (take (s .counters) (m .rows)) (take (s .counters) (m .counts)) (m .place .position)) none
 
--- the tracker that a place and the tables hold
-unfoldable pub carried : Place → List ℕ → List ℕ → Option Standing
-carried p rows counts =
-    cond (p .stands) (stood (p .settings) (take (p .settings .counters) rows) (take (p .settings .counters) counts) (p .position)) none
+-- the memory with a tracker, if one stands, and so many lines: places that are not the tracker's keep what they had, and so do
+-- settings and position where none stands
+unfoldable pub stored : Option Standing → ℕ → Memory → Memory
+stored none lines m =
+    memory
+    (record { stands = false; settings = m .place .settings; position = m .place .position; lines = lines })
+    (m .rows)
+    (m .counts)
+stored (some t) lines m =
+    let c = t .settings .counters in
+    memory
+    (record { stands = true; settings = t .settings; position = t .state .position; lines = lines })
+    (t .state .rows ++ drop c (m .rows))
+    (t .state .counts ++ drop c (m .counts))
 
 -- a tracker that stands was reached by calls after an accepted setting up
 unfoldable pub Running : Option Standing → Type 0
 Running none = Unit {0}
 Running (some t) = Reached (t .settings) (t .state)
 
--- a place and the tables hold where a listing is, its lines counted modulo 10,000,000,000
-pub record Represents (p : Place) (rows counts : List ℕ) (g : Progress) : Type 0 where
-  pub rows-long : length rows ≡ 2048
-  pub counts-long : length counts ≡ 2048
-  pub tracker : g .tracker ≡ carried p rows counts
-  pub lines : p .lines % 10000000000 ≡ g .count % 10000000000
-  pub running : Running (g .tracker)
+-- the memory is a listing's: both tables have 2,048 places, and a tracker that stands was reached
+pub record Ready (m : Memory) : Type 0 where
+  pub running : Running (carried m)
+  pub rows-long : length (m .rows) ≡ 2048
+  pub counts-long : length (m .counts) ≡ 2048
+
+-- the memory holds where a listing is, its lines counted modulo 10,000,000,000
+pub record Represents (m : Memory) (g : Progress) : Type 0 where
+  pub ready : Ready m
+  pub tracker : g .tracker ≡ carried m
+  pub lines : m .place .lines % 10000000000 ≡ g .count % 10000000000
 
 -- what a settings line prints, by the bound's answer
 unfoldable pub settings-line : ℕ → Outcome ℕ → List ℕ
 settings-line number (accepted h) = bound-line h
 settings-line number (refused k) = refusal-line number k
 
--- what a line left in a place and the tables, and what it printed
-pub record Leaves (step : Step) (p : Place) (rows counts : List ℕ) (before : List ℕ) (at : ℕ) (after : List ℕ) (end : ℕ) : Type 0 where
+-- what a line did to a tracker that stands, in tables of C places, and what it printed
+pub record Lists (step : Step) (s : Settings) (rows counts : List ℕ) (p : Position) (before : List ℕ) (at : ℕ) (after : List ℕ) (end : ℕ) : Type 0 where
   pub printed : Prints before at (step .prints) after end
-  pub left : step .tracker ≡ carried p rows counts
+  pub left : step .tracker ≡ stood s rows counts p
 
--- whole lines at the front of a text, so many bytes, were taken
-pub record Passed (p : Place) (rows counts text : List ℕ) (p′ : Place) (rows′ counts′ : List ℕ) (taken : ℕ) : Type 0 where
-  pub within : taken ≤ length text
-  pub ends : whole (take taken text) ≡ true
-  pub represents : (g : Progress) → Represents p rows counts g → Represents p′ rows′ counts′ (follow g (take taken text))
+-- the places behind the first keep what they had
+pub record Behind (first : ℕ) (rows counts rows′ counts′ : List ℕ) : Type 0 where
+  pub of-rows : drop first rows′ ≡ drop first rows
+  pub of-counts : drop first counts′ ≡ drop first counts
 
--- and their listing was printed at the front of a buffer
-pub record Taken (p : Place) (rows counts text before : List ℕ) (p′ : Place) (rows′ counts′ after : List ℕ) (taken end : ℕ) : Type 0 where
-  pub passed : Passed p rows counts text p′ rows′ counts′ taken
-  pub prints : (g : Progress) → Represents p rows counts g → Prints before 0 (listing g (take taken text)) after end
-
--- no further line could be taken: none is left that has ended, or less than 200 bytes are left to print in
-unfoldable pub stopped : List ℕ → ℕ → List ℕ → ℕ → Bool
-stopped text taken buffer end = not (ended (drop taken text)) || ltb (length buffer) (end + 200)
-
--- what the end of a trace prints: a last line that has not ended is refused, if a byte of it is left and 18 are there to print in
-unfoldable pub last-line : ℕ → List ℕ → ℕ → List ℕ
-last-line number [] room = []
-last-line number (b ∷ bs) room = cond (ltb room 18) [] (refusal-line number 11)
-
--- of the bytes of a text from one place to another, the first 64
-unfoldable pub kept-bytes : ℕ → ℕ → List ℕ → List ℕ
-kept-bytes from to text = take 64 (drop from (take to text))
+-- what a line left in the memory, its number being so many lines, and what it printed
+pub record Leaves (step : Step) (line : ℕ) (m m′ : Memory) (before : List ℕ) (at : ℕ) (after : List ℕ) (end : ℕ) : Type 0 where
+  pub printed : Prints before at (step .prints) after end
+  pub left : m′ ≡ stored (step .tracker) line m

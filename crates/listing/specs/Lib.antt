@@ -3,4 +3,5 @@ pub mod Output
 pub mod Steps
 pub mod Texts
 pub mod Carried
+pub mod Chunks
 pub mod Parts

@@ -1,12 +1,15 @@
--- A text that comes in parts: what a program that reads it may do with the bytes at hand, and what it has printed in the end.
-use Prim.Native.Nat.{ℕ}
+-- A text that comes in parts: what a program that reads it may do with the bytes at hand, what it has printed in the end, and that the calls
+-- of the listing do just that.
+use Prim.Native.Nat.{ℕ, _+_, _*_, _≤_}
 use mathlib.Core.Path.{_≡_}
 use mathlib.Core.Bool.{true, false}
 use mathlib.Core.List.{List, [], _∷_, _++_}
-use lib.ListN.{take}
+use lib.ListN.{length, take, drop}
 use Rattle.trace.specs.Lines.{ended}
 use Rattle.listing.specs.Steps.{Progress}
 use Rattle.listing.specs.Texts.{whole, listing, after}
+use Rattle.listing.specs.Carried.{Memory, Represents}
+use Rattle.listing.specs.Chunks.{next-number, part, turned, last-line}
 
 -- from where the listing is, with these bytes at hand and these parts still to come, all that is printed
 pub data Printed : Progress → List ℕ → List (List ℕ) → List ℕ → Type 0 where
@@ -28,3 +31,29 @@ joined (part ∷ parts) = part ++ joined parts
 unfoldable pub Parts-joined : Type 0
 Parts-joined =
     (g : Progress) (text : List ℕ) (parts : List (List ℕ)) (out : List ℕ) → Printed g text parts out → out ≡ listing g (text ++ joined parts)
+
+-- moves that begin where the memory says that the listing is: they print some bytes first, and leave other memory and other bytes at hand
+pub record Moves (g : Progress) (text printed : List ℕ) (m : Memory) (left : List ℕ) : Type 0 where
+  pub next : Progress
+  pub represents : Represents m next
+  pub moves : (parts : List (List ℕ)) (out : List ℕ) → Printed next left parts out → Printed g text parts (printed ++ out)
+
+-- what `list_part` promises is the move `lists`
+unfoldable pub Part-moves : Type 0
+Part-moves =
+    (m : Memory) (g : Progress) (text buffer : List ℕ) → Represents m g →
+    let q = part m text buffer in
+    Moves g text (take (q .end) (q .buffer)) (q .memory) (drop (q .taken) text)
+
+-- what `list_chunk` promises, with `keep` in it, are the moves `lists` and `keeps`
+unfoldable pub Chunk-moves : Type 0
+Chunk-moves =
+    (m : Memory) (g : Progress) (text : List ℕ) (len : ℕ) (buffer : List ℕ) → Represents m g → len ≤ length text → 55 * len + 200 ≤ length buffer →
+    let q = turned m text len buffer in
+    Moves g (take len text) (take (q .end) (q .buffer)) (q .memory) (take (q .kept) (q .text))
+
+-- what `list_end` promises is the move `ends`
+unfoldable pub End-moves : Type 0
+End-moves =
+    (m : Memory) (g : Progress) (text : List ℕ) (room : ℕ) → Represents m g → ended text ≡ false → 18 ≤ room →
+    Printed g text [] (last-line (next-number (m .place .lines)) text room)

@@ -7,16 +7,13 @@ use device::Settings;
 use trace::Read;
 use tracker::Position;
 ghost use mathlib.Core.Path.{_≡_};
-ghost use mathlib.Core.Bool.{true, false};
-ghost use mathlib.Core.List.{List, _++_};
-ghost use Prim.Native.Nat.{ℕ, _+_, _%_, _≤_, min};
+ghost use mathlib.Core.List.{_++_};
+ghost use Prim.Native.Nat.{_+_, _*_, _≤_, min};
 ghost use lib.ListN.{length, drop};
-ghost use Rattle.trace.specs.Lines.{ended};
 ghost use Rattle.trace.specs.Reading.{said};
 ghost use Rattle.listing.specs.Output.{Prints};
-ghost use Rattle.listing.specs.Steps.{Progress, start as beginning};
-ghost use Rattle.listing.specs.Texts.{listing};
-ghost use Rattle.listing.specs.Carried.{carried, Running, Represents, Taken, stopped, last-line, kept-bytes};
+ghost use Rattle.listing.specs.Carried.{memory, start-place, Ready};
+ghost use Rattle.listing.specs.Chunks.{next-number, part as part-of, part-left, turned, chunk-left, last-line, kept-bytes};
 
 // Where a listing is: whether a tracker stands, its settings and position, and the lines so far, which count modulo 10,000,000,000.
 pub struct Place {
@@ -45,9 +42,16 @@ pub struct Part {
     pub end: usize,
 }
 
+// What lies between two reads left: where the listing is, the place behind what was printed, and how many bytes are kept.
+pub struct Chunk {
+    pub place: Place,
+    pub end: usize,
+    pub kept: usize,
+}
+
 // Where a listing begins: no tracker stands.
 pub fn start() -> Place
-    ensures { λ r. ⌜ ((rows counts : List ℕ) → length rows ≡ 2048 → length counts ≡ 2048 → Represents r rows counts beginning) ⌝ }
+    ensures { λ r. ⌜ r ≡ start-place ⌝ }
 {
     Place {
         stands: false,
@@ -88,8 +92,8 @@ pub fn list_part(
     text: &[u8],
     out: &mut [u8],
 ) -> Part
-    requires { ⌜ Running (carried p (now rows) (now counts)) × (length (now rows) ≡ 2048) × (length (now counts) ≡ 2048) ⌝ }
-    ensures { λ r. ⌜ Taken p (now (rows .entry)) (now (counts .entry)) (now (text .entry)) (now (out .entry)) (r .place) (now (rows .exit)) (now (counts .exit)) (now (out .exit)) (r .taken) (r .end) × (stopped (now (text .entry)) (r .taken) (now (out .exit)) (r .end) ≡ true) ⌝ }
+    requires { ⌜ Ready (memory p (now rows) (now counts)) ⌝ }
+    ensures { λ r. ⌜ part-left r (now (rows .exit)) (now (counts .exit)) (now (out .exit)) ≡ part-of (memory p (now (rows .entry)) (now (counts .entry))) (now (text .entry)) (now (out .entry)) ⌝ }
 {
     let mut place = p;
     let mut at: usize = 0;
@@ -118,8 +122,7 @@ pub fn list_part(
 
 // The end of a trace: what is left of it is a last line without byte 10, which is refused, or nothing.
 pub fn list_end(p: Place, text: &[u8], out: &mut [u8]) -> usize
-    ensures { λ r. ⌜ Prints (now (out .entry)) 0 (last-line (p .lines % 10000000000 + 1) (now (text .entry)) (length (now (out .entry)))) (now (out .exit)) r ⌝ }
-    ensures { λ r. ⌜ ((rows counts : List ℕ) (g : Progress) → Represents p rows counts g → ended (now (text .entry)) ≡ false → 18 ≤ length (now (out .entry)) → Prints (now (out .entry)) 0 (listing g (now (text .entry))) (now (out .exit)) r) ⌝ }
+    ensures { λ r. ⌜ Prints (now (out .entry)) 0 (last-line (next-number (p .lines)) (now (text .entry)) (length (now (out .entry)))) (now (out .exit)) r ⌝ }
 {
     if text.len() == 0 {
         return 0;
@@ -139,7 +142,6 @@ fn smaller(a: usize, b: usize) -> usize
 
 // Of the text's bytes from one place to another, the first 64 go to its front; how many they are.
 pub fn keep(text: &mut [u8], from: usize, to: usize) -> usize
-    ensures { λ r. ⌜ r ≤ 64 ⌝ }
     ensures { λ r. ⌜ (r ≡ length (kept-bytes from to (now (text .entry)))) × (now (text .exit) ≡ kept-bytes from to (now (text .entry)) ++ drop r (now (text .entry))) ⌝ }
 {
     let end = smaller(to, text.len());
@@ -151,4 +153,27 @@ pub fn keep(text: &mut [u8], from: usize, to: usize) -> usize
         i += 1;
     }
     kept
+}
+
+// What lies between two reads: of the first bytes of the text, the lines that have ended are listed, and the first 64 bytes of what is left go to
+// the text's front.
+pub fn list_chunk(
+    p: Place,
+    rows: &mut [u32],
+    counts: &mut [u32],
+    text: &mut [u8],
+    len: usize,
+    out: &mut [u8],
+) -> Chunk
+    requires { ⌜ Ready (memory p (now rows) (now counts)) × (len ≤ length (now text)) × (55 * len + 200 ≤ length (now out)) ⌝ }
+    ensures { λ r. ⌜ chunk-left r (now (rows .exit)) (now (counts .exit)) (now (text .exit)) (now (out .exit)) ≡ turned (memory p (now (rows .entry)) (now (counts .entry))) (now (text .entry)) len (now (out .entry)) ⌝ }
+{
+    let part = list_part(p, rows, counts, &text[0..len], out);
+    let place = part.place;
+    let kept = keep(text, part.taken, len);
+    Chunk {
+        place,
+        end: part.end,
+        kept,
+    }
 }

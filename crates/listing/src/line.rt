@@ -11,7 +11,6 @@ use tracker::SetUp;
 ghost use mathlib.Core.Path.{_≡_};
 ghost use Prim.Native.Nat.{_+_, _≤_};
 ghost use lib.ListN.{length, take, replicate};
-ghost use mathlib.Core.Option.{none};
 ghost use Rattle.bound.specs.Answers.{outcome, Small};
 ghost use Rattle.trace.specs.declared.Record.the-variants.{Set};
 ghost use Rattle.tracker.specs.Calls.{set-up, activate as activated, refresh as refreshed};
@@ -19,7 +18,7 @@ ghost use Rattle.tracker.specs.Answers.{given, set-up-call, refresh-count, refr
 ghost use Rattle.limit.specs.Reachable.{Reached};
 ghost use Rattle.listing.specs.Steps.{record-step, activation-step, refresh-step};
 ghost use Rattle.listing.specs.Output.{Prints};
-ghost use Rattle.listing.specs.Carried.{Lists, Leaves, settings-line};
+ghost use Rattle.listing.specs.Carried.{memory, carried, Lists, Behind, Leaves, settings-line};
 
 // The number picked.
 fn count_of(answer: Refreshed) -> u32
@@ -100,6 +99,7 @@ pub fn front_activation(
 ) -> Moved
     requires { ⌜ Reached s (given (take (s .counters) (now rows)) (take (s .counters) (now counts)) p) × (at + 200 ≤ length (now out)) × (s .counters ≤ length (now rows)) × (s .counters ≤ length (now counts)) ⌝ }
     ensures { λ r. ⌜ Lists (activation-step line s (activated s (given (take (s .counters) (now (rows .entry))) (take (s .counters) (now (counts .entry))) p) row)) s (take (s .counters) (now (rows .exit))) (take (s .counters) (now (counts .exit))) (r .position) (now (out .entry)) at (now (out .exit)) (r .end) ⌝ }
+    ensures { λ r. ⌜ Behind (s .counters) (now (rows .entry)) (now (counts .entry)) (now (rows .exit)) (now (counts .exit)) ⌝ }
 {
     let c = s.counters as usize;
     list_activation(s, &mut rows[0..c], &mut counts[0..c], p, row, line, out, at)
@@ -117,6 +117,7 @@ pub fn front_event(
 ) -> Moved
     requires { ⌜ Reached s (given (take (s .counters) (now rows)) (take (s .counters) (now counts)) p) × (at + 200 ≤ length (now out)) × (s .counters ≤ length (now rows)) × (s .counters ≤ length (now counts)) ⌝ }
     ensures { λ r. ⌜ Lists (refresh-step line s (p .events) (refreshed s (given (take (s .counters) (now (rows .entry))) (take (s .counters) (now (counts .entry))) p) (replicate (s .volume) 0))) s (take (s .counters) (now (rows .exit))) (take (s .counters) (now (counts .exit))) (r .position) (now (out .entry)) at (now (out .exit)) (r .end) ⌝ }
+    ensures { λ r. ⌜ Behind (s .counters) (now (rows .entry)) (now (counts .entry)) (now (rows .exit)) (now (counts .exit)) ⌝ }
 {
     let c = s.counters as usize;
     list_event(s, &mut rows[0..c], &mut counts[0..c], p, line, out, at)
@@ -126,6 +127,7 @@ pub fn front_event(
 fn front_set_up(s: Settings, rows: &mut [u32], counts: &mut [u32]) -> SetUp
     requires { ⌜ (s .counters ≤ length (now rows)) × (s .counters ≤ length (now counts)) ⌝ }
     ensures { λ r. ⌜ set-up-call r (take (s .counters) (now (rows .exit))) (take (s .counters) (now (counts .exit))) ≡ set-up s (take (s .counters) (now (rows .entry))) (take (s .counters) (now (counts .entry))) ⌝ }
+    ensures { λ r. ⌜ Behind (s .counters) (now (rows .entry)) (now (counts .entry)) (now (rows .exit)) (now (counts .exit)) ⌝ }
 {
     let c = s.counters as usize;
     tracker::set_up(s, &mut rows[0..c], &mut counts[0..c])
@@ -142,8 +144,9 @@ fn print_settings(out: &mut [u8], at: usize, line: u64, answer: Answer) -> usize
     }
 }
 
-// A settings line, on tables of 2,048 places.
+// A settings line. Refused, it leaves no tracker standing, and settings, position and tables as they were.
 pub fn list_settings(
+    p: Place,
     s: Settings,
     rows: &mut [u32],
     counts: &mut [u32],
@@ -152,20 +155,16 @@ pub fn list_settings(
     at: usize,
 ) -> Listed
     requires { ⌜ (at + 200 ≤ length (now out)) × (length (now rows) ≡ 2048) × (length (now counts) ≡ 2048) ⌝ }
-    ensures { λ r. ⌜ Leaves (record-step line none (Set s)) (r .place) (now (rows .exit)) (now (counts .exit)) (now (out .entry)) at (now (out .exit)) (r .end) × (r .place .lines ≡ line) ⌝ }
+    ensures { λ r. ⌜ Leaves (record-step line (carried (memory p (now (rows .entry)) (now (counts .entry)))) (Set s)) line (memory p (now (rows .entry)) (now (counts .entry))) (memory (r .place) (now (rows .exit)) (now (counts .exit))) (now (out .entry)) at (now (out .exit)) (r .end) ⌝ }
 {
     let end = print_settings(out, at, line, bound::bound(s));
-    let position = Position {
-        events: 0,
-        activations: 0,
-        tracked: 0,
-        spillover: 0,
-    };
     if device::settings_refusal(s) != 0 {
+        let settings = p.settings;
+        let position = p.position;
         return Listed {
             place: Place {
                 stands: false,
-                settings: s,
+                settings,
                 position,
                 lines: line,
             },
@@ -173,6 +172,12 @@ pub fn list_settings(
         };
     }
     front_set_up(s, rows, counts);
+    let position = Position {
+        events: 0,
+        activations: 0,
+        tracked: 0,
+        spillover: 0,
+    };
     Listed {
         place: Place {
             stands: true,

@@ -7,12 +7,13 @@ use trace::Read;
 use trace::Record;
 use tracker::Position;
 ghost use mathlib.Core.Path.{_≡_};
-ghost use Prim.Native.Nat.{_+_, _%_, _≤_};
+ghost use Prim.Native.Nat.{_+_, _≤_};
 ghost use lib.ListN.{length};
 ghost use Rattle.trace.specs.declared.Record.the-variants.{Activate, Refresh};
 ghost use Rattle.trace.specs.Reading.{said};
 ghost use Rattle.listing.specs.Steps.{record-step, line-step};
-ghost use Rattle.listing.specs.Carried.{carried, Running, Leaves};
+ghost use Rattle.listing.specs.Carried.{memory, carried, Ready, Leaves};
+ghost use Rattle.listing.specs.Chunks.{next-number};
 
 // A place with the tracker's position as given, and so many lines.
 fn at_line(p: Place, position: Position, lines: u64) -> Place
@@ -37,8 +38,8 @@ fn activation_line(
     out: &mut [u8],
     at: usize,
 ) -> Listed
-    requires { ⌜ Running (carried p (now rows) (now counts)) × (at + 200 ≤ length (now out)) × (length (now rows) ≡ 2048) × (length (now counts) ≡ 2048) ⌝ }
-    ensures { λ r. ⌜ Leaves (record-step line (carried p (now (rows .entry)) (now (counts .entry))) (Activate row)) (r .place) (now (rows .exit)) (now (counts .exit)) (now (out .entry)) at (now (out .exit)) (r .end) × (r .place .lines ≡ line) ⌝ }
+    requires { ⌜ Ready (memory p (now rows) (now counts)) × (at + 200 ≤ length (now out)) ⌝ }
+    ensures { λ r. ⌜ Leaves (record-step line (carried (memory p (now (rows .entry)) (now (counts .entry)))) (Activate row)) line (memory p (now (rows .entry)) (now (counts .entry))) (memory (r .place) (now (rows .exit)) (now (counts .exit))) (now (out .entry)) at (now (out .exit)) (r .end) ⌝ }
 {
     let position = p.position;
     if p.stands {
@@ -66,8 +67,8 @@ fn event_line(
     out: &mut [u8],
     at: usize,
 ) -> Listed
-    requires { ⌜ Running (carried p (now rows) (now counts)) × (at + 200 ≤ length (now out)) × (length (now rows) ≡ 2048) × (length (now counts) ≡ 2048) ⌝ }
-    ensures { λ r. ⌜ Leaves (record-step line (carried p (now (rows .entry)) (now (counts .entry))) Refresh) (r .place) (now (rows .exit)) (now (counts .exit)) (now (out .entry)) at (now (out .exit)) (r .end) × (r .place .lines ≡ line) ⌝ }
+    requires { ⌜ Ready (memory p (now rows) (now counts)) × (at + 200 ≤ length (now out)) ⌝ }
+    ensures { λ r. ⌜ Leaves (record-step line (carried (memory p (now (rows .entry)) (now (counts .entry)))) Refresh) line (memory p (now (rows .entry)) (now (counts .entry))) (memory (r .place) (now (rows .exit)) (now (counts .exit))) (now (out .entry)) at (now (out .exit)) (r .end) ⌝ }
 {
     let position = p.position;
     if p.stands {
@@ -96,12 +97,12 @@ fn list_record(
     out: &mut [u8],
     at: usize,
 ) -> Listed
-    requires { ⌜ Running (carried p (now rows) (now counts)) × (at + 200 ≤ length (now out)) × (length (now rows) ≡ 2048) × (length (now counts) ≡ 2048) ⌝ }
-    ensures { λ r. ⌜ Leaves (record-step line (carried p (now (rows .entry)) (now (counts .entry))) what) (r .place) (now (rows .exit)) (now (counts .exit)) (now (out .entry)) at (now (out .exit)) (r .end) × (r .place .lines ≡ line) ⌝ }
+    requires { ⌜ Ready (memory p (now rows) (now counts)) × (at + 200 ≤ length (now out)) ⌝ }
+    ensures { λ r. ⌜ Leaves (record-step line (carried (memory p (now (rows .entry)) (now (counts .entry)))) what) line (memory p (now (rows .entry)) (now (counts .entry))) (memory (r .place) (now (rows .exit)) (now (counts .exit))) (now (out .entry)) at (now (out .exit)) (r .end) ⌝ }
 {
     let came = p.position;
     match what {
-        Record::Set(s) => line::list_settings(s, rows, counts, line, out, at),
+        Record::Set(s) => line::list_settings(p, s, rows, counts, line, out, at),
         Record::Activate(row) => activation_line(p, rows, counts, row, line, out, at),
         Record::Refresh => event_line(p, rows, counts, line, out, at),
         Record::Blank => Listed {
@@ -120,8 +121,8 @@ pub fn list_line(
     out: &mut [u8],
     at: usize,
 ) -> Listed
-    requires { ⌜ Running (carried p (now rows) (now counts)) × (at + 200 ≤ length (now out)) × (length (now rows) ≡ 2048) × (length (now counts) ≡ 2048) ⌝ }
-    ensures { λ r. ⌜ Leaves (line-step (p .lines % 10000000000 + 1) (carried p (now (rows .entry)) (now (counts .entry))) (said answer .outcome)) (r .place) (now (rows .exit)) (now (counts .exit)) (now (out .entry)) at (now (out .exit)) (r .end) × (r .place .lines ≡ p .lines % 10000000000 + 1) ⌝ }
+    requires { ⌜ Ready (memory p (now rows) (now counts)) × (at + 200 ≤ length (now out)) ⌝ }
+    ensures { λ r. ⌜ Leaves (line-step (next-number (p .lines)) (carried (memory p (now (rows .entry)) (now (counts .entry)))) (said answer .outcome)) (next-number (p .lines)) (memory p (now (rows .entry)) (now (counts .entry))) (memory (r .place) (now (rows .exit)) (now (counts .exit))) (now (out .entry)) at (now (out .exit)) (r .end) ⌝ }
 {
     let line = p.lines % 10000000000 + 1;
     let Read::Line(what, _) = answer else {

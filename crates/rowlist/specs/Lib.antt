@@ -1,2 +1,2 @@
--- What a read leaves at hand.
-pub mod Reads
+-- The program: what a read leaves at hand, what lies between two reads, and what a whole run prints.
+pub mod Turns

@@ -3,19 +3,10 @@ use libc::STDIN_FILENO;
 use libc::STDOUT_FILENO;
 use listing::Place;
 ghost use mathlib.Core.Path.{_≡_};
-ghost use mathlib.Core.Bool.{true, false};
-ghost use Prim.Native.Nat.{_≤_, _<_};
-ghost use lib.ListN.{length, drop};
-ghost use Rattle.trace.specs.Lines.{ended};
-ghost use Rattle.listing.specs.Carried.{carried, Running, Passed};
-ghost use Rattle.rowlist.specs.Reads.{Within};
-
-// Where the listing is behind the lines that were taken, how many bytes they were, and whether what they print was written.
-struct Turn {
-    place: Place,
-    taken: usize,
-    written: bool,
-}
+ghost use Prim.Native.Nat.{_+_, _*_, _≤_};
+ghost use lib.ListN.{length};
+ghost use Rattle.listing.specs.Carried.{memory, Ready};
+ghost use Rattle.rowlist.specs.Turns.{Within, Came, turn-of, turn-left};
 
 // What a read came to: so many bytes at hand, the input's end, or a failure.
 enum Input {
@@ -24,45 +15,19 @@ enum Input {
     Failed,
 }
 
-// Lists all lines of a text that have ended; stops where a write fails.
-fn list_text(p: Place, rows: &mut [u32], counts: &mut [u32], text: &[u8], out: &mut [u8]) -> Turn
-    requires { ⌜ Running (carried p (now rows) (now counts)) × (length (now rows) ≡ 2048) × (length (now counts) ≡ 2048) × (200 ≤ length (now out)) × (length (now text) ≤ 65536) ⌝ }
-    ensures { λ r. ⌜ Passed p (now (rows .entry)) (now (counts .entry)) (now (text .entry)) (r .place) (now (rows .exit)) (now (counts .exit)) (r .taken) ⌝ }
-    ensures { λ r. ⌜ (r .written ≡ true → ended (drop (r .taken) (now (text .entry))) ≡ false) ⌝ }
-{
-    let mut place = p;
-    let mut at: usize = 0;
-    while at < text.len() {
-        let part = listing::list_part(place, rows, counts, trace::rest(text, at), out);
-        let end = part.end;
-        place = part.place;
-        at += part.taken;
-        if !io::write_all(STDOUT_FILENO, &out[..end]) {
-            return Turn {
-                place,
-                taken: at,
-                written: false,
-            };
-        }
-        if part.taken == 0 {
-            return Turn {
-                place,
-                taken: at,
-                written: true,
-            };
-        }
-    }
-    Turn {
-        place,
-        taken: at,
-        written: true,
-    }
+// What lies between two reads left: where the listing is, how many bytes are kept at the text's front and how many are to be written, and
+// whether to read again.
+struct Turn {
+    place: Place,
+    kept: usize,
+    end: usize,
+    more: bool,
 }
 
 // Reads behind the bytes that are kept at the front; how many bytes are at hand then.
 fn read_behind(text: &mut [u8], kept: usize) -> Input
     requires { ⌜ kept ≤ length (now text) ⌝ }
-    ensures { λ r. ⌜ Within r (length (now (text .entry))) ⌝ }
+    ensures { λ r. ⌜ Came r kept (now (text .entry)) (now (text .exit)) ⌝ }
 {
     let part = &mut text[kept..];
     let got = libc::read(STDIN_FILENO, part);
@@ -76,50 +41,75 @@ fn read_behind(text: &mut [u8], kept: usize) -> Input
     Input::Bytes(kept + more)
 }
 
-// Writes what the input's end prints.
-fn finish(p: Place, text: &[u8], out: &mut [u8]) {
-    let end = listing::list_end(p, text, out);
-    io::write_all(STDOUT_FILENO, &out[..end]);
+// What lies between two reads: what came in is listed, up to the last line's end.
+fn between_reads(
+    p: Place,
+    rows: &mut [u32],
+    counts: &mut [u32],
+    text: &mut [u8],
+    kept: usize,
+    input: Input,
+    out: &mut [u8],
+) -> Turn
+    requires { ⌜ Ready (memory p (now rows) (now counts)) × Within input kept (length (now text)) × (kept ≤ length (now text)) × (55 * length (now text) + 200 ≤ length (now out)) ⌝ }
+    ensures { λ r. ⌜ turn-left r (now (rows .exit)) (now (counts .exit)) (now (text .exit)) (now (out .exit)) ≡ turn-of (memory p (now (rows .entry)) (now (counts .entry))) (now (text .entry)) kept input (now (out .entry)) ⌝ }
+{
+    match input {
+        Input::Bytes(len) => {
+            let chunk = listing::list_chunk(p, rows, counts, text, len, out);
+            let place = chunk.place;
+            Turn {
+                place,
+                kept: chunk.kept,
+                end: chunk.end,
+                more: true,
+            }
+        }
+        Input::End => {
+            let end = listing::list_end(p, &text[0..kept], out);
+            Turn {
+                place: p,
+                kept,
+                end,
+                more: false,
+            }
+        }
+        Input::Failed => Turn {
+            place: p,
+            kept,
+            end: 0,
+            more: false,
+        },
+    }
 }
 
-// Reads, lists and keeps what is left of the last line, until the input ends or a read or write fails.
+// Reads, lists and writes, until the input ends or a read or write fails.
 fn run(rows: &mut [u32], counts: &mut [u32], text: &mut [u8], out: &mut [u8])
-    requires { ⌜ (length (now rows) ≡ 2048) × (length (now counts) ≡ 2048) × (length (now text) ≡ 65536) × (200 ≤ length (now out)) ⌝ }
+    requires { ⌜ (length (now rows) ≡ 2048) × (length (now counts) ≡ 2048) × (length (now text) ≡ 4096) × (length (now out) ≡ 262144) ⌝ }
 {
     let mut place = listing::start();
     let mut kept: usize = 0;
     let mut turns = u64::MAX;
     while turns > 0 {
         let input = read_behind(text, kept);
-        let Input::Bytes(len) = input else {
-            if is_end(input) {
-                finish(place, &text[..kept], out);
-            }
+        let turn = between_reads(place, rows, counts, text, kept, input, out);
+        let end = turn.end;
+        if !io::write_all(STDOUT_FILENO, &out[..end]) {
             return;
-        };
-        let turn = list_text(place, rows, counts, &text[..len], out);
-        if !turn.written {
+        }
+        if !turn.more {
             return;
         }
         place = turn.place;
-        kept = listing::keep(text, turn.taken, len);
+        kept = turn.kept;
         turns -= 1;
-    }
-}
-
-// Whether the input has ended.
-fn is_end(input: Input) -> bool {
-    match input {
-        Input::Bytes(_) => false,
-        Input::End => true,
-        Input::Failed => false,
     }
 }
 
 fn main() {
     let mut rows = [0u32; 2048];
     let mut counts = [0u32; 2048];
-    let mut text = [0u8; 65536];
-    let mut out = [0u8; 65536];
+    let mut text = [0u8; 4096];
+    let mut out = [0u8; 262144];
     run(&mut rows, &mut counts, &mut text, &mut out);
 }

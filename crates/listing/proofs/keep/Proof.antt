@@ -49,11 +49,8 @@ returns c =
     let few = kept-few (a .text .now) (a .from) (a .to) (c .before .before .before .before .smaller .ensures) (c .before .before .before .smaller2 .ensures) (c .before .before .smaller3 .ensures) in
     let is = kept-is (a .text .now) (a .from) (a .to) (c .before .before .before .before .smaller .ensures) (c .before .before .before .smaller2 .ensures) (c .before .before .smaller3 .ensures) in
     let done : l .i ≡ kept = omega (arith, l .inv .1, c .loop-test .left) in (
-      few .0,
-      (
-        sym (front-long (a .text .now) begin kept (few .1)) ∙ ap length is,
-        (rw done at (l .inv .0)) ∙ ap (λ (front : List ℕ). front ++ drop kept (a .text .now)) is,
-      ),
+      sym (front-long (a .text .now) begin kept (few .1)) ∙ ap length is,
+      (rw done at (l .inv .0)) ∙ ap (λ (front : List ℕ). front ++ drop kept (a .text .now)) is,
     )
 
 pub keep-spec : {M : Type 1} → statement M

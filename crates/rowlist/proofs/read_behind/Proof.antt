@@ -1,21 +1,40 @@
 -- `rowlist::read_behind` meets its contract.
+use mathlib.Core.Path.{_≡_}
+use mathlib.Core.List.{List, _++_}
+use Prim.Native.Nat.{ℕ, _≤_}
 use native.Mathlib.Omega.{arith}
 use borrow.Author.Needs.{needs}
-use Rattle.rowlist.specs.Reads.{Within}
+use lib.ListN.{length, take}
+use lib.Seq.{take-at, length-take-le}
+use Rattle.rowlist.specs.Turns.{Within}
 use Rattle.rowlist.proofs.read_behind.Statement.{statement}
 use Rattle.rowlist.proofs.read_behind.Tie as tie
+use Rattle.rowlist.proofs.read_behind.Reads as reads
+use Rattle.rowlist.proofs.read_behind.Lts as lts
+
+-- the bytes in front of a place are as they were, whatever stands behind it
+front-at : (text : List ℕ) (kept : ℕ) (part : List ℕ) → kept ≤ length text → take kept (take kept text ++ part) ≡ take kept text
+front-at text kept part h = take-at (take kept text) part kept (length-take-le kept text h)
 
 returns : tie.Need-returns
 unfolding Within
-returns c = tt
+returns c = record { front = front-at (c .before .before .before .before .before .before .before .before .before .args .text .now) (c .before .before .before .before .before .before .before .before .before .args .kept) _ (c .before .before .before .before .before .before .before .before .before .pre); within = tt }
 
 returns-2 : tie.Need-returns-2
 unfolding Within
-returns-2 c = tt
+returns-2 c = record { front = front-at (c .before .before .before .before .before .before .before .before .before .before .before .before .args .text .now) (c .before .before .before .before .before .before .before .before .before .before .before .before .args .kept) _ (c .before .before .before .before .before .before .before .before .before .before .before .before .pre); within = tt }
+
+same-length-3 : tie.Need-same-length-3
+same-length-3 c = search needs
 
 returns-3 : tie.Need-returns-3
 unfolding Within
-returns-3 c = omega (arith, c .before .before .before .count .ensures .0 .0)
+returns-3 c =
+    let a = c .before .before .before .before .before .before .before .before .before .before .before .before in
+    record {
+      front = front-at (a .args .text .now) (a .args .kept) _ (a .pre);
+      within = (omega (arith, c .if2 .left), omega (arith, same-length-3 c, c .before .before .before .count .ensures .0 .0, a .pre));
+    }
 
 pub read-behind-spec : {M : Type 1} → statement M
 read-behind-spec =
@@ -31,5 +50,5 @@ read-behind-spec =
     (λ c. search needs)
     returns-2
     (λ c. search needs)
-    (λ c. search needs)
+    same-length-3
     returns-3)

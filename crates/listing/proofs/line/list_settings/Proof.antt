@@ -1,14 +1,14 @@
 -- `listing::line::list_settings` meets its contract.
 use mathlib.Core.Path.{_≡_, refl, sym, _∙_}
-use mathlib.Core.Bool.{cond}
-use mathlib.Core.Option.{none}
 use Prim.Native.Nat.{_+_, _≤_}
 use native.Mathlib.Omega.{arith}
 use borrow.Author.Needs.{needs}
 use lib.ListN.{take}
 use Rattle.device.proofs.Accepted.{accepted}
 use Rattle.bound.proofs.Narrow.{bound-answer-small}
-use Rattle.listing.specs.Carried.{carried}
+use Rattle.tracker.specs.Answers.{given}
+use Rattle.listing.specs.Carried.{memory, stood, carried, stored}
+use Rattle.listing.proofs.Carries.{front-put}
 use Rattle.listing.proofs.Settled.{settings-printed, settings-refused, settings-stand}
 use Rattle.listing.proofs.line.list_settings.Statement.{statement}
 use Rattle.listing.proofs.line.list_settings.Tie as tie
@@ -19,16 +19,15 @@ print-settings-requires c κs =
     (omega (arith, a .pre .0), rw (c .bound .ensures) (bound-answer-small (a .args .s)))
 
 returns : tie.Need-returns
-unfolding carried
+unfolding stored
 returns c =
-    let a = c .before .before .before .before .before .before .before .before .before .before in
-    let b = c .before .before .before .before .before .bound in (
-      record {
-        printed = settings-printed (a .args .line) (a .args .s) none (b .result) (b .ensures) (c .before .before .before .before .print-settings .ensures);
-        left = settings-refused (a .args .line) (a .args .s) none (λ e. c .if1 .taken (c .before .settings-refusal .ensures ∙ e));
-      },
-      refl,
-    )
+    let a = c .before .before .before .before .before .before .before .before .before .before .before .before in
+    let m = memory (a .args .p) (a .args .rows .now) (a .args .counts .now) in
+    let b = c .before .before .before .before .before .before .before .bound in
+    record {
+      printed = settings-printed (a .args .line) (a .args .s) (carried m) (b .result) (b .ensures) (c .before .before .before .before .before .before .print-settings .ensures);
+      left = rw (settings-refused (a .args .line) (a .args .s) (carried m) (λ e. c .before .before .if1 .taken (c .before .before .before .settings-refusal .ensures ∙ e)));
+    }
 
 front-set-up-requires : tie.Need-front-set-up-requires
 front-set-up-requires c κs =
@@ -37,24 +36,26 @@ front-set-up-requires c κs =
     (omega (arith, a .pre .1, ok .counters .most), omega (arith, a .pre .2, ok .counters .most))
 
 returns-2 : tie.Need-returns-2
-unfolding carried
+unfolding stored stood given
 returns-2 c =
     let a = c .before .before .before .before .before .before .before .before .before .before .before .before .before .before .before .before .before in
     let s = a .args .s in
+    let m = memory (a .args .p) (a .args .rows .now) (a .args .counts .now) in
     let b = c .before .before .before .before .before .before .before .before .before .before .before .before .bound in
     let f = c .before .before .before .before .front-set-up in
+    let rows = f .last .1 .0 in
+    let counts = f .last .1 .1 .0 in
     let e = sym (c .before .before .before .before .before .before .before .before .settings-refusal .ensures) ∙ c .before .before .before .before .before .before .before .if1 .left in
-    let ok = accepted s e in (
-      record {
-        printed = settings-printed (a .args .line) s none (b .result) (b .ensures) (c .before .before .before .before .before .before .before .before .before .before .before .print-settings .ensures);
-        left =
-            settings-stand (a .args .line) s none (f .result) (a .args .rows .now) (a .args .counts .now) (take (s .counters) (f .last .1 .0)) (take (s .counters) (f .last .1 .1 .0)) e
-            (omega (arith, a .pre .1, ok .counters .most))
-            (omega (arith, a .pre .2, ok .counters .most))
-            (f .ensures);
-      },
-      refl,
-    )
+    let ok = accepted s e in
+    record {
+      printed = settings-printed (a .args .line) s (carried m) (b .result) (b .ensures) (c .before .before .before .before .before .before .before .before .before .before .before .print-settings .ensures);
+      left =
+          rw (settings-stand (a .args .line) s (carried m) (f .result) (m .rows) (m .counts) (take (s .counters) rows) (take (s .counters) counts) e
+          (omega (arith, a .pre .1, ok .counters .most))
+          (omega (arith, a .pre .2, ok .counters .most))
+          (f .ensures .0))
+          (rw (← front-put (s .counters) (m .rows) rows (f .ensures .1 .of-rows), ← front-put (s .counters) (m .counts) counts (f .ensures .1 .of-counts)));
+    }
 
 pub list-settings-spec : {M : Type 1} → statement M
 list-settings-spec =

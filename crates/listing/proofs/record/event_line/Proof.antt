@@ -2,7 +2,7 @@
 use borrow.Author.Needs.{needs}
 use Rattle.tracker.specs.Answers.{given}
 use Rattle.listing.specs.Steps.{record-step, refused-step}
-use Rattle.listing.specs.Carried.{stood}
+use Rattle.listing.specs.Carried.{memory, stood}
 use Rattle.listing.proofs.Carries.{carried-stands, carried-none, running-stands, counters-most, moved-on, stays}
 use Rattle.listing.proofs.record.event_line.Statement.{statement}
 use Rattle.listing.proofs.record.event_line.Tie as tie
@@ -10,8 +10,8 @@ use Rattle.listing.proofs.record.event_line.Tie as tie
 front-event-requires : tie.Need-front-event-requires
 front-event-requires c κs =
     let a = c .before .before .before .before .before .before .before .before .before in
-    let r = running-stands (a .args .p) (a .args .rows .now) (a .args .counts .now) (c .before .before .before .before .if1 .taken) (a .pre .0) in
-    (r, a .pre .1, counters-most (a .args .rows .now) r (a .pre .2), counters-most (a .args .counts .now) r (a .pre .3))
+    let r = running-stands (memory (a .args .p) (a .args .rows .now) (a .args .counts .now)) (c .before .before .before .before .if1 .taken) (a .pre .0 .running) in
+    (r, a .pre .1, counters-most (a .args .rows .now) r (a .pre .0 .rows-long), counters-most (a .args .counts .now) r (a .pre .0 .counts-long))
 
 returns : tie.Need-returns
 unfolding record-step stood given
@@ -19,14 +19,14 @@ returns c =
     let a = c .before .before .before .before .before .before .before .before .before .before .before .before .before .before .before .before .before .before in
     let e = c .before .before .before .before .before .before .before .before .before .before .before .before .before .if1 .taken in
     let f = c .before .before .before .before .before .before .before .before .front-event in
-    rw (carried-stands (a .args .p) (a .args .rows .now) (a .args .counts .now) e)
-    (moved-on (a .args .p) (c .at-line .result) (f .last .1 .0) (f .last .1 .1 .0) (a .args .line) (f .result .position) (c .at-line .ensures) e (f .ensures))
+    rw (carried-stands (memory (a .args .p) (a .args .rows .now) (a .args .counts .now)) e)
+    (moved-on (a .args .p) (c .at-line .result) (a .args .rows .now) (a .args .counts .now) (a .args .line) (f .last .1 .0) (f .last .1 .1 .0) (f .result .position) (c .at-line .ensures) e (f .ensures .0) (f .ensures .1))
 
 returns-2 : tie.Need-returns-2
 unfolding record-step refused-step
 returns-2 c =
     let a = c .before .before .before .before .before .before .before .before .before .before in
-    let none = carried-none (a .args .p) (a .args .rows .now) (a .args .counts .now) (c .before .before .before .before .before .if1 .left) in
+    let none = carried-none (memory (a .args .p) (a .args .rows .now) (a .args .counts .now)) (c .before .before .before .before .before .if1 .left) in
     rw none
     (rw none at
     (stays (a .args .p) (c .at-line2 .result) (a .args .rows .now) (a .args .counts .now) (a .args .line) _ (c .at-line2 .ensures) (c .before .before .before .print-refusal .ensures)))

@@ -1,0 +1,88 @@
+-- The loop over a part of a text: what is left to do from where it stands is what was to be done from the start; one line further, and where it
+-- stops.
+use mathlib.Core.Path.{_≡_, refl, sym, _∙_, ap}
+use mathlib.Core.Bool.{true, false}
+use mathlib.Core.List.{List, [], _∷_}
+use Prim.Native.Nat.{ℕ, _+_, _≤_, _<_}
+use native.Mathlib.Omega.{arith}
+use borrow.Author.Tests.{le-leb, lt-leb}
+use lib.ListN.{length, take, drop, length-drop, drop-of-length-le}
+use Rattle.device.proofs.Cases.{split}
+use Rattle.trace.specs.Lines.{ended, extent}
+use Rattle.trace.specs.Reading.{reading}
+use Rattle.listing.specs.declared.Place.{Place}
+use Rattle.listing.specs.Steps.{line-step}
+use Rattle.listing.specs.Texts.{lines}
+use Rattle.listing.specs.Carried.{Memory, memory, carried, Ready, Leaves}
+use Rattle.listing.specs.Chunks.{next-number, step-in, next-in, Going, gone, takes, going}
+use Rattle.listing.proofs.Fronts.{lines-front, ended-first}
+use Rattle.listing.proofs.Writing.{prints-long}
+use Rattle.listing.proofs.Progress.{next-ready}
+use Rattle.listing.proofs.Going.{first, first-end, first-says, behind-first}
+
+-- how far the loop's variables say that it has come
+abbrev pub come : Place → List ℕ → List ℕ → List ℕ → ℕ → ℕ → Going
+come place rows counts buffer taken end =
+    record { memory = memory place rows counts; taken = taken; buffer = buffer; end = end }
+
+pub record Turning (text : List ℕ) (q₀ q : Going) : Type 0 where
+  pub same : going q₀ (lines text) ≡ going q (lines (drop (q .taken) text))
+  pub ready : Ready (q .memory)
+  pub fits : q .end ≤ length (q .buffer)
+  pub long : length (q .buffer) ≡ length (q₀ .buffer)
+
+pub turning-begins : {m : Memory} (text buffer : List ℕ) → Ready m → Turning text (record { memory = m; taken = 0; buffer = buffer; end = 0 }) (record { memory = m; taken = 0; buffer = buffer; end = 0 })
+turning-begins text buffer r = record { same = refl; ready = r; fits = omega arith; long = refl }
+
+lines-first : (text : List ℕ) → 0 < length text → lines text ≡ first text ∷ lines (drop (extent text) text)
+lines-first [] h = absurd (omega arith)
+lines-first (b ∷ bs) h = lines-front b bs
+
+module _ {text : List ℕ} {q₀ q : Going} (t : Turning text q₀ q) where
+  module _ (less : q .taken < length text) where
+    left : 0 < length (drop (q .taken) text)
+    left = omega (arith, length-drop (q .taken) text)
+
+    -- one line more, which has ended
+    taken-one : ended (drop (q .taken) text) ≡ true → q .end + 200 ≤ length (q .buffer) → going q₀ (lines text) ≡ going (gone q (first (drop (q .taken) text))) (lines (drop (extent (drop (q .taken) text)) (drop (q .taken) text)))
+    unfolding going takes
+    taken-one e room =
+        t .same ∙
+        rw (lines-first (drop (q .taken) text) left, ended-first (drop (q .taken) text), e, le-leb (q .end + 200) (length (q .buffer)) room)
+
+    gone-as : {m′ : Memory} {buffer′ : List ℕ} {end′ : ℕ} → Leaves (line-step (next-number (q .memory .place .lines)) (carried (q .memory)) (reading text (q .taken) .outcome)) (next-number (q .memory .place .lines)) (q .memory) m′ (q .buffer) (q .end) buffer′ end′ → gone q (first (drop (q .taken) text)) ≡ record { memory = m′; taken = reading text (q .taken) .place; buffer = buffer′; end = end′ }
+    unfolding gone step-in next-in
+    gone-as l =
+        rw (first-says text (q .taken), first-end text (q .taken), ← l .left, ← l .printed .holds, ← l .printed .behind)
+
+    pub turning-on : {m′ : Memory} {buffer′ : List ℕ} {end′ : ℕ} → ended (drop (q .taken) text) ≡ true → q .end + 200 ≤ length (q .buffer) → Leaves (line-step (next-number (q .memory .place .lines)) (carried (q .memory)) (reading text (q .taken) .outcome)) (next-number (q .memory .place .lines)) (q .memory) m′ (q .buffer) (q .end) buffer′ end′ → Turning text q₀ (record { memory = m′; taken = reading text (q .taken) .place; buffer = buffer′; end = end′ })
+    unfolding step-in next-in
+    turning-on {m′} {buffer′} {end′} e room l =
+        let behind = behind-first text (q .taken) (first (drop (q .taken) text)) refl ∙ ap (λ (n : ℕ). drop n text) (first-end text (q .taken)) in
+        record {
+          same = taken-one e room ∙ rw (behind, gone-as l);
+          ready = rw (l .left) (next-ready (t .ready) (reading text (q .taken) .outcome));
+          fits = omega (arith, l .printed .fits, l .printed .behind, prints-long (l .printed));
+          long = prints-long (l .printed) ∙ t .long;
+        }
+
+    -- a line that has not ended is not taken
+    pub stops-unended : ended (drop (q .taken) text) ≡ false → q ≡ going q₀ (lines text)
+    unfolding going takes
+    stops-unended e = sym (t .same ∙ rw (lines-first (drop (q .taken) text) left, ended-first (drop (q .taken) text), e))
+
+    -- nor is one before which less than 200 bytes are left
+    pub stops-short : length (q .buffer) < q .end + 200 → q ≡ going q₀ (lines text)
+    unfolding going takes
+    stops-short h =
+        let no = lt-leb (q .end + 200) (length (q .buffer)) h in
+        sym
+        (t .same ∙
+        split (ended (drop (q .taken) text))
+        (λ e. rw (lines-first (drop (q .taken) text) left, ended-first (drop (q .taken) text), e, no))
+        (λ e. rw (lines-first (drop (q .taken) text) left, ended-first (drop (q .taken) text), e)))
+
+  -- no byte is left
+  pub stops-end : length text ≤ q .taken → q ≡ going q₀ (lines text)
+  unfolding going lines
+  stops-end h = sym (t .same ∙ rw (drop-of-length-le text h))

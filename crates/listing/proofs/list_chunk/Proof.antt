@@ -1,0 +1,37 @@
+-- `listing::list_chunk` meets its contract.
+use Prim.Native.Nat.{_-_}
+use native.Mathlib.Nat.{sub-zero}
+use borrow.Author.Needs.{needs}
+use Rattle.listing.specs.Carried.{memory}
+use Rattle.listing.proofs.Moves.{turned-as}
+use Rattle.listing.proofs.list_chunk.Statement.{statement}
+use Rattle.listing.proofs.list_chunk.Tie as tie
+use Rattle.listing.proofs.list_chunk.Reads as reads
+use Rattle.listing.proofs.list_chunk.Lts as lts
+use Rattle.listing.proofs.keep.Reads as keep-reads
+use Rattle.listing.proofs.list_part.Reads as list-part-reads
+
+list-part-requires : tie.Need-list-part-requires
+list-part-requires c κs = c .before .before .before .before .before .before .before .before .before .pre .0
+
+returns : tie.Need-returns
+returns c =
+    let a = c .before .before .before .before .before .before .before .before .before .before .before .before .before .before .before .before .before .before .before .before .before .args in
+    let l = c .before .before .before .before .before .before .before .before .before .before .before .list-part in
+    let k = c .before .before .keep in
+    turned-as (memory (a .p) (a .rows .now) (a .counts .now)) (a .text .now) (a .len) (a .out .now) (rw (sub-zero (a .len)) at (l .ensures)) (k .ensures .0) (k .ensures .1)
+
+pub list-chunk-spec : {M : Type 1} → statement M
+list-chunk-spec =
+    tie.close
+    (tie.spec
+    (λ c. search needs)
+    (λ c. search needs)
+    (λ c. search needs)
+    list-part-requires
+    (λ c κs. search needs)
+    (λ c. search needs)
+    (λ c. search needs)
+    (λ c. search needs)
+    (λ c. search needs)
+    returns)

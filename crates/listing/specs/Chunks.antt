@@ -1,0 +1,98 @@
+-- Lines taken from the front of the bytes at hand: while there is room to print in, and all that have ended between two reads.
+use Prim.Native.Nat.{ℕ, _+_, _%_}
+use mathlib.Core.Bool.{Bool, _&&_, cond}
+use mathlib.Core.List.{List, [], _∷_, _++_}
+use lib.Dec.{leb, ltb}
+use lib.ListN.{length, take, drop}
+use Rattle.device.specs.Refusal.{Outcome}
+use Rattle.trace.specs.declared.Record.{Record}
+use Rattle.trace.specs.Numbers.{written}
+use Rattle.trace.specs.Lines.{ended}
+use Rattle.listing.specs.declared.Place.{Place}
+use Rattle.listing.specs.declared.Part.{Part}
+use Rattle.listing.specs.declared.Chunk.{Chunk}
+use Rattle.listing.specs.Output.{refusal-line}
+use Rattle.listing.specs.Steps.{Step, line-step}
+use Rattle.listing.specs.Texts.{lines, read}
+use Rattle.listing.specs.Carried.{Memory, memory, carried, stored}
+
+-- the number of the line behind so many
+unfoldable pub next-number : ℕ → ℕ
+next-number lines = lines % 10000000000 + 1
+
+-- what the next line does, as it was read, and what it leaves
+unfoldable pub step-in : Memory → Outcome Record → Step
+step-in m o = line-step (next-number (m .place .lines)) (carried m) o
+
+unfoldable pub next-in : Memory → Outcome Record → Memory
+next-in m o = stored (step-in m o .tracker) (next-number (m .place .lines)) m
+
+-- how far a listing has come in a text and in a buffer: the bytes taken, and the place behind what was printed
+pub record Going : Type 0 where
+  pub memory : Memory
+  pub taken : ℕ
+  pub buffer : List ℕ
+  pub end : ℕ
+
+-- one line further
+unfoldable pub gone : Going → List ℕ → Going
+gone q line =
+    let prints = step-in (q .memory) (read line) .prints in
+    record {
+      memory = next-in (q .memory) (read line);
+      taken = q .taken + length line;
+      buffer = written (q .buffer) (q .end) prints;
+      end = q .end + length prints;
+    }
+
+-- a line is taken if it has ended and 200 bytes are left to print in
+unfoldable pub takes : Going → List ℕ → Bool
+takes q line = ended line && leb (q .end + 200) (length (q .buffer))
+
+-- lines are taken until one is not
+unfoldable pub going : Going → List (List ℕ) → Going
+going q [] = q
+going q (line ∷ lines) = cond (takes q line) (going (gone q line) lines) q
+
+-- the lines at the front of a text, printed from the front of a buffer on
+unfoldable pub part : Memory → List ℕ → List ℕ → Going
+part m text buffer = going (record { memory = m; taken = 0; buffer = buffer; end = 0 }) (lines text)
+
+-- of the bytes of a text from one place to another, the first 64
+unfoldable pub kept-bytes : ℕ → ℕ → List ℕ → List ℕ
+kept-bytes from to text = take 64 (drop from (take to text))
+
+-- what lies between two reads leaves: the memory, the buffer with what was printed, the text with the kept bytes at its front, and how many
+pub record Turned : Type 0 where
+  pub memory : Memory
+  pub buffer : List ℕ
+  pub end : ℕ
+  pub text : List ℕ
+  pub kept : ℕ
+
+-- the lines of the first bytes of a text are listed, and of the line that has not ended 64 bytes are kept
+unfoldable pub turned : Memory → List ℕ → ℕ → List ℕ → Turned
+turned m text len buffer =
+    let q = part m (take len text) buffer in
+    let kept = kept-bytes (q .taken) len text in
+    record {
+      memory = q .memory;
+      buffer = q .buffer;
+      end = q .end;
+      text = kept ++ drop (length kept) text;
+      kept = length kept;
+    }
+
+-- what the end of a trace prints: a last line that has not ended is refused, if a byte of it is left and 18 are there to print in
+unfoldable pub last-line : ℕ → List ℕ → ℕ → List ℕ
+last-line number [] room = []
+last-line number (b ∷ bs) room = cond (ltb room 18) [] (refusal-line number 11)
+
+-- what the code's answers say, with what was left in the lent memory
+abbrev pub part-left : Part → List ℕ → List ℕ → List ℕ → Going
+part-left r rows counts buffer =
+    record { memory = memory (r .place) rows counts; taken = r .taken; buffer = buffer; end = r .end }
+
+abbrev pub chunk-left : Chunk → List ℕ → List ℕ → List ℕ → List ℕ → Turned
+chunk-left r rows counts text buffer =
+    record { memory = memory (r .place) rows counts; buffer = buffer; end = r .end; text = text; kept = r .kept }

@@ -1,0 +1,3 @@
+-- Laws of the program's turns.
+pub mod Steady
+pub mod Listed

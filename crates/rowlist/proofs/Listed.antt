@@ -1,0 +1,42 @@
+-- All that the turns of a run hand to be written is the listing of all that its reads brought.
+use mathlib.Core.Path.{_≡_, refl, sym, _∙_, ap}
+use mathlib.Core.Bool.{false}
+use mathlib.Core.List.{List, [], _++_}
+use Prim.Native.Nat.{ℕ, _+_, _≤_, _<_}
+use native.Mathlib.Omega.{arith}
+use lib.ListN.{length, take, drop, take-append-drop}
+use lib.Seq.{take-take, take-at}
+use Rattle.trace.specs.Numbers.{written}
+use Rattle.trace.specs.Lines.{ended}
+use Rattle.listing.specs.Steps.{Progress}
+use Rattle.listing.specs.Carried.{Memory, Represents}
+use Rattle.listing.specs.Chunks.{next-number, turned, last-line}
+use Rattle.listing.specs.Parts.{Printed, comes, Parts-joined, Chunk-moves, End-moves}
+use Rattle.listing.proofs.Progress.{start-represents}
+use Rattle.listing.proofs.Cuts.{parts-joined}
+use Rattle.listing.proofs.Moves.{chunk-moves, end-moves, kept-unended}
+use Rattle.rowlist.specs.declared.Input.the-variants.{Bytes, End}
+use Rattle.rowlist.specs.Turns.{Within, Came, turn-of, Turns, goes-on, stops, Turns-listed}
+
+-- the bytes at hand are those kept, and behind them those that the read brought
+at-hand : {kept len : ℕ} {text text₁ : List ℕ} → Came (Bytes len) kept text text₁ → take len text₁ ≡ take kept text ++ drop kept (take len text₁)
+unfolding Within
+at-hand {kept} {len} {text} {text₁} c =
+    let front : take kept (take len text₁) ≡ take kept text = take-take kept len text₁ (omega (arith, c .within .0)) ∙ c .front in
+    sym (ap (λ (f : List ℕ). f ++ drop kept (take len text₁)) (sym front) ∙ take-append-drop kept (take len text₁))
+
+turns-printed : {m : Memory} {g : Progress} {text : List ℕ} {kept : ℕ} {parts : List (List ℕ)} {out : List ℕ} → Represents m g → ended (take kept text) ≡ false → Turns m text kept parts out → Printed g (take kept text) parts out
+unfolding Chunk-moves End-moves turn-of Within written
+turns-printed {m} {g} {text} {kept} r e (goes-on text₁ buffer len {parts} {out} came room later) =
+    let c = chunk-moves m g text₁ len buffer r (came .within .1) (omega (arith, came .within .1)) in
+    let unended = kept-unended m g text₁ len buffer r (came .within .1) (omega (arith, came .within .1)) in
+    comes (drop kept (take len text₁)) (rw (at-hand came) at (c .moves parts out (turns-printed (c .represents) unended later)))
+turns-printed {m} {g} {text} {kept} r e (stops text₁ buffer came room) =
+    let prints : List ℕ = last-line (next-number (m .place .lines)) (take kept text) (length buffer) in
+    rw (came .front, take-at prints (drop (0 + length prints) buffer) (length prints) refl)
+    (end-moves m g (take kept text) (length buffer) r e (omega arith))
+
+pub turns-listed : Turns-listed
+unfolding Turns-listed Parts-joined ended
+turns-listed rows counts text rows-long counts-long parts out run =
+    parts-joined _ [] parts out (turns-printed (start-represents rows counts rows-long counts-long) refl run)

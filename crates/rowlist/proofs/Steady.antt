@@ -1,0 +1,45 @@
+-- What a turn leaves: memory that is still a listing's, no more to write than the buffer holds, and no more kept than the text holds.
+use mathlib.Core.Path.{_≡_}
+use mathlib.Core.Bool.{true, false}
+use mathlib.Core.List.{List}
+use Prim.Native.Nat.{ℕ, _+_, _≤_}
+use native.Mathlib.Nat.{zero-add}
+use native.Mathlib.Omega.{arith}
+use lib.ListN.{length, take, drop}
+use lib.Seq.{length-take-le}
+use Rattle.listing.specs.Output.{Prints}
+use Rattle.listing.specs.Carried.{Memory, Ready}
+use Rattle.listing.specs.Chunks.{next-number, Turned as Chunked, turned, last-line}
+use Rattle.listing.proofs.Moves.{turned-steady}
+use Rattle.listing.proofs.Last.{last-fits}
+use Rattle.listing.proofs.Writing.{prints-long}
+use Rattle.rowlist.specs.declared.Input.{Input}
+use Rattle.rowlist.specs.declared.Input.the-variants.{Bytes, End, Failed}
+use Rattle.rowlist.specs.Turns.{Within, Turned, turn-of}
+
+pub record Steady (most room : ℕ) (q : Turned) : Type 0 where
+  pub ready : Ready (q .memory)
+  pub few : q .kept ≤ most
+  pub fits : q .end ≤ room
+
+steady-turn : (m : Memory) (text : List ℕ) (kept : ℕ) (input : Input) (buffer : List ℕ) → Ready m → kept ≤ length text → Within input kept (length text) → Steady (length text) (length buffer) (turn-of m text kept input buffer)
+unfolding Within turn-of
+steady-turn m text kept (Bytes len) buffer r few within =
+    let t = turned-steady m text len buffer r (within .1) in
+    record { ready = t .0; few = t .1; fits = t .2 }
+steady-turn m text kept End buffer r few within =
+    record { ready = r; few = few; fits = last-fits (next-number (m .place .lines)) (take kept text) (length buffer) }
+steady-turn m text kept Failed buffer r few within = record { ready = r; few = few; fits = omega arith }
+
+-- so is what a turn's answer says
+pub turn-steady : (q : Turned) (m : Memory) (text : List ℕ) (kept : ℕ) (input : Input) (buffer : List ℕ) → q ≡ turn-of m text kept input buffer → Ready m → kept ≤ length text → Within input kept (length text) → Steady (length text) (length buffer) q
+turn-steady q m text kept input buffer e r few within = rw e (steady-turn m text kept input buffer r few within)
+
+-- a turn by what the listing's calls left
+pub turn-chunk : (m : Memory) (text : List ℕ) (kept len : ℕ) (buffer : List ℕ) (q : Chunked) → q ≡ turned m text len buffer → record { memory = q .memory; text = q .text; kept = q .kept; buffer = q .buffer; end = q .end; more = true } ≡ turn-of m text kept (Bytes len) buffer
+unfolding turn-of
+turn-chunk m text kept len buffer q e = rw e
+
+pub turn-end : (m : Memory) (text : List ℕ) (kept : ℕ) (buffer : List ℕ) {buffer′ : List ℕ} {end : ℕ} → Prints buffer 0 (last-line (next-number (m .place .lines)) (take kept text) (length buffer)) buffer′ end → record { memory = m; text = text; kept = kept; buffer = buffer′; end = end; more = false } ≡ turn-of m text kept End buffer
+unfolding turn-of
+turn-end m text kept buffer p = rw (p .holds, p .behind, zero-add)

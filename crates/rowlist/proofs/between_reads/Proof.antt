@@ -1,0 +1,57 @@
+-- `rowlist::between_reads` meets its contract: by what the read came to.
+use mathlib.Core.Path.{_≡_, refl, sym, _∙_, ap}
+use Prim.Native.Nat.{_+_, _-_, _*_, _≤_}
+use native.Mathlib.Nat.{sub-zero}
+use native.Mathlib.Omega.{arith}
+use borrow.Author.Needs.{needs}
+use lib.ListN.{length, take}
+use Rattle.listing.specs.Carried.{memory}
+use Rattle.rowlist.specs.Turns.{Within, turn-of}
+use Rattle.rowlist.proofs.Steady.{turn-chunk, turn-end}
+use Rattle.rowlist.proofs.between_reads.Statement.{statement}
+use Rattle.rowlist.proofs.between_reads.Tie as tie
+use Rattle.rowlist.proofs.between_reads.Reads as reads
+use Rattle.rowlist.proofs.between_reads.Lts as lts
+use Rattle.listing.proofs.list_chunk.Reads as list-chunk-reads
+use Rattle.listing.proofs.list_end.Reads as list-end-reads
+
+list-chunk-requires : tie.Need-list-chunk-requires
+unfolding Within
+list-chunk-requires c κs =
+    let a = c .before .before .before .before .before .before .before .before .before .before .before in
+    let within = rw (c .before .before .before .before .before .input .given .1) at (a .pre .1) in
+    (a .pre .0, within .1, omega (arith, within .1, a .pre .3))
+
+returns : tie.Need-returns
+returns c = rw (c .before .before .before .before .before .before .before .before .before .before .before .before .before .before .before .input .given .1) (turn-chunk _ _ _ _ _ _ (c .before .before .before .before .before .before .before .before .before .list-chunk .ensures))
+
+returns-2 : tie.Need-returns-2
+returns-2 c =
+    let l = c .before .before .list-end in
+    rw (c .before .before .before .before .before .before .enum-told .given .1) (turn-end _ _ _ _ (rw (sub-zero (c .before .before .before .before .before .before .before .before .before .before .before .before .args .kept)) at (l .ensures)))
+
+returns-3 : tie.Need-returns-3
+unfolding turn-of
+returns-3 c = rw (c .enum-told2 .given .1)
+
+pub between-reads-spec : {M : Type 1} → statement M
+between-reads-spec =
+    tie.close
+    (tie.spec
+    (λ c. search needs)
+    list-chunk-requires
+    (λ c. search needs)
+    (λ c. search needs)
+    (λ c. search needs)
+    (λ c. search needs)
+    (λ c κs. search needs)
+    (λ c. search needs)
+    (λ c. search needs)
+    (λ c. search needs)
+    (λ c. search needs)
+    (λ c. search needs)
+    returns
+    (λ c. search needs)
+    (λ c. search needs)
+    returns-2
+    returns-3)

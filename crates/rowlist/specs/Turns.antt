@@ -1,0 +1,90 @@
+-- The program's turns: what a read leaves at hand, what lies between two reads, and what all turns print.
+use Prim.Native.Nat.{ℕ, _+_, _*_, _≤_, _<_}
+use mathlib.Core.Path.{_≡_}
+use mathlib.Core.Bool.{Bool, true, false}
+use mathlib.Core.List.{List, [], _∷_, _++_}
+use lib.ListN.{length, take, drop}
+use Rattle.trace.specs.Numbers.{written}
+use Rattle.listing.specs.Steps.{start}
+use Rattle.listing.specs.Texts.{listing}
+use Rattle.listing.specs.Carried.{Memory, memory, start-place}
+use Rattle.listing.specs.Chunks.{next-number, turned, last-line}
+use Rattle.listing.specs.Parts.{joined}
+use Rattle.rowlist.specs.declared.Input.{Input}
+use Rattle.rowlist.specs.declared.Input.the-variants.{Bytes, End, Failed}
+use Rattle.rowlist.specs.declared.Turn.{Turn}
+
+-- the bytes at hand are more than those kept, and no more than a text has
+unfoldable pub Within : Input → ℕ → ℕ → Type 0
+Within (Bytes len) kept most = (kept < len) × (len ≤ most)
+Within End kept most = Unit {0}
+Within Failed kept most = Unit {0}
+
+-- what a read behind the kept bytes leaves: these are as they were
+pub record Came (input : Input) (kept : ℕ) (before after : List ℕ) : Type 0 where
+  pub front : take kept after ≡ take kept before
+  pub within : Within input kept (length after)
+
+-- what lies between two reads leaves: memory, text and buffer, how many bytes are kept and how many are to be written, and whether to read again
+pub record Turned : Type 0 where
+  pub memory : Memory
+  pub text : List ℕ
+  pub kept : ℕ
+  pub buffer : List ℕ
+  pub end : ℕ
+  pub more : Bool
+
+-- bytes came in: their lines are listed; the input has ended: what is left of its last line is; or the read failed
+unfoldable pub turn-of : Memory → List ℕ → ℕ → Input → List ℕ → Turned
+turn-of m text kept (Bytes len) buffer =
+    let q = turned m text len buffer in
+    record {
+      memory = q .memory;
+      text = q .text;
+      kept = q .kept;
+      buffer = q .buffer;
+      end = q .end;
+      more = true;
+    }
+turn-of m text kept End buffer =
+    let prints = last-line (next-number (m .place .lines)) (take kept text) (length buffer) in
+    record {
+      memory = m;
+      text = text;
+      kept = kept;
+      buffer = written buffer 0 prints;
+      end = length prints;
+      more = false;
+    }
+turn-of m text kept Failed buffer =
+    record {
+      memory = m;
+      text = text;
+      kept = kept;
+      buffer = buffer;
+      end = 0;
+      more = false;
+    }
+
+-- what the code's answer says, with what was left in the lent memory
+abbrev pub turn-left : Turn → List ℕ → List ℕ → List ℕ → List ℕ → Turned
+turn-left r rows counts text buffer =
+    record {
+      memory = memory (r .place) rows counts;
+      text = text;
+      kept = r .kept;
+      buffer = buffer;
+      end = r .end;
+      more = r .more;
+    }
+
+-- turns, each on what the one before left, until the input ends: the parts that the reads brought, and all that is to be written
+pub data Turns : Memory → List ℕ → ℕ → List (List ℕ) → List ℕ → Type 0 where
+  goes-on : {m : Memory} {text : List ℕ} {kept : ℕ} (text₁ buffer : List ℕ) (len : ℕ) {parts : List (List ℕ)} {out : List ℕ} → Came (Bytes len) kept text text₁ → 55 * length text₁ + 200 ≤ length buffer → Turns (turn-of m text₁ kept (Bytes len) buffer .memory) (turn-of m text₁ kept (Bytes len) buffer .text) (turn-of m text₁ kept (Bytes len) buffer .kept) parts out → Turns m text kept (drop kept (take len text₁) ∷ parts) (take (turn-of m text₁ kept (Bytes len) buffer .end) (turn-of m text₁ kept (Bytes len) buffer .buffer) ++ out)
+  stops : {m : Memory} {text : List ℕ} {kept : ℕ} (text₁ buffer : List ℕ) → Came End kept text text₁ → 200 ≤ length buffer → Turns m text kept [] (take (turn-of m text₁ kept End buffer .end) (turn-of m text₁ kept End buffer .buffer))
+
+-- from the start on, all that is to be written is the listing of all that the reads brought
+unfoldable pub Turns-listed : Type 0
+Turns-listed =
+    (rows counts text : List ℕ) → length rows ≡ 2048 → length counts ≡ 2048 → (parts : List (List ℕ)) (out : List ℕ) →
+    Turns (memory start-place rows counts) text 0 parts out → out ≡ listing start (joined parts)
