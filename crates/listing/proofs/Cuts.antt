@@ -50,10 +50,6 @@ module _ (g : Progress) (a b : List ℕ) (h : whole a ≡ true) where
   unfolding listing after
   listing-cut = rw (outcomes-cut a b h) (listed-append g (outcomes a) (outcomes b))
 
-  pub after-cut : after g (a ++ b) ≡ after (after g a) b
-  unfolding after
-  after-cut = rw (outcomes-cut a b h) (passed-append g (outcomes a) (outcomes b))
-
 -- a line that is to go on, 64 bytes long: refused, whatever it is and wherever it ends
 refused-on : (u b : List ℕ) → ended u ≡ false → 64 ≤ length u → outcomes (u ++ b) ≡ refused 11 ∷ outcomes (drop (extent b) b)
 unfolding read reading reading-by

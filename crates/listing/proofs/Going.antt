@@ -1,12 +1,11 @@
 -- Lines taken one after another from the front of a text: what they print is the listing of what was taken, and with room enough every line that
 -- has ended is taken.
 use mathlib.Core.Path.{_≡_, refl, sym, _∙_, ap}
-use mathlib.Core.Bool.{true, false, _&&_}
+use mathlib.Core.Bool.{true, false}
 use mathlib.Core.List.{List, [], _∷_}
 use Prim.Native.Nat.{ℕ, _+_, _*_, _≤_, _<_}
 use native.Mathlib.Omega.{arith}
 use borrow.Author.Tests.{leb-true, le-leb}
-use lib.Dec.{leb}
 use lib.ListN.{length, take, drop, length-drop}
 use lib.Seq.{drop-drop, length-take-le}
 use Rattle.device.specs.Refusal.{Outcome}
@@ -17,7 +16,7 @@ use Rattle.trace.specs.Lines.{ended, extent}
 use Rattle.trace.specs.Reading.{reading, reading-by}
 use Rattle.trace.proofs.Choices.{clash}
 use Rattle.listing.specs.Output.{Prints}
-use Rattle.listing.specs.Steps.{Progress, Step}
+use Rattle.listing.specs.Steps.{Progress}
 use Rattle.listing.specs.Texts.{whole, read, outcomes, lines, listed, passed, listing, after}
 use Rattle.listing.specs.Carried.{Memory, carried, Represents}
 use Rattle.listing.specs.Chunks.{next-number, step-in, Going, gone, takes, going, part}

@@ -1,24 +1,24 @@
 -- How long the printed lines are: at most 110 bytes, and nothing for a blank line; so at most 55 bytes for each byte of the text.
-use mathlib.Core.Path.{_≡_, refl, sym, _∙_, ap}
-use mathlib.Core.Bool.{true, false}
-use mathlib.Core.List.{List, [], _∷_, _++_}
+use mathlib.Core.Path.{_≡_, refl, sym}
+use mathlib.Core.Bool.{true}
+use mathlib.Core.List.{List, [], _∷_}
 use mathlib.Core.Option.{Option, none, some}
-use Prim.Native.Nat.{ℕ, zero, suc, _+_, _*_, _%_, _≤_, _<_}
+use Prim.Native.Nat.{ℕ, zero, suc, _+_, _*_, _%_, _≤_}
 use native.Mathlib.Omega.{arith}
 use borrow.Author.Tests.{eqb-true}
 use lib.Dec.{eqb}
-use lib.ListN.{length, take, replicate, length-append, length-replicate}
+use lib.ListN.{length, take, replicate, length-append}
 use Rattle.device.specs.declared.Settings.{Settings}
 use Rattle.device.specs.Refusal.{Outcome, accepted, refused}
 use Rattle.bound.specs.Totals.{bound-of}
 use Rattle.summary.specs.Steps.{picked}
 use Rattle.tracker.specs.declared.Position.{Position}
 use Rattle.tracker.specs.State.{State, summary-of}
-use Rattle.tracker.specs.Calls.{SetUp-call, activate, refresh}
+use Rattle.tracker.specs.Calls.{SetUp-call, refresh}
 use Rattle.limit.specs.Reachable.{Reached}
 use Rattle.trace.specs.declared.Record.{Record}
 use Rattle.trace.specs.declared.Record.the-variants.{Set, Activate, Refresh, Blank}
-use Rattle.trace.specs.Numbers.{printed, choose}
+use Rattle.trace.specs.Numbers.{choose}
 use Rattle.trace.specs.Lines.{line as line-bytes, ended}
 use Rattle.trace.specs.Records.{record-of}
 use Rattle.trace.specs.Reading.{reading, reading-by, or-refused}

@@ -13,7 +13,7 @@ use Rattle.listing.specs.Steps.{Progress}
 use Rattle.listing.specs.Texts.{after}
 use Rattle.listing.specs.Carried.{Memory, Ready, Represents}
 use Rattle.listing.specs.Chunks.{Going, part, kept-bytes, Turned, turned}
-use Rattle.listing.specs.Parts.{Printed, lists, keeps, ends, Moves, Part-moves, Chunk-moves, End-moves}
+use Rattle.listing.specs.Parts.{Printed, lists, keeps, ends, Part-moves, Chunk-moves, End-moves}
 use Rattle.listing.proofs.Progress.{memory-represents}
 use Rattle.listing.proofs.Going.{Taken, part-done}
 use Rattle.listing.proofs.Cuts.{ended-less}

@@ -6,7 +6,7 @@ use Prim.Native.Nat.{ℕ, zero, suc, _≤_}
 use lib.ListN.{length, take, replicate, length-replicate}
 use lib.Seq.{length-take-le}
 use Rattle.device.specs.declared.Settings.{Settings}
-use Rattle.device.specs.Refusal.{first-failed, Outcome, accepted, refused, tested}
+use Rattle.device.specs.Refusal.{first-failed, Outcome, accepted, tested}
 use Rattle.device.specs.Acceptance.{settings-tests}
 use Rattle.device.proofs.Accepted.{or-later}
 use Rattle.bound.specs.Totals.{bound-of}

@@ -1,5 +1,5 @@
 -- How the code carries a listing from line to line: a place, and tables of 2,048 places of which the first C are the tracker's.
-use Prim.Native.Nat.{ℕ, _+_, _%_}
+use Prim.Native.Nat.{ℕ, _%_}
 use mathlib.Core.Path.{_≡_}
 use mathlib.Core.Bool.{true, false, cond}
 use mathlib.Core.List.{List, _++_}

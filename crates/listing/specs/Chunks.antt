@@ -8,7 +8,6 @@ use Rattle.device.specs.Refusal.{Outcome}
 use Rattle.trace.specs.declared.Record.{Record}
 use Rattle.trace.specs.Numbers.{written}
 use Rattle.trace.specs.Lines.{ended}
-use Rattle.listing.specs.declared.Place.{Place}
 use Rattle.listing.specs.declared.Part.{Part}
 use Rattle.listing.specs.declared.Chunk.{Chunk}
 use Rattle.listing.specs.Output.{refusal-line}

@@ -2,7 +2,7 @@
 use mathlib.Core.Path.{_≡_, refl, sym, _∙_, ap}
 use mathlib.Core.Bool.{false}
 use mathlib.Core.List.{List, [], _++_}
-use Prim.Native.Nat.{ℕ, _+_, _≤_, _<_}
+use Prim.Native.Nat.{ℕ, _+_}
 use native.Mathlib.Omega.{arith}
 use lib.ListN.{length, take, drop, take-append-drop}
 use lib.Seq.{take-take, take-at}
@@ -10,12 +10,12 @@ use Rattle.trace.specs.Numbers.{written}
 use Rattle.trace.specs.Lines.{ended}
 use Rattle.listing.specs.Steps.{Progress}
 use Rattle.listing.specs.Carried.{Memory, Represents}
-use Rattle.listing.specs.Chunks.{next-number, turned, last-line}
+use Rattle.listing.specs.Chunks.{next-number, last-line}
 use Rattle.listing.specs.Parts.{Printed, comes, Parts-joined, Chunk-moves, End-moves}
 use Rattle.listing.proofs.Progress.{start-represents}
 use Rattle.listing.proofs.Cuts.{parts-joined}
 use Rattle.listing.proofs.Moves.{chunk-moves, end-moves, kept-unended}
-use Rattle.rowlist.specs.declared.Input.the-variants.{Bytes, End}
+use Rattle.rowlist.specs.declared.Input.the-variants.{Bytes}
 use Rattle.rowlist.specs.Turns.{Within, Came, turn-of, Turns, goes-on, stops, Turns-listed}
 
 -- the bytes at hand are those kept, and behind them those that the read brought

@@ -2,17 +2,15 @@
 use mathlib.Core.Path.{_≡_}
 use mathlib.Core.Bool.{true, false}
 use mathlib.Core.List.{List}
-use Prim.Native.Nat.{ℕ, _+_, _≤_}
+use Prim.Native.Nat.{ℕ, _≤_}
 use native.Mathlib.Nat.{zero-add}
 use native.Mathlib.Omega.{arith}
-use lib.ListN.{length, take, drop}
-use lib.Seq.{length-take-le}
+use lib.ListN.{length, take}
 use Rattle.listing.specs.Output.{Prints}
 use Rattle.listing.specs.Carried.{Memory, Ready}
 use Rattle.listing.specs.Chunks.{next-number, Turned as Chunked, turned, last-line}
 use Rattle.listing.proofs.Moves.{turned-steady}
 use Rattle.listing.proofs.Last.{last-fits}
-use Rattle.listing.proofs.Writing.{prints-long}
 use Rattle.rowlist.specs.declared.Input.{Input}
 use Rattle.rowlist.specs.declared.Input.the-variants.{Bytes, End, Failed}
 use Rattle.rowlist.specs.Turns.{Within, Turned, turn-of}

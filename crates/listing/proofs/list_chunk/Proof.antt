@@ -1,15 +1,10 @@
 -- `listing::list_chunk` meets its contract.
-use Prim.Native.Nat.{_-_}
 use native.Mathlib.Nat.{sub-zero}
 use borrow.Author.Needs.{needs}
 use Rattle.listing.specs.Carried.{memory}
 use Rattle.listing.proofs.Moves.{turned-as}
 use Rattle.listing.proofs.list_chunk.Statement.{statement}
 use Rattle.listing.proofs.list_chunk.Tie as tie
-use Rattle.listing.proofs.list_chunk.Reads as reads
-use Rattle.listing.proofs.list_chunk.Lts as lts
-use Rattle.listing.proofs.keep.Reads as keep-reads
-use Rattle.listing.proofs.list_part.Reads as list-part-reads
 
 list-part-requires : tie.Need-list-part-requires
 list-part-requires c κs = c .before .before .before .before .before .before .before .before .before .pre .0

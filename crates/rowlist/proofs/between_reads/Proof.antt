@@ -1,19 +1,11 @@
 -- `rowlist::between_reads` meets its contract: by what the read came to.
-use mathlib.Core.Path.{_≡_, refl, sym, _∙_, ap}
-use Prim.Native.Nat.{_+_, _-_, _*_, _≤_}
 use native.Mathlib.Nat.{sub-zero}
 use native.Mathlib.Omega.{arith}
 use borrow.Author.Needs.{needs}
-use lib.ListN.{length, take}
-use Rattle.listing.specs.Carried.{memory}
 use Rattle.rowlist.specs.Turns.{Within, turn-of}
 use Rattle.rowlist.proofs.Steady.{turn-chunk, turn-end}
 use Rattle.rowlist.proofs.between_reads.Statement.{statement}
 use Rattle.rowlist.proofs.between_reads.Tie as tie
-use Rattle.rowlist.proofs.between_reads.Reads as reads
-use Rattle.rowlist.proofs.between_reads.Lts as lts
-use Rattle.listing.proofs.list_chunk.Reads as list-chunk-reads
-use Rattle.listing.proofs.list_end.Reads as list-end-reads
 
 list-chunk-requires : tie.Need-list-chunk-requires
 unfolding Within

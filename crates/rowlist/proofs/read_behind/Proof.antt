@@ -9,8 +9,6 @@ use lib.Seq.{take-at, length-take-le}
 use Rattle.rowlist.specs.Turns.{Within}
 use Rattle.rowlist.proofs.read_behind.Statement.{statement}
 use Rattle.rowlist.proofs.read_behind.Tie as tie
-use Rattle.rowlist.proofs.read_behind.Reads as reads
-use Rattle.rowlist.proofs.read_behind.Lts as lts
 
 -- the bytes in front of a place are as they were, whatever stands behind it
 front-at : (text : List ℕ) (kept : ℕ) (part : List ℕ) → kept ≤ length text → take kept (take kept text ++ part) ≡ take kept text

@@ -1,5 +1,4 @@
 -- `listing::line::front_activation` meets its contract.
-use Prim.Native.Nat.{_+_, _-_, _≤_}
 use native.Mathlib.Nat.{sub-zero}
 use borrow.Author.Needs.{needs}
 use Rattle.tracker.specs.Calls.{activate}

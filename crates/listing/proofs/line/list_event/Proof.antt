@@ -1,5 +1,4 @@
 -- `listing::line::list_event` meets its contract.
-use Prim.Native.Nat.{_+_, _*_, _≤_}
 use native.Mathlib.Omega.{arith}
 use Rattle.tracker.specs.Answers.{given}
 use Rattle.listing.proofs.Accepts.{event-accepted}

@@ -1,5 +1,4 @@
 -- `listing::line::print_settings` meets its contract.
-use Prim.Native.Nat.{ℕ, _<_, _^_}
 use native.Mathlib.Omega.{arith}
 use borrow.Author.Needs.{needs}
 use Rattle.bound.specs.Answers.{outcome, Small}
