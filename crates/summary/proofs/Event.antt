@@ -93,6 +93,15 @@ module _ {high counters reach : ℕ} {victims-of : ℕ → List ℕ} where
 
   -- an activation: one row disturbs its victims
   module _ (row : ℕ) (w : Reach high reach victims-of) (h : row < high) {s : Summary} (k : Sound high counters s) where
+    pub sound-activation : Sound high counters (activation counters victims-of row s)
+    unfolding activation
+    sound-activation = sound-each (w .inside row h) (sound-drop (row ∷ []) k)
+
+    pub level-activation : {size most : ℕ} → size ≤ counters + 1 → Level size most s → Level size (most + reach) (activation counters victims-of row s)
+    unfolding activation
+    level-activation few l =
+        level-more (level-each (w .inside row h) (sound-drop (row ∷ []) k) few (level-drop (row ∷ []) l)) (omega (arith, w .few row))
+
     pub estimate-activation : (v : ℕ) → (row ≡ v → ⊥) → estimate s v + times v (victims-of row) ≤ estimate (activation counters victims-of row s) v
     unfolding activation times
     estimate-activation v other =
@@ -105,15 +114,6 @@ module _ {high counters reach : ℕ} {victims-of : ℕ → List ℕ} where
     pub estimate-activated : (v : ℕ) → times v (victims-of row) ≤ estimate (activation counters victims-of row s) v
     unfolding activation
     estimate-activated v = omega (arith, estimate-each v (w .inside row h) (sound-drop (row ∷ []) k))
-
-    pub sound-activation : Sound high counters (activation counters victims-of row s)
-    unfolding activation
-    sound-activation = sound-each (w .inside row h) (sound-drop (row ∷ []) k)
-
-    pub level-activation : {size most : ℕ} → size ≤ counters + 1 → Level size most s → Level size (most + reach) (activation counters victims-of row s)
-    unfolding activation
-    level-activation few l =
-        level-more (level-each (w .inside row h) (sound-drop (row ∷ []) k) few (level-drop (row ∷ []) l)) (omega (arith, w .few row))
 
   -- an event, from the summary that steps 1 to 4 leave
   module _ (volume : ℕ) (block : List ℕ) (last : Bool) (w : Reach high reach victims-of) (s : Summary) (inside : Below high (sources volume block s)) (k : Sound high counters (cleared-if last (taken-out volume block s))) where
