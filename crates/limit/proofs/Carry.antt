@@ -1,20 +1,17 @@
 -- What a row carries over from the window before: at most H, nothing in the first window, and nothing once its regular block has passed.
-use mathlib.Core.Path.{_≡_, refl, _∙_}
-use mathlib.Core.Logic.{_⊎_, inl, inr, ⊎-elim}
-use mathlib.Core.List.{List, [], _∷_, _++_}
-use Prim.Native.Nat.{ℕ, zero, suc, _+_, _-_, _*_, _≤_, _<_, min}
+use mathlib.Core.Path.{_≡_, refl}
+use mathlib.Core.Logic.{⊎-elim}
+use mathlib.Core.List.{List}
+use Prim.Native.Nat.{ℕ, suc, _+_, _*_, _≤_, _<_, min}
 use native.Mathlib.Nat.{le-trans}
 use native.Mathlib.Omega.{arith}
-use lib.ListN.{length}
 use Rattle.device.specs.declared.Settings.{Settings}
-use Rattle.device.specs.Victims.{rows-between}
 use Rattle.device.proofs.Cases.{le-or-lt}
-use Rattle.device.proofs.Times.{times, times-append, times-between}
+use Rattle.device.proofs.Times.{times-between}
 use Rattle.bound.specs.Totals.{bound-of}
-use Rattle.summary.proofs.Event.{reached}
-use Rattle.tracker.specs.Calls.{victims-in, block-rows}
-use Rattle.limit.specs.Exact.{zeroed, disturbed-by}
-use Rattle.limit.proofs.Counting.{disturbed-reached, zeroed-cases, zeroed-most, zeroed-sum}
+use Rattle.tracker.specs.Calls.{block-rows}
+use Rattle.limit.specs.Exact.{zeroed, restored, disturbed-by}
+use Rattle.limit.proofs.Counting.{disturbed-reached, zeroed-most, zeroed-sum, restored-cases, restored-most}
 
 -- d: the exact disturbance; cur: that of the present window; f events so far, e of them in the window
 pub record Carry (s : Settings) (f e : ℕ) (d cur old : ℕ → ℕ) : Type 0 where
@@ -48,7 +45,7 @@ carry-rows s rows sources {f} {e} {d} {cur} {old} k =
     }
 
 -- an event's block passes: nothing is carried any more by the rows up to its end
-pub swept : (s : Settings) (names : List ℕ) {f e : ℕ} {d cur old : ℕ → ℕ} → Carry s f e d cur old → (v : ℕ) → v < s .rows → v < suc e * s .block → zeroed (names ++ block-rows s e) old v ≡ 0
+pub swept : (s : Settings) (names : List ℕ) {f e : ℕ} {d cur old : ℕ → ℕ} → Carry s f e d cur old → (v : ℕ) → v < s .rows → v < suc e * s .block → restored s names e old v ≡ 0
 unfolding block-rows
 swept s names {e = e} {old = old} k v b h =
     ⊎-elim
@@ -57,20 +54,20 @@ swept s names {e = e} {old = old} k v b h =
     (λ gone. gone)
     (λ kept.
     absurd
-    (omega (
-      arith,
-      kept .0,
-      times-append v names (block-rows s e),
-      times-between v (e * s .block) (min (e * s .block + s .block) (s .rows)) inside (omega arith),
-    )))
-    (zeroed-cases (names ++ block-rows s e) old v))
-    (λ before. still (names ++ block-rows s e) old v (k .passed v b before))
+    (omega (arith, kept .1, times-between v (e * s .block) (min (e * s .block + s .block) (s .rows)) inside (omega arith))))
+    (restored-cases s names e old v))
+    (λ before. omega (arith, restored-most s names e old v, k .passed v b before))
     (le-or-lt (e * s .block) v)
 
+-- the rows of an event are set to 0, and rows disturb their victims
+carry-restored : (s : Settings) (names sources : List ℕ) {f e : ℕ} {d cur old : ℕ → ℕ} → Carry s f e d cur old → Carry s f e (disturbed-by s sources (restored s names e d)) (disturbed-by s sources (restored s names e cur)) (restored s names e old)
+unfolding restored
+carry-restored s names sources k = carry-rows s _ sources k
+
 -- an event within a window
-pub carry-event : (s : Settings) (names sources : List ℕ) {f e : ℕ} {d cur old : ℕ → ℕ} → Carry s f e d cur old → Carry s (f + 1) (suc e) (disturbed-by s sources (zeroed (names ++ block-rows s e) d)) (disturbed-by s sources (zeroed (names ++ block-rows s e) cur)) (zeroed (names ++ block-rows s e) old)
+pub carry-event : (s : Settings) (names sources : List ℕ) {f e : ℕ} {d cur old : ℕ → ℕ} → Carry s f e d cur old → Carry s (f + 1) (suc e) (disturbed-by s sources (restored s names e d)) (disturbed-by s sources (restored s names e cur)) (restored s names e old)
 carry-event s names sources {f} {e} {d} {cur} {old} k =
-    let k′ = carry-rows s (names ++ block-rows s e) sources k in
+    let k′ = carry-restored s names sources k in
     record {
       split = k′ .split;
       small = k′ .small;
@@ -79,19 +76,18 @@ carry-event s names sources {f} {e} {d} {cur} {old} k =
     }
 
 -- the event that ends a window: what the window left is carried
-pub carry-ends : (s : Settings) (names sources : List ℕ) {f e : ℕ} {d cur old : ℕ → ℕ} → Carry s f e d cur old → s .rows ≤ suc e * s .block → s .window ≤ f + 1 → ((v : ℕ) → cur v ≤ bound-of s) → Carry s (f + 1) 0 (disturbed-by s sources (zeroed (names ++ block-rows s e) d)) (disturbed-by s sources (zeroed (names ++ block-rows s e) (λ v. 0))) (zeroed (names ++ block-rows s e) cur)
+pub carry-ends : (s : Settings) (names sources : List ℕ) {f e : ℕ} {d cur old : ℕ → ℕ} → Carry s f e d cur old → s .rows ≤ suc e * s .block → s .window ≤ f + 1 → ((v : ℕ) → cur v ≤ bound-of s) → Carry s (f + 1) 0 (disturbed-by s sources (restored s names e d)) (disturbed-by s sources (restored s names e (λ v. 0))) (restored s names e cur)
 carry-ends s names sources {f} {e} {d} {cur} {old} k covered late most =
-    let rows = names ++ block-rows s e in
     record {
       split = λ v h.
           omega (
             arith,
-            disturbed-reached s sources (zeroed rows d) v,
-            disturbed-reached s sources (zeroed rows (λ v. 0)) v,
-            zeroed-sum rows d cur old v (k .split v h),
+            disturbed-reached s sources (restored s names e cur) v,
+            disturbed-reached s sources (restored s names e (λ v. 0)) v,
+            carry-restored s names sources k .split v h,
             swept s names k v h (omega arith),
           );
-      small = λ v h. le-trans (zeroed-most rows cur v) (most v);
+      small = λ v h. le-trans (restored-most s names e cur v) (most v);
       first = λ h. absurd (omega arith);
       passed = λ v b h. absurd (omega arith);
     }

@@ -9,15 +9,15 @@ use borrow.Author.Tests.{eqb-true, eqb-false, ne-eqb}
 use lib.Dec.{eqb}
 use Rattle.device.specs.declared.Settings.{Settings}
 use Rattle.device.proofs.Cases.{split}
-use Rattle.device.proofs.Times.{hit, times, hit-other, times-below}
+use Rattle.device.proofs.Times.{hit, times, hit-other, times-append, times-below}
 use Rattle.device.proofs.Neighbours as Neighbours
 use Rattle.device.proofs.Neighbours.{Ascends}
 use Rattle.summary.specs.Steps.{in-rows, besides}
 use Rattle.summary.proofs.Event.{reached}
 use Rattle.summary.proofs.Distinct as Distinct
 use Rattle.summary.proofs.Distinct.{Distinct}
-use Rattle.tracker.specs.Calls.{victims-in}
-use Rattle.limit.specs.Exact.{zeroed, one-more, disturbed-by, once}
+use Rattle.tracker.specs.Calls.{victims-in, block-rows}
+use Rattle.limit.specs.Exact.{zeroed, restored, one-more, disturbed-by, once}
 
 one-more-times : (vs : List ℕ) (d : ℕ → ℕ) (v : ℕ) → one-more vs d v ≡ d v + times v vs
 unfolding one-more times hit
@@ -53,6 +53,19 @@ pub zeroed-sum : (rows : List ℕ) (a b c : ℕ → ℕ) (v : ℕ) → a v ≤ b
 unfolding zeroed
 zeroed-sum [] a b c v h = h
 zeroed-sum (x ∷ xs) a b c v h = split (eqb x v) (λ on. rw on (omega arith)) (λ off. rw off (zeroed-sum xs a b c v h))
+
+-- an event's rows: set to 0, or neither named nor of the block and kept
+pub restored-cases : (s : Settings) (named : List ℕ) (e : ℕ) (d : ℕ → ℕ) (v : ℕ) → (restored s named e d v ≡ 0) ⊎ ((times v named ≡ 0) × (times v (block-rows s e) ≡ 0) × (restored s named e d v ≡ d v))
+unfolding restored
+restored-cases s named e d v =
+    ⊎-elim
+    (λ gone. inl gone)
+    (λ kept. let neither = rw times-append at (kept .0) in inr (omega arith, omega arith, kept .1))
+    (zeroed-cases _ d v)
+
+pub restored-most : (s : Settings) (named : List ℕ) (e : ℕ) (d : ℕ → ℕ) (v : ℕ) → restored s named e d v ≤ d v
+restored-most s named e d v =
+    ⊎-elim (λ gone. omega (arith, gone)) (λ kept. omega (arith, kept .2)) (restored-cases s named e d v)
 
 -- a row that stands nowhere in a list
 absent : (row : ℕ) (rows : List ℕ) → times row rows ≡ 0 → in-rows row rows ≡ false

@@ -23,7 +23,7 @@ use Rattle.limit.proofs.Invariant.{begun-accepted}
 use Rattle.limit.proofs.Theorem.{kept-run}
 
 -- a list of calls behind another
-state-after-append : (s : Settings) (cs ds : List Command) (st : State) → state-after s (cs ++ ds) st ≡ state-after s ds (state-after s cs st)
+pub state-after-append : (s : Settings) (cs ds : List Command) (st : State) → state-after s (cs ++ ds) st ≡ state-after s ds (state-after s cs st)
 unfolding state-after
 state-after-append s [] ds st = refl
 state-after-append s (c ∷ cs) ds st = state-after-append s cs ds (left-by s c st)

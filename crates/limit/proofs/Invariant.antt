@@ -17,7 +17,7 @@ use Rattle.device.specs.Refusal.{first-failed, unless, refuse, Outcome, accepte
 use Rattle.device.specs.Acceptance.{settings-tests}
 use Rattle.device.specs.Remap.{physical}
 use Rattle.device.proofs.Cases.{split}
-use Rattle.device.proofs.Times.{hit, times, hit-other}
+use Rattle.device.proofs.Times.{hit, times, times-append}
 use Rattle.device.proofs.Permutation.{physical-below}
 use Rattle.device.proofs.Accepted.{Accepted, accepted as accepted-facts, or-later, settings-then}
 use Rattle.bound.specs.Totals.{bound-at, bound-of}
@@ -30,10 +30,10 @@ use Rattle.tracker.specs.State.{State, state-of, summary-of}
 use Rattle.tracker.specs.Calls.{kept-unless, tables-long, set-up-tests, set-up, activate, refresh, activation-tests, refresh-tests, block-rows, ends-window, next-event, victims-in}
 use Rattle.tracker.proofs.LaidOut.{read-back}
 use Rattle.tracker.proofs.Refusals.{activation-refusals, refresh-refusals}
-use Rattle.limit.specs.Exact.{Happened, activated, refreshed, Exact, at-rest, after, after-event, zeroed, disturbed-by, once}
+use Rattle.limit.specs.Exact.{Happened, activated, refreshed, Exact, at-rest, after, after-event, zeroed, restored, disturbed-by, once}
 use Rattle.limit.specs.Present.{forgotten}
 use Rattle.limit.specs.Run.{Command, activation-of, refresh-into, left-by, told-by, Begun}
-use Rattle.limit.proofs.Counting.{disturbed-reached, zeroed-cases, zeroed-most, once-sources}
+use Rattle.limit.proofs.Counting.{disturbed-reached, zeroed-cases, restored-cases, restored-most, once-sources}
 use Rattle.limit.proofs.Window.{Window, window-begins, window-activation, window-event, window-ends, After-row, After-event}
 use Rattle.limit.proofs.Instance.{scheme-of, below-ascends, block-ascends, block-few, rows-since, present-most, held}
 use Rattle.limit.proofs.Carry.{Carry, carry-begins, carry-rows, carry-event, carry-ends}
@@ -69,15 +69,15 @@ row-step s row d v =
     ((λ same. let e = rw (eq-eqb row v same) at (kept .0) in omega arith), omega (arith, kept .1, sum)))
     (zeroed-cases (row ∷ []) d v)
 
-event-step : (s : Settings) (block : List ℕ) (sum : Summary) (d : ℕ → ℕ) → After-event (scheme-of s) block sum d (disturbed-by s (sources (s .volume) block sum) (zeroed (picked (s .volume) sum ++ block) d))
+event-step : (s : Settings) (e : ℕ) (sum : Summary) (d : ℕ → ℕ) → After-event (scheme-of s) (block-rows s e) sum d (disturbed-by s (sources (s .volume) (block-rows s e) sum) (restored s (picked (s .volume) sum) e d))
 unfolding After-event
-event-step s block sum d v =
-    let rows = picked (s .volume) sum ++ block in
-    let total = disturbed-reached s (sources (s .volume) block sum) (zeroed rows d) v in
+event-step s e sum d v =
+    let named = picked (s .volume) sum in
+    let total = disturbed-reached s (sources (s .volume) (block-rows s e) sum) (restored s named e d) v in
     ⊎-elim
     (λ gone. inl (omega (arith, gone, total)))
-    (λ kept. inr (kept .0, omega (arith, kept .1, total)))
-    (zeroed-cases rows d v)
+    (λ kept. inr (omega (arith, kept .0, kept .1, times-append v named (block-rows s e)), omega (arith, kept .2, total)))
+    (restored-cases s named e d v)
 
 -- f modulo n, one event further
 count-goes-on : (f : ℕ) {n e : ℕ} → f % n ≡ e → suc e < n → (f + 1) % n ≡ suc e
@@ -95,10 +95,14 @@ rows-covered : (s : Settings) {e : ℕ} → suc e ≡ s .window → s .block * s
 rows-covered s {e} whole = rw (← whole) (omega arith)
 
 -- where every row starts from 0, only what the event itself disturbs is there
-nothing-kept : (s : Settings) (block : List ℕ) (sum : Summary) (v : ℕ) → disturbed-by s (sources (s .volume) block sum) (zeroed (picked (s .volume) sum ++ block) (λ row. 0)) v ≡ reached (victims-in s) v (sources (s .volume) block sum)
-nothing-kept s block sum v =
-    let rows = picked (s .volume) sum ++ block in
-    omega (arith, disturbed-reached s (sources (s .volume) block sum) (zeroed rows (λ row. 0)) v, zeroed-most rows (λ row. 0) v)
+nothing-kept : (s : Settings) (e : ℕ) (sum : Summary) (v : ℕ) → disturbed-by s (sources (s .volume) (block-rows s e) sum) (restored s (picked (s .volume) sum) e (λ row. 0)) v ≡ reached (victims-in s) v (sources (s .volume) (block-rows s e) sum)
+nothing-kept s e sum v =
+    let named = picked (s .volume) sum in
+    omega (
+      arith,
+      disturbed-reached s (sources (s .volume) (block-rows s e) sum) (restored s named e (λ row. 0)) v,
+      restored-most s named e (λ row. 0) v,
+    )
 
 module _ (s : Settings) (ok : first-failed (settings-tests s) ≡ 0) where
   facts : Accepted s
@@ -135,12 +139,12 @@ module _ (s : Settings) (ok : first-failed (settings-tests s) ≡ 0) where
       rw (add-one e, i .together, i .counted, refreshed-once e i)
       (record {
         since = length (sources (s .volume) block sum);
-        old = zeroed (picked (s .volume) sum ++ block) (i .old);
+        old = restored s (picked (s .volume) sum) e (i .old);
         window =
             window-event (scheme-of s) (below-ascends (block-ascends s e)) (i .window)
             (rows-since s facts (i .window) (i .few) (i .within) (i .early))
             within
-            (event-step s block sum (y .disturbance));
+            (event-step s e sum (y .disturbance));
         few = omega (arith, sources-few (s .volume) block sum, block-few s e);
         within = omega arith;
         early = within;
@@ -161,10 +165,10 @@ module _ (s : Settings) (ok : first-failed (settings-tests s) ≡ 0) where
       rw (i .together, i .counted, refreshed-once e i)
       (record {
         since = length (sources (s .volume) block sum);
-        old = zeroed (picked (s .volume) sum ++ block) (y .disturbance);
+        old = restored s (picked (s .volume) sum) e (y .disturbance);
         window =
             window-ends (scheme-of s) (below-ascends (block-ascends s e)) (i .window)
-            (λ v. omega (arith, nothing-kept s block sum v));
+            (λ v. omega (arith, nothing-kept s e sum v));
         few = omega (arith, sources-few (s .volume) block sum, block-few s e);
         within = omega arith;
         early = omega arith;

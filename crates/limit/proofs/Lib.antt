@@ -7,3 +7,4 @@ pub mod Carry
 pub mod Invariant
 pub mod Theorem
 pub mod Further
+pub mod Answered

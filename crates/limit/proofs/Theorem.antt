@@ -1,31 +1,25 @@
 -- The limit: demand 3, and what holds of every reachable state besides. By induction over the list of calls.
-use mathlib.Core.Path.{_≡_, refl, sym, _∙_, ap}
+use mathlib.Core.Path.{_≡_, sym}
 use mathlib.Core.Bool.{Bool, true, false, not}
 use mathlib.Core.List.{List, [], _∷_}
-use Prim.Native.Nat.{ℕ, _+_, _*_, _%_, _≤_, _<_}
+use Prim.Native.Nat.{ℕ, _+_, _≤_}
 use native.Mathlib.Nat.{le-trans}
 use native.Mathlib.Omega.{arith}
-use lib.Dec.{ltb, leb, eqb}
-use lib.ListN.{length, take}
+use lib.Dec.{ltb, leb}
+use lib.ListN.{length}
 use Rattle.device.specs.declared.Settings.{Settings}
-use Rattle.device.specs.Refusal.{first-failed, refuse, accepted as accepted-with}
+use Rattle.device.specs.Refusal.{first-failed, refuse}
 use Rattle.device.specs.Acceptance.{settings-tests}
 use Rattle.device.proofs.Accepted.{accepted}
 use Rattle.bound.specs.Totals.{bound-of}
 use Rattle.bound.proofs.Growth.{bound-grows}
-use Rattle.summary.specs.Steps.{estimate}
-use Rattle.tracker.specs.State.{State, state-of, summary-of}
-use Rattle.tracker.specs.declared.Position.{Position}
-use Rattle.tracker.specs.declared.SetUp.{SetUp}
-use Rattle.tracker.specs.declared.Activation.{Activation}
-use Rattle.tracker.specs.declared.Refreshed.{Refreshed}
-use Rattle.tracker.specs.Calls.{SetUp-call, Activation-call, Refresh-call, set-up, activate, refresh}
-use Rattle.tracker.specs.Answers.{given, set-up-call, set-up-outcome, activation-call, activation-refusal, activation-position, refresh-call, refresh-refusal, refresh-count, refresh-position}
+use Rattle.tracker.specs.State.{State, state-of}
+use Rattle.tracker.specs.Calls.{activate, refresh}
 use Rattle.tracker.proofs.LaidOut.{read-back}
 use Rattle.tracker.proofs.Refusals.{activation-refusals, refresh-refusals}
-use Rattle.limit.specs.Exact.{activated, refreshed, Exact, after-all, exact}
+use Rattle.limit.specs.Exact.{Exact, after-all, exact}
 use Rattle.limit.specs.Present.{present-after-all, present}
-use Rattle.limit.specs.Run.{Command, activation-of, refresh-into, left-by, told-by, state-after, happened, Begun}
+use Rattle.limit.specs.Run.{Command, state-after, happened, Begun}
 use Rattle.limit.specs.Demand.{Demand-3}
 use Rattle.limit.specs.Reachable.{Never-21, Events-modulo, Estimated, Window-figure}
 use Rattle.limit.proofs.Instance.{present-most, held}
@@ -100,28 +94,3 @@ window-figure s st b calls row =
     let k = kept-run b calls in
     let i = k .inv in
     rw (k .stored) (present-most s (accepted s (begun-accepted b)) (i .window) (i .few) (i .within) (i .early) row)
-
--- Functions that keep the calls' contracts take the very steps of a run: the state that they leave is the run's, and so is what the counter is
--- told. So the limit speaks of every sequence of their calls.
-pub activation-runs : (s : Settings) (st : State) (row : ℕ) (r : Activation) (rows counts : List ℕ) → activation-call r rows counts ≡ activate s st row → (given rows counts (activation-position r) ≡ left-by s (activation-of row) st) × (activated row (eqb (activation-refusal r) 0) ≡ told-by s (activation-of row) st)
-unfolding activation-call left-by told-by
-activation-runs s st row r rows counts kept =
-    (ap (λ (c : Activation-call). c .state) kept, ap (λ (c : Activation-call). activated row (eqb (c .refusal) 0)) kept)
-
-pub refresh-runs : (s : Settings) (st : State) (picks : List ℕ) (r : Refreshed) (rows counts list : List ℕ) → refresh-call r rows counts list ≡ refresh s st picks → (given rows counts (refresh-position r) ≡ left-by s (refresh-into picks) st) × (refreshed (eqb (refresh-refusal r) 0) (take (refresh-count r) list) ≡ told-by s (refresh-into picks) st)
-unfolding refresh-call left-by told-by
-refresh-runs s st picks r rows counts list kept = (
-  ap (λ (c : Refresh-call). c .state) kept,
-  ap (λ (c : Refresh-call). refreshed (eqb (c .refusal) 0) (take (c .count) (c .picks))) kept,
-)
-
-pub set-up-begins : (s : Settings) (p : Position) (r : SetUp) (rows₀ counts₀ rows counts : List ℕ) → set-up-call r rows counts ≡ set-up s rows₀ counts₀ → set-up-outcome r ≡ accepted-with p → Begun s (given rows counts p)
-unfolding set-up-call given
-set-up-begins s p r rows₀ counts₀ rows counts kept ready =
-    record {
-      rows = rows₀;
-      counts = counts₀;
-      accepts = sym (ap (λ (c : SetUp-call). c .answer) kept) ∙ ready;
-      rows-left = ap (λ (c : SetUp-call). c .rows) kept;
-      counts-left = ap (λ (c : SetUp-call). c .counts) kept;
-    }

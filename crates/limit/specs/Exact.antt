@@ -42,13 +42,17 @@ unfoldable pub once : List ℕ → List ℕ
 once [] = []
 once (x ∷ xs) = x ∷ besides (x ∷ []) (once xs)
 
--- an accepted event: 'the remainder of f by n as e' gives the block; 'every named and every block row' is set to 0, then
--- 1 is added 'to each neighbour of each of them, once per such row'
+-- an event first sets 'every named and every block row' to 0
+unfoldable pub restored : Settings → List ℕ → ℕ → (ℕ → ℕ) → ℕ → ℕ
+restored s named e d = zeroed (named ++ block-rows s e) d
+
+-- an accepted event: 'the remainder of f by n as e' gives the block; its rows are set to 0, then 1 is added 'to each neighbour of each of
+-- them, once per such row'
 unfoldable pub after-event : Settings → List ℕ → Exact → Exact
 after-event s named x =
-    let rows = named ++ block-rows s (x .refreshes % s .window) in
+    let e = x .refreshes % s .window in
     record {
-      disturbance = disturbed-by s (once rows) (zeroed rows (x .disturbance));
+      disturbance = disturbed-by s (once (named ++ block-rows s e)) (restored s named e (x .disturbance));
       refreshes = x .refreshes + 1;
     }
 

@@ -3,4 +3,5 @@ pub mod Exact
 pub mod Present
 pub mod Run
 pub mod Demand
+pub mod Answered
 pub mod Reachable

@@ -1,9 +1,7 @@
 -- Runs: any list of activations and events after an accepted setting up.
 use Prim.Native.Nat.{ℕ}
 use mathlib.Core.Path.{_≡_}
-use mathlib.Core.Bool.{Bool}
 use mathlib.Core.List.{List, [], _∷_}
-use lib.Dec.{eqb}
 use lib.ListN.{take}
 use Rattle.device.specs.declared.Settings.{Settings}
 use Rattle.device.specs.Refusal.{accepted}
@@ -23,10 +21,10 @@ left-by s (activation-of row) st = activate s st row .state
 left-by s (refresh-into picks) st = refresh s st picks .state
 
 unfoldable pub told-by : Settings → Command → State → Happened
-told-by s (activation-of row) st = activated row (eqb (activate s st row .refusal) 0)
+told-by s (activation-of row) st = activated row (activate s st row .accepts)
 told-by s (refresh-into picks) st =
     let call = refresh s st picks in
-    refreshed (eqb (call .refusal) 0) (take (call .count) (call .picks))
+    refreshed (call .accepts) (take (call .count) (call .picks))
 
 -- each call gets the tables and position that the call before left
 unfoldable pub state-after : Settings → List Command → State → State
