@@ -35,6 +35,12 @@ pub enum Read {
     Refused(usize),
 }
 
+// A line's answer, and the text behind the line as a part of the caller's.
+pub struct Parsed<'a> {
+    pub answer: Read,
+    pub rest: &'a [u8],
+}
+
 // The place behind the line's end: behind its byte 10, or the text's end.
 fn line_end(text: &[u8], place: usize) -> usize
     requires { ⌜ place ≤ length (now text) ⌝ }
@@ -209,6 +215,33 @@ pub fn rest(text: &[u8], place: usize) -> &[u8]
     }
     let end = text.len();
     &text[end..]
+}
+
+// The place behind a line that was read.
+pub fn place_behind(answer: Read) -> usize
+    ensures { λ r. ⌜ r ≡ said answer .place ⌝ }
+{
+    match answer {
+        Read::Line(_, next) => next,
+        Read::Refused(next) => next,
+    }
+}
+
+// The text behind a line that was read.
+fn text_behind(text: &[u8], answer: Read) -> &[u8]
+    ensures { λ r. ⌜ now r ≡ drop (said answer .place) (now (text .entry)) ⌝ }
+{
+    rest(text, place_behind(answer))
+}
+
+// The line at a place of the text, with the text behind it as a part of the caller's. The struct that is made holds a reference:
+// the proof is a walk by hand, over covered functions.
+pub fn next_line<'a>(text: &'a [u8], place: usize) -> Parsed<'a>
+    ensures { λ r. ⌜ (said (r .answer) ≡ reading (now (text .entry)) place) × (now (r .rest) ≡ drop (reading (now (text .entry)) place .place) (now (text .entry))) ⌝ }
+{
+    let answer = read_line(text, place);
+    let rest = text_behind(text, answer);
+    Parsed { answer, rest }
 }
 
 // A column in front of the last, with what is left of the number there.
