@@ -41,7 +41,7 @@ use denote.Triple.Table.{entered, cited}
 use denote.Triple.Walked.{says, Stays, stay-none-slice, walkOf, goes-none-slice, Walks, ends-at, walked, walk-meets}
 use denote.Exit.{yes}
 use denote.Triple.Clauses.{ensured, lasts}
-use Rattle.trace.specs.Reading.{said, reading}
+use Rattle.trace.specs.Reading.{said, reading, Handed-on}
 use Rattle.trace.specs.declared.Parsed.{Parsed}
 use Rattle.trace.proofs.Parsed as T
 use Rattle.trace.proofs.Parsed.Laws as T′
@@ -112,7 +112,7 @@ module _ {M : Type 1} (𝓤 : URA M) (H : Heap 𝓤) (A : Atoms 𝓤) (W : Given
   to-next = (((κ, tt), (q, tt), tt, (s, (0, tt)), (v s ∷ [], (vint w64 0 ∷ [], tt))), tt)
 
   abbrev Said : Parsed → Type 0
-  Said r = (said (r .answer) ≡ reading (now s) 0) × (now (r .rest) ≡ drop (reading (now s) 0 .place) (now s))
+  Said r = (said (r .answer) ≡ reading (now s) 0) × Handed-on s (reading (now s) 0 .place) (r .rest)
 
   goes-next : ent 𝓤 (onEntry 𝓤 H A first.signature (κ, tt) (q, tt) (s, tt) (v s ∷ [], tt)) (sep 𝓤 (Next 𝓤 H A mem run .pre to-next) (sem 𝓤 H A Own))
   goes-next =
@@ -169,7 +169,7 @@ module _ {M : Type 1} (𝓤 : URA M) (H : Heap 𝓤) (A : Atoms 𝓤) (W : Given
         land ! (from ! (stop !)) (init ! 11 refl (shr-slice-lawful 𝓤 H A W (named 0) κ u8 .typed z (w ∷ []) j .0)) $
         returns ! (look ! 11 refl) $ forget ! 3 refl $ forget ! 5 refl $ forget ! 7 refl $ forget ! 9 refl $ forget ! 11 refl $
         move ! (11 ∷ 12 ∷ []) $ free1 ! $ move ! (9 ∷ 10 ∷ []) $ free1 ! $ move ! (7 ∷ 8 ∷ []) $ free1 ! $ move ! (5 ∷ 6 ∷ []) $ free1 ! $ move ! (3 ∷ 4 ∷ []) $ free1 ! $ free0 ! $
-        by ! (exits z w (e′ ∙ e .1)))))))))))))))
+        by ! (exits z w (e′ ∙ e .1 .bytes)))))))))))))))
 
 module _ {M : Type 1} (𝓤 : URA M) (H : Heap 𝓤) (A : Atoms 𝓤) (W : Given 𝓤 H A) (mem : Memory → SProp 𝓤) (run : Routine → Fun 𝓤) where
   first-walks : (C : Calls 𝓤 H) (Λ : Loops 𝓤 H) → FmC 𝓤 H (W .laws) C → Triple 𝓤 (C #trace·next-line) (Next 𝓤 H A mem run) → Triple 𝓤 (C #lines·told) (Told 𝓤 H A mem run)
