@@ -1,8 +1,10 @@
 -- 'The reader': one line's record or refusal 11, and the place behind the line.
-use Prim.Native.Nat.{ℕ, _+_}
+use Prim.Native.Nat.{ℕ, _+_, min}
 use mathlib.Core.List.{List}
 use mathlib.Core.Option.{Option, none, some}
-use lib.ListN.{drop}
+use mathlib.Core.Path.{_≡_}
+use lib.ListN.{drop, length}
+use denote.Ref.{RefT, now}
 use Rattle.device.specs.Refusal.{Outcome, accepted, refused}
 use Rattle.trace.specs.Numbers.{choose}
 use Rattle.trace.specs.Lines.{line, ended, extent}
@@ -34,3 +36,8 @@ reading-by says text place =
 -- 'It reads one line': the one at a place of a text. At or behind the text's end no bytes are left: 11, and that place back
 unfoldable pub reading : List ℕ → ℕ → Reading
 reading text place = reading-by record-of (drop place text) place
+
+-- 'handed on as part of the caller's bytes': the bytes from a place on, at their own address in the caller's text; none, and its end, where the place is behind it
+pub record Handed-on (text : RefT (List ℕ)) (place : ℕ) (rest : RefT (List ℕ)) : Type 0 where
+  pub bytes : now rest ≡ drop place (now text)
+  pub address : rest .ptr ≡ (text .ptr .0, text .ptr .1 + min place (length (now text)))

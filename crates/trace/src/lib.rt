@@ -7,7 +7,7 @@ ghost use lib.Seq.{slice};
 ghost use Rattle.trace.specs.Numbers.{digits as digits-of, field, found, digit-or-blank as column-of, printed, written};
 ghost use Rattle.trace.specs.Lines.{extent, ends-after};
 ghost use Rattle.trace.specs.Records.{seven-settings as seven-of, found-seven, settings as settings-of, activation as activation-of, refresh as refresh-of};
-ghost use Rattle.trace.specs.Reading.{said, reading, reading-by};
+ghost use Rattle.trace.specs.Reading.{said, reading, reading-by, Handed-on};
 
 // What some columns hold.
 pub enum Field {
@@ -33,6 +33,12 @@ pub enum Record {
 pub enum Read {
     Line(Record, usize),
     Refused(usize),
+}
+
+// A line's answer, and the text behind the line as a part of the caller's.
+pub struct Parsed<'a> {
+    pub answer: Read,
+    pub rest: &'a [u8],
 }
 
 // The place behind the line's end: behind its byte 10, or the text's end.
@@ -200,15 +206,49 @@ pub fn read_line(text: &[u8], place: usize) -> Read
     Read::Refused(line_end(text, at))
 }
 
-// The text from a place on, as a part of the caller's; none of it where the place is behind the end.
-pub fn rest(text: &[u8], place: usize) -> &[u8]
-    ensures { λ r. ⌜ now r ≡ drop place (now (text .entry)) ⌝ }
+// The text from a place on, where it stands in the caller's; none of it where the place is behind the end.
+fn text_from(text: &[u8], place: usize) -> &[u8]
+    ensures { λ r. ⌜ Handed-on (text .entry) place r ⌝ }
 {
     if place <= text.len() {
         return &text[place..];
     }
     let end = text.len();
     &text[end..]
+}
+
+// The same, for callers to whom its bytes matter and not where they stand.
+pub fn rest(text: &[u8], place: usize) -> &[u8]
+    ensures { λ r. ⌜ now r ≡ drop place (now (text .entry)) ⌝ }
+{
+    text_from(text, place)
+}
+
+// The place behind a line that was read.
+pub fn place_behind(answer: Read) -> usize
+    ensures { λ r. ⌜ r ≡ said answer .place ⌝ }
+{
+    match answer {
+        Read::Line(_, next) => next,
+        Read::Refused(next) => next,
+    }
+}
+
+// The text behind a line that was read.
+fn text_behind(text: &[u8], answer: Read) -> &[u8]
+    ensures { λ r. ⌜ Handed-on (text .entry) (said answer .place) r ⌝ }
+{
+    text_from(text, place_behind(answer))
+}
+
+// The line at a place of the text, with the text behind it as a part of the caller's. The struct that is made holds a reference:
+// the proof is a walk by hand, over covered functions.
+pub fn next_line<'a>(text: &'a [u8], place: usize) -> Parsed<'a>
+    ensures { λ r. ⌜ (said (r .answer) ≡ reading (now (text .entry)) place) × Handed-on (text .entry) (reading (now (text .entry)) place .place) (r .rest) ⌝ }
+{
+    let answer = read_line(text, place);
+    let rest = text_behind(text, answer);
+    Parsed { answer, rest }
 }
 
 // A column in front of the last, with what is left of the number there.

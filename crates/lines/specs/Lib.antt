@@ -1,0 +1,2 @@
+-- Lines of a text, counted.
+pub mod Lines
