@@ -4,13 +4,11 @@ mod print;
 mod record;
 
 use device::Settings;
-use trace::Read;
 use tracker::Position;
 ghost use mathlib.Core.Path.{_≡_};
 ghost use mathlib.Core.List.{_++_};
 ghost use Prim.Native.Nat.{_+_, _*_, _≤_, min};
 ghost use lib.ListN.{length, drop};
-ghost use Rattle.trace.specs.Reading.{said};
 ghost use Rattle.listing.specs.Output.{Prints};
 ghost use Rattle.listing.specs.Carried.{memory, start-place, Ready};
 ghost use Rattle.listing.specs.Chunks.{next-number, part as part-of, part-left, turned, chunk-left, last-line, kept-bytes};
@@ -74,16 +72,6 @@ pub fn start() -> Place
     }
 }
 
-// The place behind a line that was read.
-fn place_behind(answer: Read) -> usize
-    ensures { λ r. ⌜ r ≡ said answer .place ⌝ }
-{
-    match answer {
-        Read::Line(_, next) => next,
-        Read::Refused(next) => next,
-    }
-}
-
 // Lists the lines at the front of a text, while they have ended and there is room to print in.
 pub fn list_part(
     p: Place,
@@ -100,7 +88,7 @@ pub fn list_part(
     let mut end: usize = 0;
     while at < text.len() && 200 <= out.len() - end {
         let answer = trace::read_line(text, at);
-        let next = place_behind(answer);
+        let next = trace::place_behind(answer);
         if text[next - 1] != 10 {
             return Part {
                 place,

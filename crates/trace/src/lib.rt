@@ -206,8 +206,8 @@ pub fn read_line(text: &[u8], place: usize) -> Read
     Read::Refused(line_end(text, at))
 }
 
-// The text from a place on, where it stands in the caller's; none of it where the place is behind the end.
-fn text_from(text: &[u8], place: usize) -> &[u8]
+// The text from a place on, as a part of the caller's; none of it where the place is behind the end.
+pub fn rest(text: &[u8], place: usize) -> &[u8]
     ensures { λ r. ⌜ Handed-on (text .entry) place r ⌝ }
 {
     if place <= text.len() {
@@ -215,13 +215,6 @@ fn text_from(text: &[u8], place: usize) -> &[u8]
     }
     let end = text.len();
     &text[end..]
-}
-
-// The same, for callers to whom its bytes matter and not where they stand.
-pub fn rest(text: &[u8], place: usize) -> &[u8]
-    ensures { λ r. ⌜ now r ≡ drop place (now (text .entry)) ⌝ }
-{
-    text_from(text, place)
 }
 
 // The place behind a line that was read.
@@ -238,7 +231,7 @@ pub fn place_behind(answer: Read) -> usize
 fn text_behind(text: &[u8], answer: Read) -> &[u8]
     ensures { λ r. ⌜ Handed-on (text .entry) (said answer .place) r ⌝ }
 {
-    text_from(text, place_behind(answer))
+    rest(text, place_behind(answer))
 }
 
 // The line at a place of the text, with the text behind it as a part of the caller's. The struct that is made holds a reference:
