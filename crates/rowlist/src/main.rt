@@ -3,9 +3,10 @@ use libc::STDIN_FILENO;
 use libc::STDOUT_FILENO;
 use listing::Place;
 ghost use mathlib.Core.Path.{_≡_};
+ghost use mathlib.Core.Bool.{true};
 ghost use Prim.Native.Nat.{_+_, _*_, _≤_};
 ghost use lib.ListN.{length};
-ghost use Rattle.listing.specs.Carried.{memory, Ready};
+ghost use Rattle.listing.specs.Carried.{memory, start-place, Ready};
 ghost use Rattle.rowlist.specs.Turns.{Within, Came, turn-of, turn-left};
 
 // What a read came to: so many bytes at hand, the input's end, or a failure.
@@ -43,39 +44,40 @@ fn read_behind(text: &mut [u8], kept: usize) -> Input
 
 // What lies between two reads: what came in is listed, up to the last line's end.
 fn between_reads(
-    p: Place,
+    from: Turn,
     rows: &mut [u32],
     counts: &mut [u32],
     text: &mut [u8],
-    kept: usize,
     input: Input,
     out: &mut [u8],
 ) -> Turn
-    requires { ⌜ Ready (memory p (now rows) (now counts)) × Within input kept (length (now text)) × (kept ≤ length (now text)) × (55 * length (now text) + 200 ≤ length (now out)) ⌝ }
-    ensures { λ r. ⌜ turn-left r (now (rows .exit)) (now (counts .exit)) (now (text .exit)) (now (out .exit)) ≡ turn-of (memory p (now (rows .entry)) (now (counts .entry))) (now (text .entry)) kept input (now (out .entry)) ⌝ }
+    requires { ⌜ Ready (memory (from .place) (now rows) (now counts)) × Within input (from .kept) (length (now text)) × (from .kept ≤ length (now text)) × (55 * length (now text) + 200 ≤ length (now out)) ⌝ }
+    ensures { λ r. ⌜ turn-left r (now (rows .exit)) (now (counts .exit)) (now (text .exit)) (now (out .exit)) ≡ turn-of (memory (from .place) (now (rows .entry)) (now (counts .entry))) (now (text .entry)) (from .kept) input (now (out .entry)) ⌝ }
 {
+    let place = from.place;
+    let kept = from.kept;
     match input {
         Input::Bytes(len) => {
-            let chunk = listing::list_chunk(p, rows, counts, text, len, out);
-            let place = chunk.place;
+            let chunk = listing::list_chunk(place, rows, counts, text, len, out);
+            let after = chunk.place;
             Turn {
-                place,
+                place: after,
                 kept: chunk.kept,
                 end: chunk.end,
                 more: true,
             }
         }
         Input::End => {
-            let end = listing::list_end(p, &text[0..kept], out);
+            let end = listing::list_end(place, &text[0..kept], out);
             Turn {
-                place: p,
+                place,
                 kept,
                 end,
                 more: false,
             }
         }
         Input::Failed => Turn {
-            place: p,
+            place,
             kept,
             end: 0,
             more: false,
@@ -83,16 +85,28 @@ fn between_reads(
     }
 }
 
+// Before the first read.
+fn first_turn() -> Turn
+    ensures { λ r. ⌜ r ≡ record { place = start-place; kept = 0; end = 0; more = true } ⌝ }
+{
+    let place = listing::start();
+    Turn {
+        place,
+        kept: 0,
+        end: 0,
+        more: true,
+    }
+}
+
 // Reads, lists and writes, until the input ends or a read or write fails.
 fn run(rows: &mut [u32], counts: &mut [u32], text: &mut [u8], out: &mut [u8])
     requires { ⌜ (length (now rows) ≡ 2048) × (length (now counts) ≡ 2048) × (length (now text) ≡ 4096) × (length (now out) ≡ 262144) ⌝ }
 {
-    let mut place = listing::start();
-    let mut kept: usize = 0;
+    let mut turn = first_turn();
     let mut turns = u64::MAX;
     while turns > 0 {
-        let input = read_behind(text, kept);
-        let turn = between_reads(place, rows, counts, text, kept, input, out);
+        let input = read_behind(text, turn.kept);
+        turn = between_reads(turn, rows, counts, text, input, out);
         let end = turn.end;
         if !io::write_all(STDOUT_FILENO, &out[..end]) {
             return;
@@ -100,8 +114,6 @@ fn run(rows: &mut [u32], counts: &mut [u32], text: &mut [u8], out: &mut [u8])
         if !turn.more {
             return;
         }
-        place = turn.place;
-        kept = turn.kept;
         turns -= 1;
     }
 }

@@ -10,7 +10,7 @@ use Rattle.rowlist.proofs.between_reads.Tie as tie
 list-chunk-requires : tie.Need-list-chunk-requires
 unfolding Within
 list-chunk-requires c κs =
-    let a = c .before .before .before .before .before .before .before .before .before .before .before in
+    let a = c .before .before .before .before .before .before .before .before .before .before .before .before in
     let within = rw (c .before .before .before .before .before .input .given .1) at (a .pre .1) in
     (a .pre .0, within .1, omega (arith, within .1, a .pre .3))
 
@@ -20,7 +20,7 @@ returns c = rw (c .before .before .before .before .before .before .before .befor
 returns-2 : tie.Need-returns-2
 returns-2 c =
     let l = c .before .before .list-end in
-    rw (c .before .before .before .before .before .before .enum-told .given .1) (turn-end _ _ _ _ (rw (sub-zero (c .before .before .before .before .before .before .before .before .before .before .before .before .args .kept)) at (l .ensures)))
+    rw (c .before .before .before .before .before .before .enum-told .given .1) (turn-end _ _ _ _ (rw (sub-zero (c .before .before .before .before .before .before .before .before .before .before .before .before .before .args .from .kept)) at (l .ensures)))
 
 returns-3 : tie.Need-returns-3
 unfolding turn-of

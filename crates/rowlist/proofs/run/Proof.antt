@@ -6,37 +6,38 @@ use native.Mathlib.Omega.{arith}
 use borrow.Author.Needs.{needs}
 use lib.ListN.{length}
 use lib.Seq.{length-take-le}
-use Rattle.listing.specs.declared.Place.{Place}
 use Rattle.listing.specs.Carried.{memory, Ready}
 use Rattle.listing.proofs.Progress.{start-represents}
+use Rattle.rowlist.specs.declared.Turn.{Turn}
 use Rattle.rowlist.proofs.Steady.{turn-steady}
 use Rattle.rowlist.proofs.run.Statement.{statement}
 use Rattle.rowlist.proofs.run.Tie as tie
 
-record Lent (rows counts text out : List ℕ) (place : Place) (kept : ℕ) : Type 0 where
-  ready : Ready (memory place rows counts)
+record Lent (rows counts text out : List ℕ) (turn : Turn) : Type 0 where
+  ready : Ready (memory (turn .place) rows counts)
   text-long : length text ≡ 4096
   out-long : length out ≡ 262144
-  few : kept ≤ 4096
+  few : turn .kept ≤ 4096
 
 abbrev Inv-loop : tie.InvT-loop
-Inv-loop rows₀ counts₀ text₀ out₀ place₀ kept₀ turns₀ rows counts text out place kept turns = Lent rows counts text out place kept
+Inv-loop rows₀ counts₀ text₀ out₀ turn₀ turns₀ rows counts text out turn turns = Lent rows counts text out turn
 
 abbrev μ-loop : tie.MeasureT-loop
-μ-loop rows₀ counts₀ text₀ out₀ place₀ kept₀ turns₀ rows counts text out place kept turns = turns
+μ-loop rows₀ counts₀ text₀ out₀ turn₀ turns₀ rows counts text out turn turns = turns
 
-start-requires : tie.Need-start-requires Inv-loop μ-loop
-start-requires c κs = search needs
+first-turn-requires : tie.Need-first-turn-requires Inv-loop μ-loop
+first-turn-requires c κs = search needs
 
 loop-holds : tie.Need-loop-holds Inv-loop μ-loop
 loop-holds c =
     let a = c .before .before .before .before .before in
-    record {
-      ready = rw (c .start .ensures) (start-represents (a .args .rows .now) (a .args .counts .now) (a .pre .0) (a .pre .1) .ready);
+    rw (c .first-turn .ensures)
+    (record {
+      ready = start-represents (a .args .rows .now) (a .args .counts .now) (a .pre .0) (a .pre .1) .ready;
       text-long = a .pre .2;
       out-long = a .pre .3;
       few = omega arith;
-    }
+    })
 
 read-behind-requires : tie.Need-read-behind-requires Inv-loop μ-loop
 read-behind-requires c κs = let l = c .before .before .loop .inv in omega (arith, l .text-long, l .few)
@@ -52,18 +53,18 @@ slice-reshare-prefix-write-all c =
     let l = c .before .before .before .before .before .before .before .before .before .before .before .before .before .before .before .before .before .before .loop in
     let r = c .before .before .before .before .before .before .before .before .before .before .before .before .before .before .before .read-behind in
     let b = c .before .before .before .before .before .before .before .before .between-reads in
-    let few : l .kept ≤ length (r .last .0) = omega (arith, r .kept .0, l .inv .text-long, l .inv .few) in
+    let few : l .turn .kept ≤ length (r .last .0) = omega (arith, r .kept .0, l .inv .text-long, l .inv .few) in
     let left = turn-steady _ _ _ _ _ _ (b .ensures) (l .inv .ready) few (r .ensures .within) in
-    omega (arith, left .fits, b .kept .1 .1 .1 .1 .1 .1 .0)
+    omega (arith, left .fits, b .kept .1 .1 .1 .1 .1 .0)
 
 slice-aggregate-write-all : tie.Need-slice-aggregate-write-all Inv-loop μ-loop
 slice-aggregate-write-all c =
     let l = c .before .before .before .before .before .before .before .before .before .before .before .before .before .before .before .before .before .before .before .loop in
     let r = c .before .before .before .before .before .before .before .before .before .before .before .before .before .before .before .before .read-behind in
     let b = c .before .before .before .before .before .before .before .before .before .between-reads in
-    let few : l .kept ≤ length (r .last .0) = omega (arith, r .kept .0, l .inv .text-long, l .inv .few) in
+    let few : l .turn .kept ≤ length (r .last .0) = omega (arith, r .kept .0, l .inv .text-long, l .inv .few) in
     let left = turn-steady _ _ _ _ _ _ (b .ensures) (l .inv .ready) few (r .ensures .within) in
-    sym (length-take-le (b .result .end) (b .last .1 .1 .1 .1 .1 .1 .0) (omega (arith, left .fits, b .kept .1 .1 .1 .1 .1 .1 .0)))
+    sym (length-take-le (b .result .end) (b .last .1 .1 .1 .1 .1 .0) (omega (arith, left .fits, b .kept .1 .1 .1 .1 .1 .0)))
 
 write-all-requires : tie.Need-write-all-requires Inv-loop μ-loop
 write-all-requires c κs = search needs
@@ -78,7 +79,7 @@ same-length-3 : tie.Need-same-length-3 Inv-loop μ-loop
 same-length-3 c = c .before .before .before .before .before .before .before .before .before .before .before .between-reads .kept .1 .1 .1 .0 ∙ c .before .before .before .before .before .before .before .before .before .before .before .before .before .before .before .before .before .before .read-behind .kept .0 ∙ c .before .before .before .before .before .before .before .before .before .before .before .before .before .before .before .before .before .before .before .before .before .loop .inv .text-long ∙ sym (c .before .before .before .before .before .before .before .before .before .before .before .before .before .before .before .before .before .before .before .before .before .before .before .before .before .before .before .pre .2)
 
 same-length-4 : tie.Need-same-length-4 Inv-loop μ-loop
-same-length-4 c = c .before .before .before .before .before .before .before .before .before .before .before .between-reads .kept .1 .1 .1 .1 .1 .1 .0 ∙ c .before .before .before .before .before .before .before .before .before .before .before .before .before .before .before .before .before .before .before .before .before .loop .inv .out-long ∙ sym (c .before .before .before .before .before .before .before .before .before .before .before .before .before .before .before .before .before .before .before .before .before .before .before .before .before .before .before .pre .3)
+same-length-4 c = c .before .before .before .before .before .before .before .before .before .before .before .between-reads .kept .1 .1 .1 .1 .1 .0 ∙ c .before .before .before .before .before .before .before .before .before .before .before .before .before .before .before .before .before .before .before .before .before .loop .inv .out-long ∙ sym (c .before .before .before .before .before .before .before .before .before .before .before .before .before .before .before .before .before .before .before .before .before .before .before .before .before .before .before .pre .3)
 
 returns : tie.Need-returns Inv-loop μ-loop
 returns c = tt
@@ -93,28 +94,28 @@ same-length-7 : tie.Need-same-length-7 Inv-loop μ-loop
 same-length-7 c = c .before .before .before .before .before .before .before .before .before .before .before .before .before .between-reads .kept .1 .1 .1 .0 ∙ c .before .before .before .before .before .before .before .before .before .before .before .before .before .before .before .before .before .before .before .before .read-behind .kept .0 ∙ c .before .before .before .before .before .before .before .before .before .before .before .before .before .before .before .before .before .before .before .before .before .before .before .loop .inv .text-long ∙ sym (c .before .before .before .before .before .before .before .before .before .before .before .before .before .before .before .before .before .before .before .before .before .before .before .before .before .before .before .before .before .pre .2)
 
 same-length-8 : tie.Need-same-length-8 Inv-loop μ-loop
-same-length-8 c = c .before .before .before .before .before .before .before .before .before .before .before .before .before .between-reads .kept .1 .1 .1 .1 .1 .1 .0 ∙ c .before .before .before .before .before .before .before .before .before .before .before .before .before .before .before .before .before .before .before .before .before .before .before .loop .inv .out-long ∙ sym (c .before .before .before .before .before .before .before .before .before .before .before .before .before .before .before .before .before .before .before .before .before .before .before .before .before .before .before .before .before .pre .3)
+same-length-8 c = c .before .before .before .before .before .before .before .before .before .before .before .before .before .between-reads .kept .1 .1 .1 .1 .1 .0 ∙ c .before .before .before .before .before .before .before .before .before .before .before .before .before .before .before .before .before .before .before .before .before .before .before .loop .inv .out-long ∙ sym (c .before .before .before .before .before .before .before .before .before .before .before .before .before .before .before .before .before .before .before .before .before .before .before .before .before .before .before .before .before .pre .3)
 
 returns-2 : tie.Need-returns-2 Inv-loop μ-loop
 returns-2 c = tt
 
 sub-turns : tie.Need-sub-turns Inv-loop μ-loop
-sub-turns c = omega (arith, c .before .before .before .before .before .before .before .before .before .before .before .before .before .before .before .before .before .before .before .before .before .before .before .loop-test .taken)
+sub-turns c = omega (arith, c .before .before .before .before .before .before .before .before .before .before .before .before .before .before .before .before .before .before .before .before .before .before .loop-test .taken)
 
 loop-less : tie.Need-loop-less Inv-loop μ-loop
-loop-less c = omega (arith, c .before .before .before .before .before .before .before .before .before .before .before .before .before .before .before .before .before .before .before .before .before .before .before .loop-test .taken)
+loop-less c = omega (arith, c .before .before .before .before .before .before .before .before .before .before .before .before .before .before .before .before .before .before .before .before .before .before .loop-test .taken)
 
 loop-again : tie.Need-loop-again Inv-loop μ-loop
 loop-again c =
-    let l = c .before .before .before .before .before .before .before .before .before .before .before .before .before .before .before .before .before .before .before .before .before .before .before .before .loop in
-    let r = c .before .before .before .before .before .before .before .before .before .before .before .before .before .before .before .before .before .before .before .before .before .read-behind in
-    let b = c .before .before .before .before .before .before .before .before .before .before .before .before .before .before .between-reads in
-    let few : l .kept ≤ length (r .last .0) = omega (arith, r .kept .0, l .inv .text-long, l .inv .few) in
+    let l = c .before .before .before .before .before .before .before .before .before .before .before .before .before .before .before .before .before .before .before .before .before .before .before .loop in
+    let r = c .before .before .before .before .before .before .before .before .before .before .before .before .before .before .before .before .before .before .before .before .read-behind in
+    let b = c .before .before .before .before .before .before .before .before .before .before .before .before .before .between-reads in
+    let few : l .turn .kept ≤ length (r .last .0) = omega (arith, r .kept .0, l .inv .text-long, l .inv .few) in
     let left = turn-steady _ _ _ _ _ _ (b .ensures) (l .inv .ready) few (r .ensures .within) in
     record {
       ready = left .ready;
       text-long = b .kept .1 .1 .1 .0 ∙ r .kept .0 ∙ l .inv .text-long;
-      out-long = b .kept .1 .1 .1 .1 .1 .1 .0 ∙ l .inv .out-long;
+      out-long = b .kept .1 .1 .1 .1 .1 .0 ∙ l .inv .out-long;
       few = omega (arith, left .few, r .kept .0, l .inv .text-long);
     }
 
@@ -139,7 +140,7 @@ run-spec =
     (tie.spec
     Inv-loop
     μ-loop
-    start-requires
+    first-turn-requires
     loop-holds
     read-behind-requires
     between-reads-requires
