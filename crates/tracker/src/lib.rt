@@ -129,7 +129,8 @@ pub fn activate_accepted(
         tracked: p.tracked as usize,
         spillover: p.spillover,
     };
-    let after = victims::activate_row(s, rows, counts, t, device::physical_row(row));
+    let physical = device::physical_row(row);
+    let after = victims::activate_row(s, rows, counts, t, physical);
     Position {
         events: p.events,
         activations: p.activations + 1,

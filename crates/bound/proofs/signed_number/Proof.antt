@@ -18,6 +18,9 @@ negative-fits : (k : ℕ) → k < 2 ^ 63 → SFits w64 (negℤ (pos k))
 negative-fits zero h = record { sfits = omega arith }
 negative-fits (suc k) h = record { sfits = omega arith }
 
+difference-fits : (k : ℕ) → k < 2 ^ 63 → SFits w64 (pos 0 -ℤ toZ w64 k)
+difference-fits k h = rw (negative k h) (negative-fits k h)
+
 value-small : (c : tie.After-known-told) → c .before .answer .given .0 .0 < 2 ^ 63
 unfolding outcome Small
 value-small c = rw (c .before .answer .given .1) at (c .before .before .before .pre)
@@ -30,7 +33,7 @@ cast-result : tie.Need-cast-result
 cast-result c = record { sfits = value-small c }
 
 sub-result : tie.Need-sub-result
-sub-result c = rw (negative _ (refusal-small c)) (negative-fits _ (refusal-small c))
+sub-result c = difference-fits _ (refusal-small c)
 
 returns : tie.Need-returns
 unfolding outcome signed
@@ -38,8 +41,7 @@ returns c = rw (c .before .answer .given .1) (toZ-pos w64 _ (value-small c))
 
 returns-2 : tie.Need-returns-2
 unfolding outcome signed
-returns-2 c =
-    rw (c .before .answer2 .given .1, negative _ (refusal-small c)) (toZ-ofZ w64 _ (negative-fits _ (refusal-small c)))
+returns-2 c = rw (c .before .answer2 .given .1) (toZ-ofZ w64 _ (difference-fits _ (refusal-small c)) ∙ negative _ (refusal-small c))
 
 pub signed-number-spec : {M : Type 1} → statement M
 signed-number-spec =

@@ -7,7 +7,22 @@ use Rattle.device.proofs.refusal_with.Tie as tie
 
 returns : tie.Need-returns
 unfolding first-failed unless settings-tests-with
-returns c = cc
+returns c =
+    rw (
+      c .before .refuse-unless6 .ensures,
+      c .before .before .refuse-unless5 .ensures,
+      c .before .before .before .refuse-unless4 .ensures,
+      c .before .before .before .before .refuse-unless3 .ensures,
+      c .before .before .before .before .before .refuse-unless2 .ensures,
+      c .before .before .before .before .before .before .refuse-unless .ensures,
+      c .before .before .before .before .before .before .before .block-in-range .ensures,
+      c .before .before .before .before .before .before .before .before .within3 .ensures,
+      c .before .before .before .before .before .before .before .before .before .within2 .ensures,
+      c .before .before .before .before .before .before .before .before .before .before .within .ensures,
+      c .before .before .before .before .before .before .before .before .before .before .before .diameter-in-range .ensures,
+      c .before .before .before .before .before .before .before .before .before .before .before .before .rows-in-range .ensures,
+    )
+    at (c .refuse-unless7 .ensures)
 
 pub refusal-with-spec : {M : Type 1} → statement M
 refusal-with-spec =

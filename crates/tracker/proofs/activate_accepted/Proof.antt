@@ -1,13 +1,18 @@
 -- `tracker::activate_accepted` meets its contract.
-use mathlib.Core.Path.{_≡_}
-use Prim.Native.Nat.{_+_, _≤_, _<_}
+use mathlib.Core.Path.{_≡_, ap, _∙_}
+use mathlib.Core.List.{List}
+use Prim.Native.Nat.{ℕ, _+_, _≤_, _<_}
 use native.Mathlib.Omega.{arith}
 use borrow.Author.Needs.{needs}
+use Rattle.device.specs.declared.Settings.{Settings}
+use Rattle.device.specs.Remap.{physical}
 use Rattle.device.proofs.Permutation.{physical-below}
+use Rattle.summary.specs.Steps.{Summary, activation}
+use Rattle.summary.specs.Tables.{Holds}
 use Rattle.summary.proofs.Ceiling.{room-more}
 use Rattle.summary.proofs.Stored.{tracked-few}
-use Rattle.tracker.specs.State.{summary-of}
-use Rattle.tracker.specs.Calls.{activate, kept-unless}
+use Rattle.tracker.specs.State.{summary-of, state-of}
+use Rattle.tracker.specs.Calls.{activate, kept-unless, victims-in}
 use Rattle.tracker.specs.Answers.{given}
 use Rattle.tracker.proofs.Passed.{activation-ready, ready-held, state-made, diameter-four}
 use Rattle.tracker.proofs.activate_accepted.Statement.{statement}
@@ -22,24 +27,28 @@ activate-row-requires c κs =
     let below = physical-below (a .args .s .rows) (a .args .row) (r .0 .settings .others .rows-whole) (r .1) in (
       ready-held (r .0),
       (
-        (diameter-four (r .0 .settings), omega (arith, c .physical-row .ensures, below, r .0 .settings .others .rows .most)),
+        (diameter-four (r .0 .settings), omega (arith, c .before .before .physical-row .ensures, below, r .0 .settings .others .rows .most)),
         room-more (r .0 .facts .room) (omega arith),
       ),
     )
 
-add-t13 : tie.Need-add-t13
+add-t14 : tie.Need-add-t14
 unfolding given
-add-t13 c =
+add-t14 c =
     let a = c .before .before .before .before .before .before .before .before .before .before .before .before in
     let r = activation-ready (a .args .s) (given (a .args .rows .now) (a .args .counts .now) (a .args .p)) (a .args .row) (a .pre) in
     omega (arith, r .2, r .0 .settings .others .interval .most)
 
-cast-t14 : tie.Need-cast-t14
+cast-t15 : tie.Need-cast-t15
 unfolding given
-cast-t14 c =
+cast-t15 c =
     let a = c .before .before .before .before .before .before .before .before .before .before .before .before .before in
     let r = activation-ready (a .args .s) (given (a .args .rows .now) (a .args .counts .now) (a .args .p)) (a .args .row) (a .pre) in
     omega (arith, tracked-few (c .before .before .before .before .before .before .activate-row .ensures), r .0 .fitting .rows-long, r .0 .settings .counters .most)
+
+-- the state that an activation leaves, by a row that is the physical one
+made-by : (s : Settings) (e a : ℕ) (sum : Summary) (at row : ℕ) {rows counts : List ℕ} {k spill : ℕ} → at ≡ physical row → Holds (s .counters) 4294967296 (activation (s .counters) (victims-in s) at sum) rows counts k spill → given rows counts (record { events = e; activations = a; tracked = k; spillover = spill }) ≡ state-of s e a (activation (s .counters) (victims-in s) (physical row) sum)
+made-by s e a sum at row same h = state-made s e a h ∙ ap (λ x. state-of s e a (activation (s .counters) (victims-in s) x sum)) same
 
 returns : tie.Need-returns
 unfolding activate kept-unless given summary-of
@@ -47,8 +56,9 @@ returns c =
     let a = c .before .before .before .before .before .before .before .before .before .before .before .before .before in
     let st = given (a .args .rows .now) (a .args .counts .now) (a .args .p) in
     let r = activation-ready (a .args .s) st (a .args .row) (a .pre) in
+    let f = c .before .before .before .before .before .before .before .before .before .physical-row in
     rw (a .pre)
-    (state-made (a .args .s) (a .args .p .events) (a .args .p .activations + 1) (rw (r .0 .fitting .rows-long, c .before .before .before .before .before .before .before .physical-row .ensures) at (c .before .before .before .before .before .before .activate-row .ensures)))
+    (made-by (a .args .s) (a .args .p .events) (a .args .p .activations + 1) (summary-of st) (f .result) (a .args .row) (f .ensures) (rw (r .0 .fitting .rows-long) at (c .before .before .before .before .before .before .activate-row .ensures)))
 
 pub activate-accepted-spec : {M : Type 1} → statement M
 activate-accepted-spec =
@@ -57,8 +67,8 @@ activate-accepted-spec =
     (λ c. search needs)
     (λ c κs. search needs)
     activate-row-requires
-    add-t13
-    cast-t14
+    add-t14
+    cast-t15
     (λ c. search needs)
     (λ c. search needs)
     returns)

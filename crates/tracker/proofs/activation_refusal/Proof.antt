@@ -38,9 +38,8 @@ returns-3 c =
       or-later-zero _ _ (sym (k .ensures) ∙ c .before .before .before .before .before .before .before .if1 .left),
       lt-ltb (a .row) (a .s .rows) (c .before .before .before .before .before .if2 .left),
       ← c .before .before .before .before .valid-state .ensures,
-      ← c .before .refuse-unless .ensures,
     )
-    (c .refuse-unless2 .ensures)
+    (rw (c .before .refuse-unless .ensures) at (c .refuse-unless2 .ensures))
 
 pub activation-refusal-spec : {M : Type 1} → statement M
 activation-refusal-spec =

@@ -27,7 +27,8 @@ same-estimates-requires c κs =
     let a = c .before .before .before .before .before .before .before .before .before .before .before .args in
     let k = c .before .before .before .before .before .before .agreement-refusal in
     let f = compared (a .s) (given (a .rows .now) (a .counts .now) (a .p)) (a .s2) (given (a .rows2 .now) (a .counts2 .now) (a .p2)) (sym (k .ensures) ∙ c .before .before .before .before .before .if1 .left) in
-    (held-in (f .first), rw (c .before .before .if2 .left) (held-in (f .second)))
+    let same : a .s .rows ≡ a .s2 .rows = c .before .before .if2 .left in
+    (held-in (f .first), rw same (held-in (f .second)))
 
 returns-3 : tie.Need-returns-3
 unfolding agreement-outcome given summary-of
