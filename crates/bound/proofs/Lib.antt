@@ -3,3 +3,4 @@ pub mod Sizes
 pub mod Growth
 pub mod Smallest
 pub mod Narrow
+pub mod Claims

@@ -2,3 +2,4 @@
 pub mod Totals
 pub mod Least
 pub mod Answers
+pub mod Claims

@@ -67,15 +67,6 @@ pub restored-most : (s : Settings) (named : List ℕ) (e : ℕ) (d : ℕ → ℕ
 restored-most s named e d v =
     ⊎-elim (λ gone. omega (arith, gone)) (λ kept. omega (arith, kept .2)) (restored-cases s named e d v)
 
--- a row that stands nowhere in a list
-absent : (row : ℕ) (rows : List ℕ) → times row rows ≡ 0 → in-rows row rows ≡ false
-unfolding times hit in-rows
-absent row [] e = refl
-absent row (x ∷ xs) e =
-    split (eqb x row)
-    (λ on. absurd (let e′ = rw on at e in omega arith))
-    (λ off. rw off (absent row xs (omega (arith, rw off at e))))
-
 besides-nothing : (xs : List ℕ) → besides [] xs ≡ xs
 unfolding besides in-rows
 besides-nothing [] = refl

@@ -14,14 +14,14 @@ use Rattle.device.proofs.Times.{times, victims-once}
 use Rattle.bound.specs.Totals.{size, total, disturbers, bound-at, bound-of}
 use Rattle.bound.proofs.Sizes.{size-first, size-positive, size-grows, size-steps, size-most}
 use Rattle.bound.proofs.Growth.{disturbers-cover, added-few, total-small}
-use Rattle.summary.proofs.Ceiling.{ceiling-level, ceiling-higher, spillover-level}
+use Rattle.summary.proofs.Rules.Ceiling.{ceiling-level, ceiling-higher, spillover-level}
 use Rattle.summary.proofs.Level.{Level, level-more}
 use Rattle.summary.proofs.Event.{Reach}
 use Rattle.summary.specs.Rules.{Below, below-none, below-more}
 use Rattle.summary.specs.Steps.{Summary}
 use Rattle.tracker.specs.Calls.{victims-in, block-rows}
 use Rattle.tracker.proofs.Refusals.{Held}
-use Rattle.limit.proofs.Scheme.{Scheme, total-of, total-of-grows}
+use Rattle.limit.proofs.Scheme.{Scheme, total-of}
 use Rattle.limit.proofs.Window.{Window}
 
 pub below-ascends : {low high : ℕ} {rows : List ℕ} → Ascends low high rows → Below high rows

@@ -34,6 +34,3 @@ total-from c j t = total (c .size) (c .reach * c .disturbers) j t
 
 abbrev pub total-of : Scheme → ℕ → ℕ
 total-of c j = total-from c j 0
-
-pub total-of-grows : (c : Scheme) {j k : ℕ} → j ≤ k → total-of c j ≤ total-of c k
-total-of-grows c h = total-grows (c .size) (c .reach * c .disturbers) h

@@ -11,9 +11,9 @@ use Rattle.device.proofs.Times.{times}
 use Rattle.bound.specs.Totals.{total}
 use Rattle.summary.specs.Steps.{Summary, empty, estimate, activation, picked, taken-out, cleared-if, sources, event}
 use Rattle.summary.proofs.Level.{Level, level-more}
-use Rattle.summary.proofs.Ceiling.{estimate-level}
+use Rattle.summary.proofs.Rules.Ceiling.{estimate-level}
 use Rattle.summary.specs.Rules.{Sound, Below, below-none, below-more}
-use Rattle.summary.proofs.Sound.{sound-empty}
+use Rattle.summary.proofs.Rules.Sound.{sound-empty}
 use Rattle.summary.proofs.Distinct.{sources-below}
 use Rattle.summary.proofs.Event.{Reach, reached, level-empty, sound-activation, level-activation, estimate-activation, estimate-activated, level-taken-out, sound-taken-out, estimate-taken-out, sound-event, level-event, estimate-event}
 use Rattle.limit.proofs.Scheme.{Scheme, total-from, total-of}

@@ -12,9 +12,9 @@ use Rattle.device.proofs.Cases.{split}
 use Rattle.device.proofs.Times.{hit, times, hit-other}
 use Rattle.summary.specs.Entries.{Entry, has, without, top, picks}
 use Rattle.summary.specs.Steps.{Summary, in-rows, besides, picked, sources}
-use Rattle.summary.proofs.Floor.{neither}
+use Rattle.summary.proofs.Rules.Floor.{neither}
 use Rattle.summary.specs.Rules.{Ordered, ordered-none, ordered-more, Below, below-none, below-more}
-use Rattle.summary.proofs.Order.{ordered-without, ordered-member}
+use Rattle.summary.proofs.Rules.Order.{ordered-without, ordered-member}
 use Rattle.summary.proofs.Share.{top-in}
 
 -- no row twice

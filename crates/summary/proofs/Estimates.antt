@@ -12,8 +12,8 @@ use Rattle.device.proofs.Times.{hit, times, hit-most, hit-other}
 use Rattle.summary.specs.Entries.{Entry, has, count-or, without, without-all, raised, entered, has-count, without-count}
 use Rattle.summary.specs.Steps.{Summary, estimate, disturb, disturb-each, drop-rows}
 use Rattle.summary.specs.Rules.{Floor, floor-none, floor-more}
-use Rattle.summary.proofs.Floor.{neither}
-use Rattle.summary.proofs.Order.{untracked-without-count}
+use Rattle.summary.proofs.Rules.Floor.{neither}
+use Rattle.summary.proofs.Rules.Order.{untracked-without-count}
 
 module _ (other row : ℕ) where
   count-untracked : (es : List Entry) → has row es ≡ false → count-or other row es ≡ other

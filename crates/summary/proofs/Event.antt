@@ -13,7 +13,7 @@ use Rattle.summary.proofs.Level.{Level, excess, excess-without, level-m
 use Rattle.summary.proofs.Share.{level-picks}
 use Rattle.summary.proofs.Estimates.{estimate-disturb, estimate-drop}
 use Rattle.summary.specs.Rules.{Below, below-none, below-more, Sound}
-use Rattle.summary.proofs.Sound.{sound-disturb, sound-drop, sound-each, sound-empty}
+use Rattle.summary.proofs.Rules.Sound.{sound-disturb, sound-drop, sound-each, sound-empty}
 
 excess-without-all : (t : ℕ) (rows : List ℕ) (es : List Entry) → excess t (without-all rows es) ≤ excess t es
 unfolding without-all

@@ -13,7 +13,7 @@ use Rattle.device.proofs.Cases.{split, le-or-lt}
 use Rattle.summary.specs.Entries.{Entry, has, without, without-all, raised, entered, has-count, without-count}
 use Rattle.summary.specs.Steps.{Summary, disturb, disturb-each, drop-rows}
 use Rattle.summary.specs.Rules.{Floor, floor-none, floor-more}
-use Rattle.summary.proofs.Floor.{floor-rises}
+use Rattle.summary.proofs.Rules.Floor.{floor-rises}
 
 -- the sum of the counts' excess over a level
 unfoldable pub excess : ℕ → List Entry → ℕ

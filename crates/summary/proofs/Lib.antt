@@ -1,11 +1,9 @@
 -- Laws of the summary.
-pub mod Floor
-pub mod Order
+pub mod DisturbCases
+pub mod Rules
 pub mod Estimates
 pub mod Level
-pub mod Ceiling
 pub mod Share
-pub mod Sound
 pub mod Event
 pub mod Distinct
 pub mod Laid

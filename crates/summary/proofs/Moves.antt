@@ -13,9 +13,9 @@ use Rattle.summary.specs.Steps.{Summary, disturb, drop-rows}
 use Rattle.summary.specs.Rules.{Sound}
 use Rattle.summary.specs.Tables.{read, Holds, Held, entered-in}
 use Rattle.summary.proofs.Laid.{length-rows, held-read}
-use Rattle.summary.proofs.Order.{untracked-without-count}
+use Rattle.summary.proofs.Rules.Order.{untracked-without-count}
 use Rattle.summary.proofs.Places.{has-place, rows-without, counts-without, without-untracked, rows-raised, counts-raised, has-count-place, rows-without-count, counts-without-count, rows-entered, counts-entered, lower-place-most, equal-place-at, highest-place-top}
-use Rattle.summary.proofs.Sound.{sound-drop, sound-entered, sound-exchanged, sound-raised, sound-spilt}
+use Rattle.summary.proofs.Rules.Sound.{sound-drop, sound-entered, sound-exchanged, sound-raised, sound-spilt}
 use Rattle.summary.proofs.Stored.{tracked-few, long-rows, used-rows, used-counts, row-at-place, count-at-place, holds-taken, holds-put, holds-set}
 
 module _ {places high : ℕ} {sum : Summary} {rows counts : List ℕ} {k spill : ℕ} (h : Holds places high sum rows counts k spill) where

@@ -12,8 +12,9 @@ use lib.ListN.{length, getD, take, drop, set}
 use Rattle.device.proofs.Cases.{split, le-or-lt}
 use Rattle.tables.specs.Places.{Rising, lower-place, equal-place, highest-from, highest-place}
 use Rattle.summary.specs.Entries.{Entry, rows-of, counts-of, has, without, raised, entered, has-count, without-count, top}
+use Rattle.summary.specs.Steps.{in-rows}
 use Rattle.summary.specs.Rules.{Ordered, ordered-none, ordered-more}
-use Rattle.summary.proofs.Floor.{neither}
+use Rattle.summary.proofs.Rules.Floor.{neither}
 use Rattle.summary.proofs.Laid.{length-rows}
 
 -- a list without a place, and with a number put in before a place
@@ -140,12 +141,6 @@ lower-place-most row [] = omega arith
 lower-place-most row (x ∷ xs) =
     split (ltb x row) (λ on. rw on (omega (arith, lower-place-most row xs))) (λ off. rw off (omega arith))
 
-pub equal-place-most : (x : ℕ) (xs : List ℕ) → equal-place x xs ≤ length xs
-unfolding equal-place
-equal-place-most x [] = omega arith
-equal-place-most x (y ∷ ys) =
-    split (eqb y x) (λ on. rw on (omega arith)) (λ off. rw off (omega (arith, equal-place-most x ys)))
-
 -- ascending rows
 pub row-at : {high low : ℕ} {es : List Entry} → Ordered high low es → (i : ℕ) → i < length es → (low ≤ getD (rows-of es) i 0) × (getD (rows-of es) i 0 < high)
 unfolding rows-of
@@ -231,3 +226,12 @@ highest-row all place at best (x ∷ xs) d h e =
 pub highest-place-top : (x : Entry) (xs : List Entry) → (highest-place (counts-of (x ∷ xs)) < length (x ∷ xs)) × (getD (rows-of (x ∷ xs)) (highest-place (counts-of (x ∷ xs))) 0 ≡ top x xs .row)
 unfolding highest-place counts-of rows-of
 highest-place-top x xs = highest-row (x ∷ xs) 0 1 x xs refl (omega arith) refl
+
+-- whether a row is in a list, by its place there
+pub in-rows-place : (row : ℕ) (xs : List ℕ) → in-rows row xs ≡ ltb (equal-place row xs) (length xs)
+unfolding in-rows equal-place
+in-rows-place row [] = refl
+in-rows-place row (x ∷ xs) =
+    split (eqb x row)
+    (λ on. rw (on, here (length xs)))
+    (λ off. rw (off, further (equal-place row xs) (length xs)) (in-rows-place row xs))

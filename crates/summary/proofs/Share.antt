@@ -14,7 +14,7 @@ use Rattle.summary.specs.Entries.{Entry, without, without-all, top, pick
 use Rattle.summary.specs.Steps.{Summary, drop-rows}
 use Rattle.summary.proofs.Level.{excess, Level, excess-without}
 use Rattle.summary.specs.Rules.{Ceiling, bare, under, Ordered, ordered-none, ordered-more}
-use Rattle.summary.proofs.Order.{ordered-without, ordered-member}
+use Rattle.summary.proofs.Rules.Order.{ordered-without, ordered-member}
 
 -- how many counts are above a level
 above : ℕ → List Entry → ℕ

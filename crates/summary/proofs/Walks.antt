@@ -16,7 +16,7 @@ use Rattle.summary.specs.Steps.{Summary, disturb, disturb-each, drop-row
 use Rattle.summary.specs.Rules.{Room}
 use Rattle.summary.specs.Tables.{read, Holds, Held, PickedFrom}
 use Rattle.summary.proofs.Laid.{length-rows, held-read}
-use Rattle.summary.proofs.Ceiling.{room-more, room-disturb}
+use Rattle.summary.proofs.Rules.Ceiling.{room-more, room-disturb}
 use Rattle.summary.proofs.Places.{equal-place-at, highest-place-top}
 use Rattle.summary.proofs.Stored.{tracked-few, long-rows, used-rows, used-counts, row-at-place}
 use Rattle.summary.proofs.Moves.{held-again}

@@ -24,19 +24,29 @@ unfoldable pub in-rows : ℕ → List ℕ → Bool
 in-rows row [] = false
 in-rows row (x ∷ xs) = eqb x row || in-rows row xs
 
+-- 'its count rises by 1'
+abbrev pub raise : ℕ → Summary → Summary
+raise row s = record { entries = raised row (s .entries); spillover = s .spillover }
+
+-- 'it is entered with spill + 1'
+abbrev pub enter : ℕ → Summary → Summary
+enter row s = record { entries = entered row (s .spillover + 1) (s .entries); spillover = s .spillover }
+
+-- 'the lowest-numbered' of the tracked rows whose count equals the spill 'is dropped'
+abbrev pub make-room : Summary → Summary
+make-room s = record { entries = without-count (s .spillover) (s .entries); spillover = s .spillover }
+
+-- 'the spill rises by 1'
+abbrev pub spill : Summary → Summary
+spill s = record { entries = s .entries; spillover = s .spillover + 1 }
+
 -- 'disturbing one row', in a summary of so many places
 unfoldable pub disturb : ℕ → ℕ → Summary → Summary
 disturb counters row s =
-    cond (has row (s .entries))
-    (record { entries = raised row (s .entries); spillover = s .spillover })
-    (cond (ltb (length (s .entries)) counters)
-    (record { entries = entered row (s .spillover + 1) (s .entries); spillover = s .spillover })
-    (cond (has-count (s .spillover) (s .entries))
-    (record {
-      entries = entered row (s .spillover + 1) (without-count (s .spillover) (s .entries));
-      spillover = s .spillover;
-    })
-    (record { entries = s .entries; spillover = s .spillover + 1 })))
+    cond (has row (s .entries)) (raise row s)
+    (cond (ltb (length (s .entries)) counters) (enter row s)
+    (cond (has-count (s .spillover) (s .entries)) (enter row (make-room s))
+    (spill s)))
 
 -- rows are disturbed one after the other
 unfoldable pub disturb-each : ℕ → List ℕ → Summary → Summary

@@ -4,8 +4,11 @@ use mathlib.Core.Path.{_≡_}
 use mathlib.Core.List.{List, [], _∷_, _++_}
 use lib.ListN.{length, drop, replicate}
 use Rattle.summary.specs.Entries.{Entry, rows-of, counts-of, entered, picks}
-use Rattle.summary.specs.Steps.{Summary}
+use Rattle.summary.specs.Steps.{Summary, drop-rows}
 use Rattle.summary.specs.Rules.{Sound}
+use Rattle.summary.specs.declared.Tally.{Tally}
+use denote.Ref.{RefT, now}
+use denote.Triple.Both.{Both}
 
 -- a table of so many places: numbers at the front, 'all places behind hold 0'
 unfoldable pub table : ℕ → List ℕ → List ℕ
@@ -39,6 +42,25 @@ Held rows counts tracked spillover =
 abbrev pub Left : List ℕ → Summary → List ℕ → List ℕ → ℕ → ℕ → Type 0
 Left rows₀ sum rows counts tracked spillover = Holds (length rows₀) 4294967296 sum rows counts tracked spillover
 
+-- the same of a function's parameters: two lent tables and the tally that goes with them
+abbrev pub Slice : Type 0
+Slice = RefT (List ℕ)
+
+abbrev pub summary : Slice → Slice → Tally → Summary
+summary rows counts t = read (now rows) (now counts) (t .tracked) (t .spillover)
+
+abbrev pub Tracks : Slice → Slice → Tally → Type 0
+Tracks rows counts t = Held (now rows) (now counts) (t .tracked) (t .spillover)
+
+-- the places of a table that was lent
+abbrev pub places : Both Slice Slice → ℕ
+places rows = length (now (rows .entry))
+
+-- what a function makes of the summary that it was lent, in as many places
+abbrev pub Turns : Both Slice Slice → Both Slice Slice → Tally → (Summary → Summary) → Tally → Type 0
+Turns rows counts t step t′ =
+    Left (now (rows .entry)) (step (summary (rows .entry) (counts .entry) t)) (now (rows .exit)) (now (counts .exit)) (t′ .tracked) (t′ .spillover)
+
 -- a row entered with one more than the spillover
 unfoldable pub entered-in : ℕ → Summary → Summary
 entered-in row sum = record { entries = entered row (sum .spillover + 1) (sum .entries); spillover = sum .spillover }
@@ -47,3 +69,11 @@ entered-in row sum = record { entries = entered row (sum .spillover + 1) (sum .e
 pub record PickedFrom (volume : ℕ) (sum : Summary) (list₀ list : List ℕ) (count : ℕ) : Type 0 where
   pub named : list ≡ picks volume (sum .entries) ++ drop (length (picks volume (sum .entries))) list₀
   pub counted : count ≡ length (picks volume (sum .entries))
+
+-- the same of the list that was lent
+abbrev pub Names : Both Slice Slice → ℕ → Summary → ℕ → Type 0
+Names list volume sum count = PickedFrom volume sum (now (list .entry)) (now (list .exit)) count
+
+-- a summary without the rows that are picked
+abbrev pub picked-out : ℕ → Summary → Summary
+picked-out volume sum = drop-rows (picks volume (sum .entries)) sum

@@ -10,7 +10,7 @@ ghost use Rattle.tables.specs.Places.{Rising, equal-place, taken-at};
 ghost use Rattle.summary.specs.Entries.{has, picks as picks-of};
 ghost use Rattle.summary.specs.Steps.{disturb as disturbed, disturb-each, drop-rows, in-rows};
 ghost use Rattle.summary.specs.Rules.{Room};
-ghost use Rattle.summary.specs.Tables.{read, Held, Left, entered-in, PickedFrom};
+ghost use Rattle.summary.specs.Tables.{summary, places, Tracks, Turns, entered-in, Names, picked-out};
 
 // The number of tracked rows and the spillover, which go with the tables.
 pub struct Tally {
@@ -46,7 +46,11 @@ fn lookup(rows: &[u32], tracked: usize, row: u32) -> usize
 // An entry is taken out of both tables.
 fn remove_entry(rows: &mut [u32], counts: &mut [u32], t: Tally, at: usize) -> Tally
     requires { ⌜ (at < t .tracked) × (t .tracked ≤ length (now rows)) × (t .tracked ≤ length (now counts)) ⌝ }
-    ensures { λ r. ⌜ (now (rows .exit) ≡ taken-at (now (rows .entry)) (t .tracked) at) × (now (counts .exit) ≡ taken-at (now (counts .entry)) (t .tracked) at) × (r .tracked ≡ t .tracked - 1) × (r .spillover ≡ t .spillover) ⌝ }
+    ensures { λ r. ⌜
+        (now (rows .exit) ≡ taken-at (now (rows .entry)) (t .tracked) at) ×
+        (now (counts .exit) ≡ taken-at (now (counts .entry)) (t .tracked) at) ×
+        (r .tracked ≡ t .tracked - 1) ×
+        (r .spillover ≡ t .spillover) ⌝ }
 {
     let k = t.tracked;
     tables::remove_at(rows, k, at);
@@ -59,8 +63,8 @@ fn remove_entry(rows: &mut [u32], counts: &mut [u32], t: Tally, at: usize) -> Ta
 
 // A row is dropped if it is tracked.
 pub fn drop_row(rows: &mut [u32], counts: &mut [u32], t: Tally, row: u32) -> Tally
-    requires { ⌜ Held (now rows) (now counts) (t .tracked) (t .spillover) ⌝ }
-    ensures { λ r. ⌜ Left (now (rows .entry)) (drop-rows (row ∷ []) (read (now (rows .entry)) (now (counts .entry)) (t .tracked) (t .spillover))) (now (rows .exit)) (now (counts .exit)) (r .tracked) (r .spillover) ⌝ }
+    requires { ⌜ Tracks rows counts t ⌝ }
+    ensures { λ r. ⌜ Turns rows counts t (drop-rows (row ∷ [])) r ⌝ }
 {
     let p = lookup(rows, t.tracked, row);
     if p < t.tracked {
@@ -72,10 +76,10 @@ pub fn drop_row(rows: &mut [u32], counts: &mut [u32], t: Tally, row: u32) -> Tal
 
 // A row that is not tracked is entered with one more than the spillover; a place is free.
 fn enter(rows: &mut [u32], counts: &mut [u32], t: Tally, row: u32) -> Tally
-    requires { ⌜ Held (now rows) (now counts) (t .tracked) (t .spillover) ⌝ }
+    requires { ⌜ Tracks rows counts t ⌝ }
     requires { ⌜ (t .tracked < length (now rows)) × (t .spillover ≤ 4000000000) ⌝ }
-    requires { ⌜ has row (read (now rows) (now counts) (t .tracked) (t .spillover) .entries) ≡ false ⌝ }
-    ensures { λ r. ⌜ Left (now (rows .entry)) (entered-in row (read (now (rows .entry)) (now (counts .entry)) (t .tracked) (t .spillover))) (now (rows .exit)) (now (counts .exit)) (r .tracked) (r .spillover) ⌝ }
+    requires { ⌜ has row (summary rows counts t .entries) ≡ false ⌝ }
+    ensures { λ r. ⌜ Turns rows counts t (entered-in row) r ⌝ }
 {
     let k = t.tracked;
     let p = tables::lower_bound(rows, k, row);
@@ -89,10 +93,10 @@ fn enter(rows: &mut [u32], counts: &mut [u32], t: Tally, row: u32) -> Tally
 
 // No place is free: the lowest-numbered row at the spillover makes room, or the spillover rises.
 fn disturb_full(rows: &mut [u32], counts: &mut [u32], t: Tally, row: u32) -> Tally
-    requires { ⌜ Held (now rows) (now counts) (t .tracked) (t .spillover) ⌝ }
+    requires { ⌜ Tracks rows counts t ⌝ }
     requires { ⌜ (t .tracked ≡ length (now rows)) × (t .spillover ≤ 4000000000) ⌝ }
-    requires { ⌜ has row (read (now rows) (now counts) (t .tracked) (t .spillover) .entries) ≡ false ⌝ }
-    ensures { λ r. ⌜ Left (now (rows .entry)) (disturbed (length (now (rows .entry))) row (read (now (rows .entry)) (now (counts .entry)) (t .tracked) (t .spillover))) (now (rows .exit)) (now (counts .exit)) (r .tracked) (r .spillover) ⌝ }
+    requires { ⌜ has row (summary rows counts t .entries) ≡ false ⌝ }
+    ensures { λ r. ⌜ Turns rows counts t (disturbed (places rows) row) r ⌝ }
 {
     let k = t.tracked;
     let q = tables::first_equal(counts, k, t.spillover);
@@ -109,9 +113,9 @@ fn disturb_full(rows: &mut [u32], counts: &mut [u32], t: Tally, row: u32) -> Tal
 
 // 'Disturbing one row'.
 pub fn disturb(rows: &mut [u32], counts: &mut [u32], t: Tally, row: u32) -> Tally
-    requires { ⌜ Held (now rows) (now counts) (t .tracked) (t .spillover) ⌝ }
-    requires { ⌜ Room 4000000000 (read (now rows) (now counts) (t .tracked) (t .spillover)) ⌝ }
-    ensures { λ r. ⌜ Left (now (rows .entry)) (disturbed (length (now (rows .entry))) row (read (now (rows .entry)) (now (counts .entry)) (t .tracked) (t .spillover))) (now (rows .exit)) (now (counts .exit)) (r .tracked) (r .spillover) ⌝ }
+    requires { ⌜ Tracks rows counts t ⌝ }
+    requires { ⌜ Room 4000000000 (summary rows counts t) ⌝ }
+    ensures { λ r. ⌜ Turns rows counts t (disturbed (places rows) row) r ⌝ }
 {
     let k = t.tracked;
     let p = lookup(rows, k, row);
@@ -128,9 +132,9 @@ pub fn disturb(rows: &mut [u32], counts: &mut [u32], t: Tally, row: u32) -> Tall
 
 // The rows from one on and below another are disturbed, ascending.
 pub fn disturb_run(rows: &mut [u32], counts: &mut [u32], t: Tally, low: u32, high: u32) -> Tally
-    requires { ⌜ Held (now rows) (now counts) (t .tracked) (t .spillover) ⌝ }
-    requires { ⌜ (high - low ≤ 64) × Room 3999999936 (read (now rows) (now counts) (t .tracked) (t .spillover)) ⌝ }
-    ensures { λ r. ⌜ Left (now (rows .entry)) (disturb-each (length (now (rows .entry))) (rows-between low high) (read (now (rows .entry)) (now (counts .entry)) (t .tracked) (t .spillover))) (now (rows .exit)) (now (counts .exit)) (r .tracked) (r .spillover) ⌝ }
+    requires { ⌜ Tracks rows counts t ⌝ }
+    requires { ⌜ (high - low ≤ 64) × Room 3999999936 (summary rows counts t) ⌝ }
+    ensures { λ r. ⌜ Turns rows counts t (disturb-each (places rows) (rows-between low high)) r ⌝ }
 {
     let mut left = t;
     let mut row = low;
@@ -143,8 +147,8 @@ pub fn disturb_run(rows: &mut [u32], counts: &mut [u32], t: Tally, low: u32, hig
 
 // The rows from one on and below another are dropped.
 pub fn drop_run(rows: &mut [u32], counts: &mut [u32], t: Tally, low: u32, high: u32) -> Tally
-    requires { ⌜ Held (now rows) (now counts) (t .tracked) (t .spillover) ⌝ }
-    ensures { λ r. ⌜ Left (now (rows .entry)) (drop-rows (rows-between low high) (read (now (rows .entry)) (now (counts .entry)) (t .tracked) (t .spillover))) (now (rows .exit)) (now (counts .exit)) (r .tracked) (r .spillover) ⌝ }
+    requires { ⌜ Tracks rows counts t ⌝ }
+    ensures { λ r. ⌜ Turns rows counts t (drop-rows (rows-between low high)) r ⌝ }
 {
     let mut left = t;
     let mut row = low;
@@ -157,9 +161,9 @@ pub fn drop_run(rows: &mut [u32], counts: &mut [u32], t: Tally, low: u32, high: 
 
 // The first entry of the highest count is taken out.
 fn take_top(rows: &mut [u32], counts: &mut [u32], t: Tally) -> Taken
-    requires { ⌜ Held (now rows) (now counts) (t .tracked) (t .spillover) ⌝ }
+    requires { ⌜ Tracks rows counts t ⌝ }
     requires { ⌜ 0 < t .tracked ⌝ }
-    ensures { λ r. ⌜ (r .row ∷ [] ≡ picks-of 1 (read (now (rows .entry)) (now (counts .entry)) (t .tracked) (t .spillover) .entries)) × Left (now (rows .entry)) (drop-rows (r .row ∷ []) (read (now (rows .entry)) (now (counts .entry)) (t .tracked) (t .spillover))) (now (rows .exit)) (now (counts .exit)) (r .tally .tracked) (r .tally .spillover) ⌝ }
+    ensures { λ r. ⌜ (r .row ∷ [] ≡ picks-of 1 (summary (rows .entry) (counts .entry) t .entries)) × Turns rows counts t (drop-rows (r .row ∷ [])) (r .tally) ⌝ }
 {
     let at = tables::first_highest(counts, t.tracked);
     let row = rows[at];
@@ -175,10 +179,10 @@ pub fn pick(
     volume: usize,
     list: &mut [u32],
 ) -> Picked
-    requires { ⌜ Held (now rows) (now counts) (t .tracked) (t .spillover) ⌝ }
+    requires { ⌜ Tracks rows counts t ⌝ }
     requires { ⌜ volume ≤ length (now list) ⌝ }
-    ensures { λ r. ⌜ PickedFrom volume (read (now (rows .entry)) (now (counts .entry)) (t .tracked) (t .spillover)) (now (list .entry)) (now (list .exit)) (r .count) ⌝ }
-    ensures { λ r. ⌜ Left (now (rows .entry)) (drop-rows (picks-of volume (read (now (rows .entry)) (now (counts .entry)) (t .tracked) (t .spillover) .entries)) (read (now (rows .entry)) (now (counts .entry)) (t .tracked) (t .spillover))) (now (rows .exit)) (now (counts .exit)) (r .tally .tracked) (r .tally .spillover) ⌝ }
+    ensures { λ r. ⌜ Names list volume (summary (rows .entry) (counts .entry) t) (r .count) ⌝ }
+    ensures { λ r. ⌜ Turns rows counts t (picked-out volume) (r .tally) ⌝ }
 {
     let mut left = t;
     let mut i: usize = 0;
@@ -199,12 +203,5 @@ pub fn is_listed(list: &[u32], used: usize, row: u32) -> bool
     requires { ⌜ used ≤ length (now list) ⌝ }
     ensures { λ r. ⌜ r ≡ in-rows row (take used (now (list .entry))) ⌝ }
 {
-    let mut i: usize = 0;
-    while i < used {
-        if list[i] == row {
-            return true;
-        }
-        i += 1;
-    }
-    false
+    tables::first_equal(list, used, row) < used
 }

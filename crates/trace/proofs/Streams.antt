@@ -50,11 +50,6 @@ unfolding choose or-refused
 accepted-ended true o r h = refl
 accepted-ended false o r h = let z : _≡_ {A = ℕ} 0 1 = cc in absurd (omega arith)
 
--- so does a record
-pub record-alike : (a b : List ℕ) (p : ℕ) (r : Record) → reading a p .outcome ≡ accepted r → reading (a ++ b) p ≡ reading a p
-unfolding reading reading-by
-record-alike a b p r h = ended-alike a b p (accepted-ended (ended (drop p a)) _ r h)
-
 behind-letter : {says : List ℕ → Option Record} {w : ℕ} → Form says w → w ≤ 42 → (bytes : List ℕ) (r : Record) → says bytes ≡ some r → suc (length bytes) ≤ 43
 behind-letter form h bytes r e = omega (arith, form .wide bytes r e)
 

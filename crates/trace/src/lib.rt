@@ -9,6 +9,9 @@ ghost use Rattle.trace.specs.Lines.{extent, ends-after};
 ghost use Rattle.trace.specs.Records.{seven-settings as seven-of, found-seven, settings as settings-of, activation as activation-of, refresh as refresh-of};
 ghost use Rattle.trace.specs.Reading.{said, reading, reading-by, Handed-on};
 
+// How wide a number is.
+const COLUMNS: usize = 6;
+
 // What some columns hold.
 pub enum Field {
     Number(u32),
@@ -48,7 +51,7 @@ fn line_end(text: &[u8], place: usize) -> usize
 {
     let mut i = place;
     while i < text.len() {
-        if text[i] == 10 {
+        if text[i] == b'\n' {
             return i + 1;
         }
         i += 1;
@@ -62,7 +65,7 @@ fn ends_after(text: &[u8], at: usize, width: usize) -> bool
     ensures { λ r. ⌜ r ≡ ends-after width (drop at (now (text .entry))) ⌝ }
 {
     if width < text.len() - at {
-        text[at + width] == 10
+        text[at + width] == b'\n'
     } else {
         false
     }
@@ -77,13 +80,13 @@ fn digits(text: &[u8], from: usize, end: usize) -> Field
     let mut i = from;
     while i < end {
         let b = text[i];
-        if b < 48 {
+        if b < b'0' {
             return Field::Other;
         }
-        if 57 < b {
+        if b'9' < b {
             return Field::Other;
         }
-        n = n * 10 + (b - 48) as u32;
+        n = n * 10 + (b - b'0') as u32;
         i += 1;
     }
     Field::Number(n)
@@ -94,10 +97,10 @@ fn number(text: &[u8], from: usize) -> Field
     requires { ⌜ from + 6 ≤ length (now text) ⌝ }
     ensures { λ r. ⌜ found r ≡ field from (now (text .entry)) ⌝ }
 {
-    let end = from + 6;
+    let end = from + COLUMNS;
     let mut i = from;
     while i < end {
-        if text[i] != 32 {
+        if text[i] != b' ' {
             return digits(text, i, end);
         }
         i += 1;
@@ -191,16 +194,16 @@ pub fn read_line(text: &[u8], place: usize) -> Read
     }
     let letter = text[place];
     let at = place + 1;
-    if letter == 65 {
+    if letter == b'A' {
         return activation(text, at);
     }
-    if letter == 82 {
+    if letter == b'R' {
         return refresh(text, at);
     }
-    if letter == 83 {
+    if letter == b'S' {
         return settings(text, at);
     }
-    if letter == 10 {
+    if letter == b'\n' {
         return Read::Line(Record::Blank, at);
     }
     Read::Refused(line_end(text, at))

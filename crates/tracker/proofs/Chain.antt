@@ -11,7 +11,7 @@ use Rattle.summary.specs.Steps.{Summary, empty, disturb-each, spread, besides, 
 use Rattle.summary.specs.Rules.{Room, bare, Below, below-none, below-more, Ordered}
 use Rattle.summary.specs.Tables.{read, Holds, PickedFrom}
 use Rattle.summary.proofs.Laid.{held-read}
-use Rattle.summary.proofs.Ceiling.{room-more, room-each, room-drop}
+use Rattle.summary.proofs.Rules.Ceiling.{room-more, room-each, room-drop}
 use Rattle.summary.proofs.Stored.{long-rows}
 use Rattle.summary.proofs.Distinct.{picks-below, picks-few}
 

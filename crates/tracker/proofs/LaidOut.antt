@@ -14,7 +14,7 @@ use Rattle.summary.specs.Steps.{Summary}
 use Rattle.summary.specs.Tables.{table, read}
 use Rattle.summary.proofs.Laid.{length-rows, length-counts, length-table, entries-back}
 use Rattle.summary.specs.Rules.{Floor, Ceiling, bare, under, Ordered, ordered-none, ordered-more, Sound}
-use Rattle.summary.proofs.Floor.{floor-parts}
+use Rattle.summary.proofs.Rules.Floor.{floor-parts}
 use Rattle.tracker.specs.State.{State, summary-of, state-of, zeros, ascending, counts-allowed, valid}
 use Rattle.tracker.specs.Calls.{tables-long}
 

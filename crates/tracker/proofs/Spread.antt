@@ -14,11 +14,11 @@ use Rattle.summary.specs.Rules.{Room, Below, below-none, below-more}
 use Rattle.summary.specs.Tables.{table, read, Holds, Held}
 use Rattle.summary.specs.Entries.{rows-of, counts-of, picks}
 use Rattle.summary.proofs.Event.{without-append}
-use Rattle.summary.proofs.Sound.{sound-empty}
+use Rattle.summary.proofs.Rules.Sound.{sound-empty}
 use Rattle.summary.proofs.Laid.{held-read}
 use Rattle.summary.proofs.Stored.{long-rows}
 use Rattle.summary.proofs.Moves.{held-again}
-use Rattle.summary.proofs.Ceiling.{room-more, room-each}
+use Rattle.summary.proofs.Rules.Ceiling.{room-more, room-each}
 use Rattle.tracker.specs.Calls.{victims-in}
 
 each-append : (counters : ℕ) (xs ys : List ℕ) (s : Summary) → disturb-each counters (xs ++ ys) s ≡ disturb-each counters ys (disturb-each counters xs s)

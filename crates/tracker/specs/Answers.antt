@@ -2,6 +2,8 @@
 use Prim.Native.Nat.{ℕ}
 use mathlib.Core.Bool.{Bool, true, false}
 use mathlib.Core.List.{List}
+use denote.Ref.{RefT, now}
+use denote.Triple.Both.{Both}
 use Rattle.device.specs.Refusal.{Outcome, accepted, refused}
 use Rattle.tracker.specs.declared.Position.{Position}
 use Rattle.tracker.specs.State.{State}
@@ -78,3 +80,19 @@ refresh-call r rows counts picks =
       state = given rows counts (refresh-position r);
       picks = picks;
     }
+
+-- the same of a call's parameters: what the caller lent, and a call's answer with what it left there
+abbrev pub Slice : Type 0
+Slice = RefT (List ℕ)
+
+abbrev pub lent : Slice → Slice → Position → State
+lent rows counts p = given (now rows) (now counts) p
+
+abbrev pub set-up-left : SetUp → Both Slice Slice → Both Slice Slice → SetUp-call
+set-up-left r rows counts = set-up-call r (now (rows .exit)) (now (counts .exit))
+
+abbrev pub activation-left : Activation → Both Slice Slice → Both Slice Slice → Activation-call
+activation-left r rows counts = activation-call r (now (rows .exit)) (now (counts .exit))
+
+abbrev pub refresh-left : Refreshed → Both Slice Slice → Both Slice Slice → Both Slice Slice → Refresh-call
+refresh-left r rows counts list = refresh-call r (now (rows .exit)) (now (counts .exit)) (now (list .exit))

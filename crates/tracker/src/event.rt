@@ -9,7 +9,7 @@ ghost use lib.ListN.{length, take};
 ghost use Rattle.device.specs.Victims.{rows-between};
 ghost use Rattle.summary.specs.Steps.{spread, besides, taken-out, cleared-if, event};
 ghost use Rattle.summary.specs.Rules.{Room, Below, Ordered};
-ghost use Rattle.summary.specs.Tables.{read, Held, Left, PickedFrom};
+ghost use Rattle.summary.specs.Tables.{summary, places, Tracks, Turns, Names};
 ghost use Rattle.tracker.specs.Calls.{victims-in, block-rows, ends-window};
 
 // The picked rows are named at the list's front and dropped, and so are the block's.
@@ -22,10 +22,10 @@ fn take_out(
     high: u32,
     list: &mut [u32],
 ) -> Picked
-    requires { ⌜ Held (now rows) (now counts) (t .tracked) (t .spillover) ⌝ }
+    requires { ⌜ Tracks rows counts t ⌝ }
     requires { ⌜ s .volume ≤ length (now list) ⌝ }
-    ensures { λ r. ⌜ PickedFrom (s .volume) (read (now (rows .entry)) (now (counts .entry)) (t .tracked) (t .spillover)) (now (list .entry)) (now (list .exit)) (r .count) ⌝ }
-    ensures { λ r. ⌜ Left (now (rows .entry)) (taken-out (s .volume) (rows-between low high) (read (now (rows .entry)) (now (counts .entry)) (t .tracked) (t .spillover))) (now (rows .exit)) (now (counts .exit)) (r .tally .tracked) (r .tally .spillover) ⌝ }
+    ensures { λ r. ⌜ Names list (s .volume) (summary (rows .entry) (counts .entry) t) (r .count) ⌝ }
+    ensures { λ r. ⌜ Turns rows counts t (taken-out (s .volume) (rows-between low high)) (r .tally) ⌝ }
 {
     let picked = summary::pick(rows, counts, t, s.volume as usize, list);
     let kept = picked.tally;
@@ -38,8 +38,8 @@ fn take_out(
 
 // Both tables are cleared where the window ends.
 fn clear_if(last: bool, rows: &mut [u32], counts: &mut [u32], t: Tally) -> Tally
-    requires { ⌜ Held (now rows) (now counts) (t .tracked) (t .spillover) ⌝ }
-    ensures { λ r. ⌜ Left (now (rows .entry)) (cleared-if last (read (now (rows .entry)) (now (counts .entry)) (t .tracked) (t .spillover))) (now (rows .exit)) (now (counts .exit)) (r .tracked) (r .spillover) ⌝ }
+    requires { ⌜ Tracks rows counts t ⌝ }
+    ensures { λ r. ⌜ Turns rows counts t (cleared-if last) r ⌝ }
 {
     if last {
         tables::clear(rows);
@@ -62,10 +62,10 @@ fn spread_list(
     list: &[u32],
     used: usize,
 ) -> Tally
-    requires { ⌜ Held (now rows) (now counts) (t .tracked) (t .spillover) ⌝ }
+    requires { ⌜ Tracks rows counts t ⌝ }
     requires { ⌜ (s .«blast_diameter» ≤ 4) × (used ≤ 16) × (used ≤ length (now list)) × Below 65536 (take used (now list)) ⌝ }
-    requires { ⌜ Room 2000000000 (read (now rows) (now counts) (t .tracked) (t .spillover)) ⌝ }
-    ensures { λ r. ⌜ Left (now (rows .entry)) (spread (length (now (rows .entry))) (victims-in s) (take used (now (list .entry))) (read (now (rows .entry)) (now (counts .entry)) (t .tracked) (t .spillover))) (now (rows .exit)) (now (counts .exit)) (r .tracked) (r .spillover) ⌝ }
+    requires { ⌜ Room 2000000000 (summary rows counts t) ⌝ }
+    ensures { λ r. ⌜ Turns rows counts t (spread (places rows) (victims-in s) (take used (now (list .entry)))) r ⌝ }
 {
     let mut left = t;
     let mut i: usize = 0;
@@ -86,10 +86,10 @@ fn spread_unlisted(
     used: usize,
     row: u32,
 ) -> Tally
-    requires { ⌜ Held (now rows) (now counts) (t .tracked) (t .spillover) ⌝ }
+    requires { ⌜ Tracks rows counts t ⌝ }
     requires { ⌜ (s .«blast_diameter» ≤ 4) × (row < 65536) × (used ≤ length (now list)) ⌝ }
-    requires { ⌜ Room 3999999000 (read (now rows) (now counts) (t .tracked) (t .spillover)) ⌝ }
-    ensures { λ r. ⌜ Left (now (rows .entry)) (spread (length (now (rows .entry))) (victims-in s) (besides (take used (now (list .entry))) (row ∷ [])) (read (now (rows .entry)) (now (counts .entry)) (t .tracked) (t .spillover))) (now (rows .exit)) (now (counts .exit)) (r .tracked) (r .spillover) ⌝ }
+    requires { ⌜ Room 3999999000 (summary rows counts t) ⌝ }
+    ensures { λ r. ⌜ Turns rows counts t (spread (places rows) (victims-in s) (besides (take used (now (list .entry))) (row ∷ []))) r ⌝ }
 {
     if summary::is_listed(list, used, row) {
         t
@@ -109,10 +109,10 @@ fn spread_run(
     low: u32,
     high: u32,
 ) -> Tally
-    requires { ⌜ Held (now rows) (now counts) (t .tracked) (t .spillover) ⌝ }
+    requires { ⌜ Tracks rows counts t ⌝ }
     requires { ⌜ (s .«blast_diameter» ≤ 4) × (used ≤ length (now list)) × (high ≤ 65536) × (high - low ≤ 64) ⌝ }
-    requires { ⌜ Room 2000000100 (read (now rows) (now counts) (t .tracked) (t .spillover)) ⌝ }
-    ensures { λ r. ⌜ Left (now (rows .entry)) (spread (length (now (rows .entry))) (victims-in s) (besides (take used (now (list .entry))) (rows-between low high)) (read (now (rows .entry)) (now (counts .entry)) (t .tracked) (t .spillover))) (now (rows .exit)) (now (counts .exit)) (r .tracked) (r .spillover) ⌝ }
+    requires { ⌜ Room 2000000100 (summary rows counts t) ⌝ }
+    ensures { λ r. ⌜ Turns rows counts t (spread (places rows) (victims-in s) (besides (take used (now (list .entry))) (rows-between low high))) r ⌝ }
 {
     let mut left = t;
     let mut row = low;
@@ -132,11 +132,11 @@ pub fn event_tables(
     e: u32,
     list: &mut [u32],
 ) -> Picked
-    requires { ⌜ Held (now rows) (now counts) (t .tracked) (t .spillover) ⌝ }
+    requires { ⌜ Tracks rows counts t ⌝ }
     requires { ⌜ (s .«blast_diameter» ≤ 4) × (s .rows ≤ 65536) × (s .volume ≤ 16) × (s .block ≤ 64) × (1 ≤ s .window) × (e ≤ 8192) × (s .volume ≤ length (now list)) ⌝ }
-    requires { ⌜ Room 2000000000 (read (now rows) (now counts) (t .tracked) (t .spillover)) × Ordered (s .rows) 0 (read (now rows) (now counts) (t .tracked) (t .spillover) .entries) ⌝ }
-    ensures { λ r. ⌜ PickedFrom (s .volume) (read (now (rows .entry)) (now (counts .entry)) (t .tracked) (t .spillover)) (now (list .entry)) (now (list .exit)) (r .count) ⌝ }
-    ensures { λ r. ⌜ Left (now (rows .entry)) (event (length (now (rows .entry))) (victims-in s) (s .volume) (block-rows s e) (ends-window s e) (read (now (rows .entry)) (now (counts .entry)) (t .tracked) (t .spillover))) (now (rows .exit)) (now (counts .exit)) (r .tally .tracked) (r .tally .spillover) ⌝ }
+    requires { ⌜ Room 2000000000 (summary rows counts t) × Ordered (s .rows) 0 (summary rows counts t .entries) ⌝ }
+    ensures { λ r. ⌜ Names list (s .volume) (summary (rows .entry) (counts .entry) t) (r .count) ⌝ }
+    ensures { λ r. ⌜ Turns rows counts t (event (places rows) (victims-in s) (s .volume) (block-rows s e) (ends-window s e)) (r .tally) ⌝ }
 {
     let low = e * s.block;
     let high = victims::smaller(low + s.block, s.rows);

@@ -12,7 +12,7 @@ ghost use mathlib.Core.Bool.{_&&_};
 ghost use Prim.Native.Nat.{_≤_};
 ghost use Rattle.device.specs.Refusal.{first-failed};
 ghost use Rattle.tracker.specs.Calls.{next-event as event-after, tables-long, set-up-tests, activation-tests, refresh-tests, agreement-tests, set-up, activate as activated, refresh as refreshed, agree as agreed};
-ghost use Rattle.tracker.specs.Answers.{given, set-up-call, activation-call, refresh-call, agreement-outcome};
+ghost use Rattle.tracker.specs.Answers.{lent, set-up-left, activation-left, refresh-left, agreement-outcome};
 
 // Where a tracker stands: events so far in this window, activations since the last event, tracked rows, spillover.
 pub struct Position {
@@ -66,7 +66,7 @@ fn set_up_refusal(s: Settings, rows: &[u32], counts: &[u32]) -> u32
 
 // The refusal of an activation, or 0.
 fn activation_refusal(s: Settings, rows: &[u32], counts: &[u32], p: Position, row: u32) -> u32
-    ensures { λ r. ⌜ r ≡ first-failed (activation-tests s (given (now (rows .entry)) (now (counts .entry)) p) row) ⌝ }
+    ensures { λ r. ⌜ r ≡ first-failed (activation-tests s (lent (rows .entry) (counts .entry) p) row) ⌝ }
 {
     let k = set_up_refusal(s, rows, counts);
     if k != 0 {
@@ -84,7 +84,7 @@ fn activation_refusal(s: Settings, rows: &[u32], counts: &[u32], p: Position, ro
 
 // The refusal of a refresh event, or 0.
 fn refresh_refusal(s: Settings, rows: &[u32], counts: &[u32], p: Position, list: &[u32]) -> u32
-    ensures { λ r. ⌜ r ≡ first-failed (refresh-tests s (given (now (rows .entry)) (now (counts .entry)) p) (now (list .entry))) ⌝ }
+    ensures { λ r. ⌜ r ≡ first-failed (refresh-tests s (lent (rows .entry) (counts .entry) p) (now (list .entry))) ⌝ }
 {
     let k = set_up_refusal(s, rows, counts);
     if k != 0 {
@@ -98,7 +98,7 @@ fn refresh_refusal(s: Settings, rows: &[u32], counts: &[u32], p: Position, list:
 
 // Sets up: 0 everywhere in both tables, and the position to begin with.
 pub fn set_up(s: Settings, rows: &mut [u32], counts: &mut [u32]) -> SetUp
-    ensures { λ r. ⌜ set-up-call r (now (rows .exit)) (now (counts .exit)) ≡ set-up s (now (rows .entry)) (now (counts .entry)) ⌝ }
+    ensures { λ r. ⌜ set-up-left r rows counts ≡ set-up s (now (rows .entry)) (now (counts .entry)) ⌝ }
 {
     let k = set_up_refusal(s, rows, counts);
     if k != 0 {
@@ -122,8 +122,8 @@ pub fn activate_accepted(
     p: Position,
     row: u32,
 ) -> Position
-    requires { ⌜ first-failed (activation-tests s (given (now rows) (now counts) p) row) ≡ 0 ⌝ }
-    ensures { λ r. ⌜ given (now (rows .exit)) (now (counts .exit)) r ≡ activated s (given (now (rows .entry)) (now (counts .entry)) p) row .state ⌝ }
+    requires { ⌜ first-failed (activation-tests s (lent rows counts p) row) ≡ 0 ⌝ }
+    ensures { λ r. ⌜ lent (rows .exit) (counts .exit) r ≡ activated s (lent (rows .entry) (counts .entry) p) row .state ⌝ }
 {
     let t = Tally {
         tracked: p.tracked as usize,
@@ -147,7 +147,7 @@ pub fn activate(
     p: Position,
     row: u32,
 ) -> Activation
-    ensures { λ r. ⌜ activation-call r (now (rows .exit)) (now (counts .exit)) ≡ activated s (given (now (rows .entry)) (now (counts .entry)) p) row ⌝ }
+    ensures { λ r. ⌜ activation-left r rows counts ≡ activated s (lent (rows .entry) (counts .entry) p) row ⌝ }
 {
     let k = activation_refusal(s, rows, counts, p, row);
     if k != 0 {
@@ -172,8 +172,8 @@ pub fn refresh_accepted(
     p: Position,
     list: &mut [u32],
 ) -> Refreshed
-    requires { ⌜ first-failed (refresh-tests s (given (now rows) (now counts) p) (now list)) ≡ 0 ⌝ }
-    ensures { λ r. ⌜ refresh-call r (now (rows .exit)) (now (counts .exit)) (now (list .exit)) ≡ refreshed s (given (now (rows .entry)) (now (counts .entry)) p) (now (list .entry)) ⌝ }
+    requires { ⌜ first-failed (refresh-tests s (lent rows counts p) (now list)) ≡ 0 ⌝ }
+    ensures { λ r. ⌜ refresh-left r rows counts list ≡ refreshed s (lent (rows .entry) (counts .entry) p) (now (list .entry)) ⌝ }
 {
     let t = Tally {
         tracked: p.tracked as usize,
@@ -200,7 +200,7 @@ pub fn refresh(
     p: Position,
     list: &mut [u32],
 ) -> Refreshed
-    ensures { λ r. ⌜ refresh-call r (now (rows .exit)) (now (counts .exit)) (now (list .exit)) ≡ refreshed s (given (now (rows .entry)) (now (counts .entry)) p) (now (list .entry)) ⌝ }
+    ensures { λ r. ⌜ refresh-left r rows counts list ≡ refreshed s (lent (rows .entry) (counts .entry) p) (now (list .entry)) ⌝ }
 {
     let k = refresh_refusal(s, rows, counts, p, list);
     if k != 0 {
@@ -220,7 +220,7 @@ fn agreement_refusal(
     counts2: &[u32],
     p2: Position,
 ) -> u32
-    ensures { λ r. ⌜ r ≡ first-failed (agreement-tests s (given (now (rows .entry)) (now (counts .entry)) p) s2 (given (now (rows2 .entry)) (now (counts2 .entry)) p2)) ⌝ }
+    ensures { λ r. ⌜ r ≡ first-failed (agreement-tests s (lent (rows .entry) (counts .entry) p) s2 (lent (rows2 .entry) (counts2 .entry) p2)) ⌝ }
 {
     let k = device::settings_refusal(s);
     if k != 0 {
@@ -253,7 +253,7 @@ pub fn agree(
     counts2: &[u32],
     p2: Position,
 ) -> Agreement
-    ensures { λ r. ⌜ agreement-outcome r ≡ agreed s (given (now (rows .entry)) (now (counts .entry)) p) s2 (given (now (rows2 .entry)) (now (counts2 .entry)) p2) ⌝ }
+    ensures { λ r. ⌜ agreement-outcome r ≡ agreed s (lent (rows .entry) (counts .entry) p) s2 (lent (rows2 .entry) (counts2 .entry) p2) ⌝ }
 {
     let k = agreement_refusal(s, rows, counts, p, s2, rows2, counts2, p2);
     if k != 0 {

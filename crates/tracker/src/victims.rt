@@ -6,7 +6,7 @@ ghost use Prim.Native.Nat.{_-_, _≤_, _<_, min};
 ghost use lib.ListN.{length};
 ghost use Rattle.summary.specs.Steps.{disturb-each, activation};
 ghost use Rattle.summary.specs.Rules.{Room};
-ghost use Rattle.summary.specs.Tables.{read, Held, Left};
+ghost use Rattle.summary.specs.Tables.{summary, places, Tracks, Turns};
 ghost use Rattle.tracker.specs.Calls.{victims-in};
 
 // a - b, not below 0.
@@ -31,10 +31,10 @@ pub fn disturb_victims(
     t: Tally,
     row: u32,
 ) -> Tally
-    requires { ⌜ Held (now rows) (now counts) (t .tracked) (t .spillover) ⌝ }
+    requires { ⌜ Tracks rows counts t ⌝ }
     requires { ⌜ (s .«blast_diameter» ≤ 4) × (row < 65536) ⌝ }
-    requires { ⌜ Room 3999999000 (read (now rows) (now counts) (t .tracked) (t .spillover)) ⌝ }
-    ensures { λ r. ⌜ Left (now (rows .entry)) (disturb-each (length (now (rows .entry))) (victims-in s row) (read (now (rows .entry)) (now (counts .entry)) (t .tracked) (t .spillover))) (now (rows .exit)) (now (counts .exit)) (r .tracked) (r .spillover) ⌝ }
+    requires { ⌜ Room 3999999000 (summary rows counts t) ⌝ }
+    ensures { λ r. ⌜ Turns rows counts t (disturb-each (places rows) (victims-in s row)) r ⌝ }
 {
     let reach = s.blast_diameter / 2;
     let low = less_by(row, reach);
@@ -45,10 +45,10 @@ pub fn disturb_victims(
 
 // A row is dropped if tracked, then it disturbs its victims.
 pub fn activate_row(s: Settings, rows: &mut [u32], counts: &mut [u32], t: Tally, row: u32) -> Tally
-    requires { ⌜ Held (now rows) (now counts) (t .tracked) (t .spillover) ⌝ }
+    requires { ⌜ Tracks rows counts t ⌝ }
     requires { ⌜ (s .«blast_diameter» ≤ 4) × (row < 65536) ⌝ }
-    requires { ⌜ Room 3999999000 (read (now rows) (now counts) (t .tracked) (t .spillover)) ⌝ }
-    ensures { λ r. ⌜ Left (now (rows .entry)) (activation (length (now (rows .entry))) (victims-in s) row (read (now (rows .entry)) (now (counts .entry)) (t .tracked) (t .spillover))) (now (rows .exit)) (now (counts .exit)) (r .tracked) (r .spillover) ⌝ }
+    requires { ⌜ Room 3999999000 (summary rows counts t) ⌝ }
+    ensures { λ r. ⌜ Turns rows counts t (activation (places rows) (victims-in s) row) r ⌝ }
 {
     let rest = summary::drop_row(rows, counts, t, row);
     disturb_victims(s, rows, counts, rest, row)

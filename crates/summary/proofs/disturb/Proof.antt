@@ -5,7 +5,7 @@ use native.Mathlib.Omega.{arith}
 use borrow.Author.Needs.{needs}
 use lib.ListN.{length, getD}
 use Rattle.summary.specs.Tables.{read}
-use Rattle.summary.proofs.Ceiling.{count-most}
+use Rattle.summary.proofs.Rules.Ceiling.{count-most}
 use Rattle.summary.proofs.Stored.{tracked-few, long-counts, used-rising, count-at-place}
 use Rattle.summary.proofs.Moves.{has-found, has-missed, risen, disturb-tracked, disturb-free}
 use Rattle.summary.proofs.disturb.Statement.{statement}

@@ -10,7 +10,7 @@ use Rattle.summary.specs.Entries.{without-count}
 use Rattle.summary.specs.Steps.{Summary}
 use Rattle.summary.specs.Tables.{read, Holds}
 use Rattle.summary.proofs.Laid.{held-read}
-use Rattle.summary.proofs.Order.{untracked-without-count}
+use Rattle.summary.proofs.Rules.Order.{untracked-without-count}
 use Rattle.summary.proofs.Stored.{tracked-few, long-rows, long-counts}
 use Rattle.summary.proofs.Moves.{count-missed, exchange-ready, exchange-done, spilt, disturb-spilt}
 use Rattle.summary.proofs.disturb_full.Statement.{statement}

@@ -4,7 +4,7 @@ use Prim.Native.Nat.{_-_}
 use native.Mathlib.Omega.{arith}
 use lib.ListN.{length}
 use Rattle.summary.specs.Tables.{read}
-use Rattle.summary.proofs.Ceiling.{room-more}
+use Rattle.summary.proofs.Rules.Ceiling.{room-more}
 use Rattle.summary.proofs.Stored.{long-rows, long-counts}
 use Rattle.summary.proofs.Walks.{Disturbing, disturbing-ready, disturbing-again, disturbing-done}
 use Rattle.summary.proofs.disturb_run.Statement.{statement}

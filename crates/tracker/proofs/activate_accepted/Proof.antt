@@ -9,7 +9,7 @@ use Rattle.device.specs.Remap.{physical}
 use Rattle.device.proofs.Permutation.{physical-below}
 use Rattle.summary.specs.Steps.{Summary, activation}
 use Rattle.summary.specs.Tables.{Holds}
-use Rattle.summary.proofs.Ceiling.{room-more}
+use Rattle.summary.proofs.Rules.Ceiling.{room-more}
 use Rattle.summary.proofs.Stored.{tracked-few}
 use Rattle.tracker.specs.State.{summary-of, state-of}
 use Rattle.tracker.specs.Calls.{activate, kept-unless, victims-in}

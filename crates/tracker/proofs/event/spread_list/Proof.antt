@@ -7,7 +7,7 @@ use lib.ListN.{length, getD, take, drop}
 use lib.Seq.{getD-take, length-take-le}
 use Rattle.summary.specs.Tables.{read}
 use Rattle.summary.proofs.Columns.{used-step, used-none}
-use Rattle.summary.proofs.Ceiling.{room-more}
+use Rattle.summary.proofs.Rules.Ceiling.{room-more}
 use Rattle.summary.proofs.Stored.{long-rows, long-counts}
 use Rattle.tracker.specs.Calls.{victims-in}
 use Rattle.tracker.proofs.Spread.{Spreading, spreading-ready, spreading-again, spreading-done, spreading-more, victims-four, below-at}

@@ -8,7 +8,7 @@ use Rattle.device.specs.Victims.{rows-between}
 use Rattle.device.proofs.Neighbours.{between-step, between-none}
 use Rattle.summary.specs.Steps.{besides}
 use Rattle.summary.specs.Tables.{read}
-use Rattle.summary.proofs.Ceiling.{room-more}
+use Rattle.summary.proofs.Rules.Ceiling.{room-more}
 use Rattle.summary.proofs.Stored.{long-rows, long-counts}
 use Rattle.tracker.specs.Calls.{victims-in}
 use Rattle.tracker.proofs.Spread.{Spreading, spreading-ready, spreading-beside, spreading-done, spreading-more, victims-four}

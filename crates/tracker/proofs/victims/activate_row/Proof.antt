@@ -4,7 +4,7 @@ use mathlib.Core.List.{[], _∷_}
 use borrow.Author.Needs.{needs}
 use Rattle.summary.specs.Steps.{activation}
 use Rattle.summary.proofs.Laid.{held-read}
-use Rattle.summary.proofs.Ceiling.{room-drop}
+use Rattle.summary.proofs.Rules.Ceiling.{room-drop}
 use Rattle.summary.proofs.Stored.{long-rows}
 use Rattle.summary.proofs.Moves.{held-again}
 use Rattle.tracker.proofs.victims.activate_row.Statement.{statement}

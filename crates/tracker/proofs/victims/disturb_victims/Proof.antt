@@ -6,7 +6,7 @@ use borrow.Author.Needs.{needs}
 use lib.ListN.{length}
 use Rattle.summary.specs.Tables.{read}
 use Rattle.summary.proofs.Laid.{held-read}
-use Rattle.summary.proofs.Ceiling.{room-more}
+use Rattle.summary.proofs.Rules.Ceiling.{room-more}
 use Rattle.summary.proofs.Stored.{long-rows}
 use Rattle.summary.proofs.Moves.{held-again}
 use Rattle.tracker.proofs.Spread.{room-between, victims-split}

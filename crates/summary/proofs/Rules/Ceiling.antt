@@ -4,6 +4,8 @@ use Prim.Native.Nat.{ℕ, zero, suc, _+_, _-_, _*_, _≤_, _<_}
 use native.Mathlib.Omega.{arith}
 use lib.Dec.{eqb, ltb}
 use lib.ListN.{length, getD}
+use Rattle.summary.specs.Tables.{entered-in}
+use Rattle.summary.proofs.DisturbCases.{by-cases}
 use Rattle.device.proofs.Cases.{split}
 use Rattle.summary.specs.Entries.{Entry, counts-of, has, count-or, without, without-all, raised, entered, has-count, without-count}
 use Rattle.summary.specs.Steps.{Summary, estimate, disturb, disturb-each, drop-rows}
@@ -84,28 +86,22 @@ unfolding drop-rows
 room-drop rows r = record { counts = ceiling-without-all rows (r .counts); spilt = r .spilt }
 
 pub room-disturb : {most : ℕ} (counters row : ℕ) (s : Summary) → Room most s → Room (most + 1) (disturb counters row s)
-unfolding disturb
-room-disturb counters row s r =
-    split (has row (s .entries))
-    (λ tracked. rw tracked (record { counts = ceiling-raised row (r .counts); spilt = omega (arith, r .spilt) }))
-    (λ untracked.
-    split (ltb (length (s .entries)) counters)
-    (λ free.
-    rw (untracked, free)
-    (record {
-      counts = ceiling-entered row (s .spillover + 1) (ceiling-higher (r .counts) (omega arith)) (omega (arith, r .spilt));
-      spilt = omega (arith, r .spilt);
-    }))
-    (λ full.
-    split (has-count (s .spillover) (s .entries))
-    (λ low.
-    rw (untracked, full, low)
-    (record {
-      counts =
-          ceiling-entered row (s .spillover + 1) (ceiling-higher (ceiling-without-count (s .spillover) (r .counts)) (omega arith)) (omega (arith, r .spilt));
-      spilt = omega (arith, r .spilt);
-    }))
-    (λ up. rw (untracked, full, up) (record { counts = ceiling-higher (r .counts) (omega arith); spilt = omega (arith, r .spilt) }))))
+unfolding entered-in
+room-disturb {most} counters row s r =
+    by-cases (λ made. Room (most + 1) made) counters row s
+    (λ tracked. record { counts = ceiling-raised row (r .counts); spilt = more })
+    (λ untracked free. record { counts = ceiling-entered row (s .spillover + 1) higher raised-spill; spilt = more })
+    (λ untracked full low. record { counts = ceiling-entered row (s .spillover + 1) (ceiling-without-count (s .spillover) higher) raised-spill; spilt = more })
+    (λ untracked full high. record { counts = higher; spilt = raised-spill })
+  where
+    more : s .spillover ≤ most + 1
+    more = omega (arith, r .spilt)
+
+    raised-spill : s .spillover + 1 ≤ most + 1
+    raised-spill = omega (arith, r .spilt)
+
+    higher : Ceiling (most + 1) (s .entries)
+    higher = ceiling-higher (r .counts) (omega arith)
 
 pub room-each : {most : ℕ} (counters : ℕ) (rows : List ℕ) (s : Summary) → Room most s → Room (most + length rows) (disturb-each counters rows s)
 unfolding disturb-each

@@ -8,13 +8,14 @@ use native.Mathlib.Omega.{arith}
 use borrow.Author.Tests.{ltb-true}
 use lib.Dec.{eqb, ltb}
 use lib.ListN.{length}
+use Rattle.summary.proofs.DisturbCases.{by-cases}
 use Rattle.device.proofs.Cases.{split}
 use Rattle.summary.specs.Entries.{Entry, has, without, without-all, raised, entered, has-count, without-count}
 use Rattle.summary.specs.Steps.{Summary, empty, disturb, disturb-each, drop-rows}
 use Rattle.summary.specs.Tables.{entered-in}
 use Rattle.summary.specs.Rules.{Floor, floor-none, Ordered, ordered-none, Below, below-none, below-more, Sound}
-use Rattle.summary.proofs.Floor.{floor-lower, floor-without-all, floor-raised, floor-entered, floor-without-count, floor-rises}
-use Rattle.summary.proofs.Order.{ordered-without-all, ordered-raised, ordered-entered, ordered-without-count, untracked-without-count}
+use Rattle.summary.proofs.Rules.Floor.{floor-lower, floor-without-all, floor-raised, floor-entered, floor-without-count, floor-rises}
+use Rattle.summary.proofs.Rules.Order.{ordered-without-all, ordered-raised, ordered-entered, ordered-without-count, untracked-without-count}
 
 length-raised : (row : ℕ) (es : List Entry) → length (raised row es) ≡ length es
 unfolding raised
@@ -93,22 +94,16 @@ module _ {high counters : ℕ} where
       record { floor = floor-lower (omega arith) (floor-rises (k .floor) up); positive = k .positive; ordered = k .ordered; fits = k .fits }
 
   pub sound-disturb : (row : ℕ) (s : Summary) → row < high → Sound high counters s → Sound high counters (disturb counters row s)
-  unfolding disturb entered-in
   sound-disturb row s h k =
-      split (has row (s .entries))
-      (λ tracked. rw tracked (sound-raised row s k))
-      (λ untracked.
-      split (ltb (length (s .entries)) counters)
-      (λ free. rw (untracked, free) (sound-entered row s h untracked (ltb-true (length (s .entries)) counters free) k))
-      (λ full.
-      split (has-count (s .spillover) (s .entries))
-      (λ low.
       let fewer : Summary = record { entries = without-count (s .spillover) (s .entries); spillover = s .spillover } in
-      rw (untracked, full, low)
-      (sound-entered row fewer h (untracked-without-count row (s .spillover) (s .entries) untracked)
+      by-cases (λ made. Sound high counters made) counters row s
+      (λ tracked. sound-raised row s k)
+      (λ untracked free. sound-entered row s h untracked free k)
+      (λ untracked full low.
+      sound-entered row fewer h (untracked-without-count row (s .spillover) (s .entries) untracked)
       (omega (arith, length-exchanged (s .spillover) (s .entries) low, k .fits))
-      (sound-exchanged (s .spillover) s low k)))
-      (λ up. rw (untracked, full, up) (sound-spilt s up k))))
+      (sound-exchanged (s .spillover) s low k))
+      (λ untracked full high. sound-spilt s high k)
 
   pub sound-each : {rows : List ℕ} → Below high rows → {s : Summary} → Sound high counters s → Sound high counters (disturb-each counters rows s)
   unfolding disturb-each

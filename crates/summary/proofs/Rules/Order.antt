@@ -10,7 +10,7 @@ use lib.Dec.{eqb, ltb}
 use Rattle.device.proofs.Cases.{split}
 use Rattle.summary.specs.Entries.{Entry, has, without, without-all, raised, entered, has-count, without-count}
 use Rattle.summary.specs.Rules.{Ordered, ordered-none, ordered-more}
-use Rattle.summary.proofs.Floor.{neither}
+use Rattle.summary.proofs.Rules.Floor.{neither}
 
 pub ordered-from : {high low : ℕ} (low′ : ℕ) {es : List Entry} → Ordered high low es → low′ ≤ low → Ordered high low′ es
 ordered-from low′ ordered-none h = ordered-none

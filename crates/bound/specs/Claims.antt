@@ -1,0 +1,25 @@
+-- What is claimed of the bound and of the least count, besides the calls' contracts. proofs/Claims.antt proves each under the same name.
+use Prim.Native.Nat.{ℕ, _≤_, _<_}
+use mathlib.Core.Path.{_≡_}
+use mathlib.Core.Bool.{true, false}
+use Rattle.device.specs.declared.Settings.{Settings}
+use Rattle.device.specs.Refusal.{accepted, refused}
+use Rattle.bound.specs.Totals.{bound-at, bound-of}
+use Rattle.bound.specs.Least.{with-counters, meets, least-of}
+
+-- a longer window gives no lower bound
+unfoldable pub Bound-grows-with-window : Type 0
+Bound-grows-with-window = (s : Settings) (i k : ℕ) → i ≤ k → bound-at s i ≤ bound-at s k
+
+-- more counters give no higher one
+unfoldable pub Bound-falls-with-counters : Type 0
+Bound-falls-with-counters = (s : Settings) (c d : ℕ) → c ≤ d → bound-of (with-counters s d) ≤ bound-of (with-counters s c)
+
+-- the least count meets the threshold, and no smaller one from V on does
+pub record Least (s : Settings) (threshold c : ℕ) : Type 0 where
+  pub from-volume : s .volume ≤ c
+  pub meets-it : meets s threshold c ≡ true
+  pub none-before : (d : ℕ) → s .volume ≤ d → d < c → meets s threshold d ≡ false
+
+unfoldable pub Least-is-least : Type 0
+Least-is-least = (s : Settings) (threshold c : ℕ) → least-of s threshold ≡ accepted c → Least s threshold c

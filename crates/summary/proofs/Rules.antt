@@ -1,0 +1,5 @@
+-- The rules of specs/Rules.antt, kept by every step.
+pub mod Floor
+pub mod Order
+pub mod Ceiling
+pub mod Sound
