@@ -4,7 +4,7 @@ use mathlib.Core.Logic.{⊎-elim}
 use Prim.Native.Nat.{ℕ, zero, suc, _+_, _*_, _/_, _≤_, _<_, min}
 use native.Mathlib.Nat.{div-zero, le-div-iff-mul-le, div-mul-le-self, le-trans, le-refl, mul-le-mul, mul-le-mul-right, mul-comm, mul-right-comm, le-of-mul-le-mul-right, zero-lt-suc}
 use native.Mathlib.Omega.{arith}
-use Rattle.device.proofs.Cases.{le-or-lt}
+use Rattle.laws.proofs.Cases.{le-or-lt}
 use Rattle.bound.specs.Totals.{size}
 
 pub size-positive : (v c j : ℕ) → 0 < size v c j

@@ -7,7 +7,7 @@ use native.Mathlib.Nat.{eq-or-lt-of-le}
 use native.Mathlib.Numerals.{add-one}
 use native.Mathlib.Omega.{arith}
 use lib.ListN.{length, length-append}
-use Rattle.device.proofs.Cases.{le-or-lt}
+use Rattle.laws.proofs.Cases.{le-or-lt}
 use Rattle.device.specs.Victims.{rows-from, rows-between, victims}
 
 -- rows from low on and below high, each above the one before

@@ -7,7 +7,7 @@ use native.Mathlib.Omega.{arith}
 use lib.Dec.{T, eqb, ltb, eqb→eq, ltb→lt, lit<}
 use lib.ListN.{getD}
 use Rattle.device.specs.Remap.{remap-table, physical}
-use Rattle.device.proofs.Table.{at, both-left, both-right}
+use Rattle.laws.proofs.Every.{at, both-left, both-right}
 
 -- an entry is below 16, and the entry at that place is the place itself
 abbrev undone : ℕ → ℕ → Bool

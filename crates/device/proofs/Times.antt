@@ -6,7 +6,7 @@ use Prim.Native.Nat.{ℕ, zero, suc, _+_, _-_, _≤_, _<_}
 use native.Mathlib.Omega.{arith}
 use borrow.Author.Tests.{eqb-true, eqb-false, ne-eqb}
 use lib.Dec.{eqb}
-use Rattle.device.proofs.Cases.{split}
+use Rattle.laws.proofs.Cases.{split}
 use Rattle.device.proofs.Neighbours.{Ascends, none, more, victims-ascend}
 use Rattle.device.specs.Victims.{rows-from, rows-between, victims}
 

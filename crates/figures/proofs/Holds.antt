@@ -1,11 +1,11 @@
 -- The shared theorem of the table: every figure in it is what the definitions give, by one test that is computed over the whole table.
 use mathlib.Core.Path.{_≡_, refl, subst, sym}
-use mathlib.Core.Bool.{Bool, true, false, _&&_}
+use mathlib.Core.Bool.{Bool, true, false, _&&_, cond}
 use mathlib.Core.Logic.{⊎-elim}
 use mathlib.Core.List.{List, [], _∷_, List·Memᴰ, List·Memᴰ·not-nil, List·Memᴰ·cases-cons}
 use Prim.Native.Nat.{ℕ}
 use lib.Dec.{T, eqb, eqb→eq}
-use Rattle.device.proofs.Table.{both-left, both-right}
+use Rattle.laws.proofs.Every.{both-left, both-right}
 use Rattle.device.specs.Refusal.{first-failed, unless, refuse, tested}
 use Rattle.device.specs.Acceptance.{within, rows-allowed, diameter-allowed, block-allowed, settings-tests-with, settings-tests, settings-tests-but-counters}
 use Rattle.device.specs.Remap.{remap-table, physical}
@@ -15,7 +15,7 @@ use Rattle.summary.specs.Steps.{empty, in-rows, disturb, disturb-each, drop-row
 use Rattle.summary.specs.Tables.{table, entries-of, read}
 use Rattle.tracker.specs.State.{summary-of, state-of, zeros, ascending, counts-allowed, valid}
 use Rattle.tracker.specs.Calls.{victims-in, block-rows, ends-window, next-event, tables-long, set-up-tests, activation-tests, refresh-tests, kept-unless, set-up, activate, refresh}
-use Rattle.trace.specs.Numbers.{choose, is-digit, digits, number, field, digit-or-blank, columns-before, printed}
+use Rattle.trace.specs.Numbers.{is-digit, digits, number, field, digit-or-blank, columns-before, printed}
 use Rattle.trace.specs.Lines.{line, ended, extent}
 use Rattle.trace.specs.Records.{and-then, seven-settings, settings, activation as activation-record, refresh as refresh-record, record-of}
 use Rattle.trace.specs.Reading.{or-refused, reading-by, reading}
@@ -66,7 +66,7 @@ unfolding
     table entries-of read summary-of state-of zeros ascending counts-allowed valid
     victims-in block-rows ends-window next-event tables-long set-up-tests activation-tests refresh-tests kept-unless set-up activate refresh
     left-by state-after
-    choose is-digit digits number field digit-or-blank columns-before printed line ended extent
+    cond is-digit digits number field digit-or-blank columns-before printed line ended extent
     and-then seven-settings settings activation-record refresh-record record-of or-refused reading-by reading
     bound-line row-columns refresh-line refusal-line
     start refused-step set-up-step answered activation-step refresh-step record-step line-step step next

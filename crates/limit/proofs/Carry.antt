@@ -6,7 +6,7 @@ use Prim.Native.Nat.{ℕ, suc, _+_, _*_, _≤_, _<_, min}
 use native.Mathlib.Nat.{le-trans}
 use native.Mathlib.Omega.{arith}
 use Rattle.device.specs.declared.Settings.{Settings}
-use Rattle.device.proofs.Cases.{le-or-lt}
+use Rattle.laws.proofs.Cases.{le-or-lt}
 use Rattle.device.proofs.Times.{times-between}
 use Rattle.bound.specs.Totals.{bound-of}
 use Rattle.tracker.specs.Calls.{block-rows}

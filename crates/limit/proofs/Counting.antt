@@ -8,7 +8,7 @@ use native.Mathlib.Omega.{arith}
 use borrow.Author.Tests.{eqb-true, eqb-false, ne-eqb}
 use lib.Dec.{eqb}
 use Rattle.device.specs.declared.Settings.{Settings}
-use Rattle.device.proofs.Cases.{split}
+use Rattle.laws.proofs.Cases.{split}
 use Rattle.device.proofs.Times.{hit, times, hit-other, times-append, times-below}
 use Rattle.device.proofs.Neighbours as Neighbours
 use Rattle.device.proofs.Neighbours.{Ascends}

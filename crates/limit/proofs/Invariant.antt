@@ -16,7 +16,7 @@ use Rattle.device.specs.declared.Settings.{Settings}
 use Rattle.device.specs.Refusal.{first-failed, unless, refuse, Outcome, accepted, tested}
 use Rattle.device.specs.Acceptance.{settings-tests}
 use Rattle.device.specs.Remap.{physical}
-use Rattle.device.proofs.Cases.{split}
+use Rattle.laws.proofs.Cases.{split}
 use Rattle.device.proofs.Times.{hit, times, times-append}
 use Rattle.device.proofs.Permutation.{physical-below}
 use Rattle.device.proofs.Accepted.{Accepted, accepted as accepted-facts, or-later, settings-then}

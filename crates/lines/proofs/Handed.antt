@@ -6,19 +6,18 @@ use native.Mathlib.Nat.{zero-add}
 use native.Mathlib.Omega.{arith}
 use lib.Dec.{eqb}
 use lib.ListN.{length, drop, length-drop}
-use Rattle.device.proofs.Cases.{split}
-use Rattle.trace.specs.Numbers.{choose}
+use Rattle.laws.proofs.Cases.{split}
 use Rattle.trace.specs.Lines.{extent}
 use Rattle.trace.specs.Reading.{reading, reading-by}
 use Rattle.lines.specs.Lines.{lines}
 
 behind-front : (b : ℕ) (bs : List ℕ) → lines (b ∷ bs) ≡ suc (lines (drop (extent (b ∷ bs)) (b ∷ bs)))
-unfolding lines extent choose
+unfolding lines extent
 behind-front b [] = split (eqb b 10) (λ e. rw e) (λ e. rw e)
 behind-front b (c ∷ bs) = split (eqb b 10) (λ e. rw e) (λ e. rw e (behind-front c bs))
 
 extent-some : (b : ℕ) (bs : List ℕ) → 0 < extent (b ∷ bs)
-unfolding extent choose
+unfolding extent
 extent-some b bs = split (eqb b 10) (λ e. rw e (omega arith)) (λ e. rw e (omega arith))
 
 -- what the line's reading leaves of a text that is not empty

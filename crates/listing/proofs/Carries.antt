@@ -9,7 +9,7 @@ use lib.ListN.{length, take, drop, length-append, length-drop, take-append-drop}
 use lib.Seq.{take-at}
 use Rattle.device.specs.declared.Settings.{Settings}
 use Rattle.device.proofs.Accepted.{accepted}
-use Rattle.device.proofs.Cases.{split}
+use Rattle.laws.proofs.Cases.{split}
 use Rattle.tracker.specs.declared.Position.{Position}
 use Rattle.tracker.specs.State.{State}
 use Rattle.tracker.specs.Answers.{given}

@@ -9,12 +9,10 @@ use lib.Dec.{eqb}
 use lib.ListN.{length, take, drop, length-append}
 use lib.Seq.{take-all, length-take-le, drop-append-add}
 use Rattle.device.specs.Refusal.{Outcome, refused}
-use Rattle.device.proofs.Cases.{split, le-or-lt}
+use Rattle.laws.proofs.Cases.{split, le-or-lt, clash}
 use Rattle.trace.specs.declared.Record.{Record}
-use Rattle.trace.specs.Numbers.{choose}
 use Rattle.trace.specs.Lines.{ended, extent}
 use Rattle.trace.specs.Reading.{Reading, reading, reading-by}
-use Rattle.trace.proofs.Choices.{clash}
 use Rattle.trace.proofs.Streams.{unended-refused}
 use Rattle.listing.specs.Steps.{Progress, next}
 use Rattle.listing.specs.Texts.{in-front, lines, whole, read, outcomes, listed, passed, listing, after}
@@ -23,7 +21,7 @@ use Rattle.listing.proofs.Fronts.{lines-front, outcomes-front}
 
 -- behind the end of a line
 lines-cut : (a b : List ℕ) → whole a ≡ true → lines (a ++ b) ≡ lines a ++ lines b
-unfolding lines in-front whole choose
+unfolding lines in-front whole
 lines-cut [] b h = refl
 lines-cut (x ∷ []) b h = rw h
 lines-cut (x ∷ y ∷ ys) b h =
@@ -60,7 +58,7 @@ refused-on u b e h =
     rw (ap (λ (r : Reading). r .outcome) says, far, drop-append-add)
 
 pub ended-less : (n : ℕ) (u : List ℕ) → ended u ≡ false → ended (take n u) ≡ false
-unfolding ended choose
+unfolding ended
 ended-less zero u h = refl
 ended-less (suc n) [] h = refl
 ended-less (suc n) (b ∷ u) h = split (eqb b 10) (λ e. clash (rw e at h)) (λ e. rw e (ended-less n u (rw e at h)))

@@ -7,32 +7,30 @@ use native.Mathlib.Omega.{arith}
 use lib.Dec.{eqb}
 use lib.ListN.{length, take, drop, take-append-drop}
 use lib.Seq.{take-all}
-use Rattle.device.proofs.Cases.{split}
-use Rattle.trace.specs.Numbers.{choose}
+use Rattle.laws.proofs.Cases.{split, clash}
 use Rattle.trace.specs.Lines.{ended, extent}
 use Rattle.trace.specs.Reading.{Reading}
-use Rattle.trace.proofs.Choices.{clash}
 use Rattle.trace.proofs.Streams.{ended-alike}
 use Rattle.listing.specs.Texts.{in-front, lines, read, outcomes}
 
 -- the first line goes as far as the reader goes
 pub lines-front : (b : ℕ) (bs : List ℕ) → lines (b ∷ bs) ≡ take (extent (b ∷ bs)) (b ∷ bs) ∷ lines (drop (extent (b ∷ bs)) (b ∷ bs))
-unfolding lines in-front extent choose
+unfolding lines in-front extent
 lines-front b [] = split (eqb b 10) (λ e. rw e) (λ e. rw e)
 lines-front b (c ∷ cs) = split (eqb b 10) (λ e. rw e) (λ e. rw (e, lines-front c cs))
 
 pub extent-most : (text : List ℕ) → ended text ≡ false → extent text ≡ length text
-unfolding extent ended choose
+unfolding extent ended
 extent-most [] h = refl
 extent-most (b ∷ text) h = split (eqb b 10) (λ e. clash (rw e at h)) (λ e. rw e (ap suc (extent-most text (rw e at h))))
 
 pub extent-within : (text : List ℕ) → extent text ≤ length text
-unfolding extent choose
+unfolding extent
 extent-within [] = omega arith
 extent-within (b ∷ text) = split (eqb b 10) (λ e. rw e (omega arith)) (λ e. rw e (omega (arith, extent-within text)))
 
 ended-front : (text : List ℕ) → ended text ≡ true → ended (take (extent text) text) ≡ true
-unfolding extent ended choose
+unfolding extent ended
 ended-front [] h = clash (sym h)
 ended-front (b ∷ text) h =
     split (eqb b 10) (λ e. rw (e, e)) (λ e. rw (e, e) (ended-front text (rw e at h)))

@@ -9,12 +9,11 @@ use borrow.Author.Tests.{leb-true, le-leb}
 use lib.ListN.{length, take, drop, length-drop}
 use lib.Seq.{drop-drop, length-take-le}
 use Rattle.device.specs.Refusal.{Outcome}
-use Rattle.device.proofs.Cases.{split}
+use Rattle.laws.proofs.Cases.{split, clash}
 use Rattle.trace.specs.declared.Record.{Record}
 use Rattle.trace.specs.Numbers.{written}
 use Rattle.trace.specs.Lines.{ended, extent}
 use Rattle.trace.specs.Reading.{reading, reading-by}
-use Rattle.trace.proofs.Choices.{clash}
 use Rattle.listing.specs.Output.{Prints}
 use Rattle.listing.specs.Steps.{Progress}
 use Rattle.listing.specs.Texts.{whole, read, outcomes, lines, listed, passed, listing, after}

@@ -7,8 +7,7 @@ use Prim.Native.Nat.{ℕ, suc, _+_, _%_, _≤_, _<_}
 use native.Mathlib.Omega.{arith}
 use borrow.Author.Tests.{lt-ltb, le-ltb}
 use lib.ListN.{length, drop, drop-of-length-le}
-use Rattle.device.proofs.Cases.{le-or-lt}
-use Rattle.trace.specs.Numbers.{choose}
+use Rattle.laws.proofs.Cases.{le-or-lt}
 use Rattle.trace.specs.Lines.{ended, extent}
 use Rattle.trace.specs.Reading.{reading, reading-by, or-refused}
 use Rattle.listing.specs.Output.{refusal-line}
@@ -30,7 +29,7 @@ none-listed g [] e = rw none-left
 none-listed g (b ∷ text) e = absurd (omega arith)
 
 unended-listing : (g : Progress) (text : List ℕ) → ended text ≡ false → 0 < length text → listing g text ≡ refusal-line (suc (g .count)) 11
-unfolding listing listed read reading reading-by choose or-refused step line-step refused-step
+unfolding listing listed read reading reading-by or-refused step line-step refused-step
 unended-listing g text e h =
     let rest : drop (extent text) text ≡ [] = drop-of-length-le text {i = extent text} (omega (arith, extent-most text e)) in
     rw (outcomes-front text h, rest, none-left, e, append-nil)

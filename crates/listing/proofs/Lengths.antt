@@ -18,13 +18,11 @@ use Rattle.tracker.specs.Calls.{SetUp-call, refresh}
 use Rattle.limit.specs.Reachable.{Reached}
 use Rattle.trace.specs.declared.Record.{Record}
 use Rattle.trace.specs.declared.Record.the-variants.{Set, Activate, Refresh, Blank}
-use Rattle.trace.specs.Numbers.{choose}
 use Rattle.trace.specs.Lines.{line as line-bytes, ended}
 use Rattle.trace.specs.Records.{record-of}
 use Rattle.trace.specs.Reading.{reading, reading-by, or-refused}
 use Rattle.trace.proofs.Printing.{length-printed}
-use Rattle.device.proofs.Cases.{split}
-use Rattle.trace.proofs.Choices.{clash}
+use Rattle.laws.proofs.Cases.{split, clash}
 use Rattle.listing.specs.Output.{bound-line, refresh-line, refusal-line}
 use Rattle.listing.specs.Steps.{Standing, refused-step, set-up-step, answered, activation-step, refresh-step, record-step, line-step}
 use Rattle.listing.specs.Texts.{read}
@@ -74,7 +72,7 @@ line-most number t (accepted Blank) r = omega arith
 
 -- a line that ended and has one byte is blank
 blank-read : (line : List ℕ) → ended line ≡ true → length line ≡ 1 → read line ≡ accepted Blank
-unfolding read reading reading-by or-refused choose ended line-bytes record-of
+unfolding read reading reading-by or-refused ended line-bytes record-of
 blank-read [] e h = absurd (omega arith)
 blank-read (b ∷ []) e h = split (eqb b 10) (λ ten. let same : b ≡ 10 = eqb-true b 10 ten in rw same) (λ other. clash (sym (rw other at e)))
 blank-read (b ∷ c ∷ cs) e h = absurd (omega arith)

@@ -9,19 +9,17 @@ use lib.Dec.{eqb}
 use lib.ListN.{length, getD, take, drop, length-drop, length-take}
 use lib.Seq.{take-add, getD-drop}
 use Rattle.device.specs.Refusal.{Outcome}
-use Rattle.device.proofs.Cases.{split}
+use Rattle.laws.proofs.Cases.{split, clash}
 use Rattle.trace.specs.declared.Record.{Record}
-use Rattle.trace.specs.Numbers.{choose}
 use Rattle.trace.specs.Lines.{ended, extent}
 use Rattle.trace.specs.Reading.{reading, reading-by}
-use Rattle.trace.proofs.Choices.{clash}
 use Rattle.listing.specs.Steps.{Progress, step, next}
 use Rattle.listing.specs.Texts.{in-front, lines, whole, read, outcomes, listed, passed, listing, after}
 use Rattle.listing.proofs.Fronts.{extent-within, read-front}
 use Rattle.listing.proofs.Cuts.{outcomes-cut, listed-append, passed-append}
 
 extent-some : (text : List ℕ) → 0 < length text → 0 < extent text
-unfolding extent choose
+unfolding extent
 extent-some [] h = h
 extent-some (b ∷ text) h = split (eqb b 10) (λ e. rw e (omega arith)) (λ e. rw e (omega arith))
 
@@ -34,7 +32,7 @@ place-within text at h =
 
 -- a line has ended where its last byte is 10
 last-byte : (text : List ℕ) → 0 < length text → eqb (getD text (extent text - 1) 0) 10 ≡ ended text
-unfolding extent ended choose
+unfolding extent ended
 last-byte [] h = absurd (omega arith)
 last-byte (b ∷ []) h = split (eqb b 10) (λ e. rw (e, e)) (λ e. rw (e, e))
 last-byte (b ∷ c ∷ text) h =
@@ -80,7 +78,7 @@ ended-some (b ∷ text) h = omega arith
 
 -- a line that ended is whole
 whole-front : (text : List ℕ) → ended text ≡ true → whole (take (extent text) text) ≡ true
-unfolding extent ended choose whole
+unfolding extent ended whole
 whole-front [] h = clash (sym h)
 whole-front (b ∷ text) h =
     split (eqb b 10)
@@ -91,7 +89,7 @@ whole-front (b ∷ text) h =
 
 -- the first line alone is one line
 line-alone : (text : List ℕ) → 0 < length text → lines (take (extent text) text) ≡ take (extent text) text ∷ []
-unfolding lines in-front extent choose
+unfolding lines in-front extent
 line-alone [] h = absurd (omega arith)
 line-alone (b ∷ []) h = split (eqb b 10) (λ e. rw (e, e)) (λ e. rw (e, e))
 line-alone (b ∷ c ∷ text) h =

@@ -7,7 +7,7 @@ use Prim.Native.Nat.{ℕ, _+_, _≤_, _<_}
 use native.Mathlib.Omega.{arith}
 use borrow.Author.Tests.{le-leb, lt-leb}
 use lib.ListN.{length, drop, length-drop, drop-of-length-le}
-use Rattle.device.proofs.Cases.{split}
+use Rattle.laws.proofs.Cases.{split}
 use Rattle.trace.specs.Lines.{ended, extent}
 use Rattle.trace.specs.Reading.{reading}
 use Rattle.listing.specs.declared.Place.{Place}

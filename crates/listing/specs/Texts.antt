@@ -1,11 +1,10 @@
 -- The listing of a text: its lines, read one after another until no byte is left.
 use Prim.Native.Nat.{ℕ}
-use mathlib.Core.Bool.{Bool, true}
+use mathlib.Core.Bool.{Bool, true, cond}
 use mathlib.Core.List.{List, [], _∷_, _++_, map}
 use lib.Dec.{eqb}
 use Rattle.device.specs.Refusal.{Outcome}
 use Rattle.trace.specs.declared.Record.{Record}
-use Rattle.trace.specs.Numbers.{choose}
 use Rattle.trace.specs.Reading.{reading}
 use Rattle.listing.specs.Steps.{Progress, step, next}
 
@@ -17,7 +16,7 @@ in-front b (l ∷ ls) = (b ∷ l) ∷ ls
 -- the lines of a text: each ends 'behind its byte 10', or 'at the text's end if it has none'
 unfoldable pub lines : List ℕ → List (List ℕ)
 lines [] = []
-lines (b ∷ bs) = choose (eqb b 10) ((b ∷ []) ∷ lines bs) (in-front b (lines bs))
+lines (b ∷ bs) = cond (eqb b 10) ((b ∷ []) ∷ lines bs) (in-front b (lines bs))
 
 -- no line of the text goes on: it is empty, or its last byte is 10
 unfoldable pub whole : List ℕ → Bool

@@ -8,7 +8,7 @@ use native.Mathlib.Omega.{arith}
 use borrow.Author.Tests.{eqb-true, eqb-false, eq-eqb, ne-eqb}
 use lib.Dec.{eqb}
 use lib.ListN.{length, length-append}
-use Rattle.device.proofs.Cases.{split}
+use Rattle.laws.proofs.Cases.{split}
 use Rattle.device.proofs.Times.{hit, times, hit-other}
 use Rattle.summary.specs.Entries.{Entry, has, without, top, picks}
 use Rattle.summary.specs.Steps.{Summary, in-rows, besides, picked, sources}

@@ -5,7 +5,7 @@ use Prim.Native.Nat.{ℕ, _+_, _≤_, _<_}
 use borrow.Author.Tests.{ltb-true, ltb-false}
 use lib.Dec.{ltb}
 use lib.ListN.{length}
-use Rattle.device.proofs.Cases.{split}
+use Rattle.laws.proofs.Cases.{split}
 use Rattle.summary.specs.Entries.{has, has-count, raised, without-count}
 use Rattle.summary.specs.Steps.{Summary, disturb}
 use Rattle.summary.specs.Tables.{entered-in}

@@ -7,7 +7,7 @@ use native.Mathlib.Omega.{arith}
 use borrow.Author.Tests.{eqb-true, eqb-false, ne-eqb}
 use lib.Dec.{eqb, ltb}
 use lib.ListN.{length}
-use Rattle.device.proofs.Cases.{split}
+use Rattle.laws.proofs.Cases.{split}
 use Rattle.device.proofs.Times.{hit, times, hit-most, hit-other}
 use Rattle.summary.specs.Entries.{Entry, has, count-or, without, without-all, raised, entered, has-count, without-count}
 use Rattle.summary.specs.Steps.{Summary, estimate, disturb, disturb-each, drop-rows}

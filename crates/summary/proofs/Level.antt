@@ -9,7 +9,7 @@ use native.Mathlib.Omega.{arith}
 use borrow.Author.Tests.{eqb-true, ltb-true, ltb-false}
 use lib.Dec.{eqb, ltb}
 use lib.ListN.{length}
-use Rattle.device.proofs.Cases.{split, le-or-lt}
+use Rattle.laws.proofs.Cases.{split, le-or-lt}
 use Rattle.summary.specs.Entries.{Entry, has, without, without-all, raised, entered, has-count, without-count}
 use Rattle.summary.specs.Steps.{Summary, disturb, disturb-each, drop-rows}
 use Rattle.summary.specs.Rules.{Floor, floor-none, floor-more}

@@ -9,7 +9,7 @@ use borrow.Author.Tests.{eqb-true, eqb-false, eq-eqb, ne-eqb, ltb-true, ltb-fals
 use lib.Dec.{eqb, ltb, leb·suc-suc}
 use lib.Arith.{lt-of-le-ne}
 use lib.ListN.{length, getD, take, drop, set}
-use Rattle.device.proofs.Cases.{split, le-or-lt}
+use Rattle.laws.proofs.Cases.{split, le-or-lt}
 use Rattle.tables.specs.Places.{Rising, lower-place, equal-place, highest-from, highest-place}
 use Rattle.summary.specs.Entries.{Entry, rows-of, counts-of, has, without, raised, entered, has-count, without-count, top}
 use Rattle.summary.specs.Steps.{in-rows}

@@ -9,7 +9,7 @@ use native.Mathlib.Nat.{le-div-iff-mul-le, mul-le-mul-left, mul-le-mul-right, mu
 use native.Mathlib.Omega.{arith}
 use borrow.Author.Tests.{ltb-true, ltb-false, eq-eqb, ne-eqb}
 use lib.Dec.{eqb, ltb}
-use Rattle.device.proofs.Cases.{split, le-or-lt}
+use Rattle.laws.proofs.Cases.{split, le-or-lt}
 use Rattle.summary.specs.Entries.{Entry, without, without-all, top, picks}
 use Rattle.summary.specs.Steps.{Summary, drop-rows}
 use Rattle.summary.proofs.Level.{excess, Level, excess-without}

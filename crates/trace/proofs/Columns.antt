@@ -11,10 +11,9 @@ use borrow.Author.Tests.{eqb-true, eq-eqb, ne-eqb, leb-true, le-leb, lt-leb}
 use lib.Dec.{eqb, leb}
 use lib.ListN.{length, getD, take, drop}
 use lib.Seq.{slice, slice-cons, slice-empty, take-nil}
-use Rattle.device.proofs.Cases.{split}
-use Rattle.trace.specs.Numbers.{choose, is-digit, digits, number}
+use Rattle.laws.proofs.Cases.{split, clash, missing, cond-test, cond-some}
+use Rattle.trace.specs.Numbers.{is-digit, digits, number}
 use Rattle.trace.specs.Lines.{ended}
-use Rattle.trace.proofs.Choices.{clash, missing, chosen-test, chosen}
 
 pub digit-low : (b : ℕ) → b < 48 → is-digit b ≡ false
 unfolding is-digit
@@ -30,19 +29,19 @@ digit-within b h k = rw (le-leb _ _ h, le-leb _ _ k)
 
 module _ (text : List ℕ) (i end : ℕ) (h : i < end) (fits : end ≤ length text) where
   pub digits-stop : (n : ℕ) → is-digit (getD text i 0) ≡ false → digits n (slice i end text) ≡ none
-  unfolding digits choose
+  unfolding digits
   digits-stop n e = rw (slice-cons i end text 0 h fits, e)
 
   pub digits-on : (n : ℕ) → is-digit (getD text i 0) ≡ true → digits n (slice i end text) ≡ digits (n * 10 + (getD text i 0 - 48)) (slice (i + 1) end text)
-  unfolding digits choose
+  unfolding digits
   digits-on n e = rw (slice-cons i end text 0 h fits, e, add-one i)
 
   pub number-blank : getD text i 0 ≡ 32 → number (slice i end text) ≡ number (slice (i + 1) end text)
-  unfolding number choose
+  unfolding number
   number-blank e = rw (slice-cons i end text 0 h fits, eq-eqb _ _ e, add-one i)
 
   pub number-begins : (getD text i 0 ≡ 32 → ⊥) → number (slice i end text) ≡ digits 0 (slice i end text)
-  unfolding number choose
+  unfolding number
   number-begins e = rw (slice-cons i end text 0 h fits, ne-eqb _ _ e)
 
 pub digits-none : (n end : ℕ) (text : List ℕ) → digits n (slice end end text) ≡ some n
@@ -84,15 +83,15 @@ digit-plain b h =
     (λ e. clash (sym (rw e at h)))
 
 pub digits-plain : (m n : ℕ) (bytes : List ℕ) → digits n bytes ≡ some m → ended bytes ≡ false
-unfolding digits ended choose
+unfolding digits ended
 digits-plain m n [] h = refl
 digits-plain m n (b ∷ bytes) h =
     let rest = digits (n * 10 + (b - 48)) bytes in
-    rw (digit-plain b (chosen-test (is-digit b) rest m h))
-    (digits-plain m (n * 10 + (b - 48)) bytes (chosen (is-digit b) rest m h))
+    rw (digit-plain b (cond-test (is-digit b) rest m h))
+    (digits-plain m (n * 10 + (b - 48)) bytes (cond-some (is-digit b) rest m h))
 
 pub number-plain : (m : ℕ) (bytes : List ℕ) → number bytes ≡ some m → ended bytes ≡ false
-unfolding number ended choose
+unfolding number ended
 number-plain m [] h = missing h
 number-plain m (b ∷ bytes) h =
     split (eqb b 32)

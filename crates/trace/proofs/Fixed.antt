@@ -1,6 +1,6 @@
 -- A line whose records all have one width: the place of its byte 10 decides.
 use mathlib.Core.Path.{_≡_, ap, sym, _∙_}
-use mathlib.Core.Bool.{true, false}
+use mathlib.Core.Bool.{true, false, cond}
 use mathlib.Core.List.{List, _∷_, _++_}
 use mathlib.Core.Option.{Option, none, some}
 use Prim.Native.Nat.{ℕ, suc, _+_, _<_}
@@ -9,13 +9,11 @@ use borrow.Author.Tests.{eqb-true, eq-eqb, lt-ltb, ltb-true}
 use lib.Dec.{ltb}
 use lib.ListN.{length, getD, take, drop, length-append}
 use lib.Seq.{split-at, length-take-le, getD-at, take-at}
-use Rattle.device.proofs.Cases.{split}
+use Rattle.laws.proofs.Cases.{split, clash, missing, either}
 use Rattle.trace.specs.declared.Record.{Record}
-use Rattle.trace.specs.Numbers.{choose}
 use Rattle.trace.specs.Lines.{line, ended, extent, ends-after}
 use Rattle.trace.specs.Reading.{said, or-refused, reading-by}
 use Rattle.trace.specs.declared.Read.the-variants.{Line, Refused}
-use Rattle.trace.proofs.Choices.{clash, missing, either}
 use Rattle.trace.proofs.Ends.{line-is, ended-is, extent-is, ended-splits}
 
 -- every record of this form has so many bytes, none of them byte 10
@@ -43,7 +41,7 @@ ends-splits w text h = rw (ends-byte w text h) at (split-at text w 0 (ends-insid
 module _ {says : List ℕ → Option Record} {w : ℕ} (form : Form says w) (text : List ℕ) (at : ℕ) where
   pub read-accepted : (r : Record) (next : ℕ) → next ≡ at + (w + 1) → ends-after w text ≡ true → says (take w text) ≡ some r
       → said (Line r next) ≡ reading-by says text at
-  unfolding said reading-by choose or-refused
+  unfolding said reading-by or-refused
   read-accepted r next n h e =
       let rest = drop (suc w) text in
       let whole = ends-splits w text h in
@@ -56,8 +54,7 @@ module _ {says : List ℕ → Option Record} {w : ℕ} (form : Form says w) (tex
       rw (is-ended, is-line, e, is-extent, n)
 
   -- no record where the byte 10 stands elsewhere, or where the bytes before it say none
-  nothing : ((r : Record) → ends-after w text ≡ true → says (take w text) ≡ some r → ⊥) → choose (ended text) (says (line text)) none ≡ none
-  unfolding choose
+  nothing : ((r : Record) → ends-after w text ≡ true → says (take w text) ≡ some r → ⊥) → cond (ended text) (says (line text)) none ≡ none
   nothing never =
       split (ended text)
       (λ e.
@@ -73,7 +70,7 @@ module _ {says : List ℕ → Option Record} {w : ℕ} (form : Form says w) (tex
       absurd (never r (ends-here w text inside byte) (rw is-line s))))
       (λ e. rw e)
 
-  refused-so : (next : ℕ) → next ≡ at + extent text → choose (ended text) (says (line text)) none ≡ none → said (Refused next) ≡ reading-by says text at
+  refused-so : (next : ℕ) → next ≡ at + extent text → cond (ended text) (says (line text)) none ≡ none → said (Refused next) ≡ reading-by says text at
   unfolding said reading-by or-refused
   refused-so next n z = rw (z, n)
 

@@ -12,14 +12,15 @@ use lib.Seq.{take-take, drop-drop, length-take-le}
 use Rattle.device.specs.declared.Settings.{Settings}
 use Rattle.trace.specs.declared.Record.{Record}
 use Rattle.trace.specs.declared.Record.the-variants.{Set, Activate}
-use Rattle.trace.specs.Numbers.{choose, number, field, found}
+use Rattle.trace.specs.Numbers.{number, field, found}
 use Rattle.trace.specs.declared.Field.{Field}
 use Rattle.trace.specs.declared.Field.the-variants.{Number, Other}
 use Rattle.trace.specs.declared.Fields.{Fields}
 use Rattle.trace.specs.declared.Fields.the-variants.{Seven, Other as Fewer}
 use Rattle.trace.specs.Lines.{ended}
 use Rattle.trace.specs.Records.{and-then, seven-settings, found-seven, settings, activation, refresh}
-use Rattle.trace.proofs.Choices.{missing, chosen-test, chosen, steps}
+use Rattle.trace.proofs.Options.{steps}
+use Rattle.laws.proofs.Cases.{missing, cond-test, cond-some}
 use Rattle.trace.proofs.Ends.{plain-append}
 use Rattle.trace.proofs.Columns.{slice-columns, number-plain}
 use Rattle.trace.proofs.Fixed.{Form}
@@ -89,12 +90,12 @@ refresh-form = record { wide = refresh-wide; plain = refresh-plain }
 
 activation-wide : (bytes : List ℕ) (r : Record) → activation bytes ≡ some r → length bytes ≡ 6
 unfolding activation
-activation-wide bytes r h = eqb-true (length bytes) 6 (chosen-test (eqb (length bytes) 6) _ r h)
+activation-wide bytes r h = eqb-true (length bytes) 6 (cond-test (eqb (length bytes) 6) _ r h)
 
 activation-plain : (bytes : List ℕ) (r : Record) → activation bytes ≡ some r → ended bytes ≡ false
 unfolding activation
 activation-plain bytes r h =
-    steps (field 0 bytes) _ r (chosen (eqb (length bytes) 6) _ r h)
+    steps (field 0 bytes) _ r (cond-some (eqb (length bytes) 6) _ r h)
     (λ n e k. field-plain 0 n bytes e (none-behind 6 bytes (activation-wide bytes r h)))
 
 pub activation-form : Form activation 6
@@ -102,7 +103,7 @@ activation-form = record { wide = activation-wide; plain = activation-plain }
 
 settings-wide : (bytes : List ℕ) (r : Record) → settings bytes ≡ some r → length bytes ≡ 42
 unfolding settings
-settings-wide bytes r h = eqb-true (length bytes) 42 (chosen-test (eqb (length bytes) 42) _ r h)
+settings-wide bytes r h = eqb-true (length bytes) 42 (cond-test (eqb (length bytes) 42) _ r h)
 
 seven-plain : (bytes : List ℕ) (s : Settings) → length bytes ≡ 42 → seven-settings bytes ≡ some s → ended bytes ≡ false
 unfolding seven-settings
@@ -125,7 +126,7 @@ seven-plain bytes s w h =
 settings-plain : (bytes : List ℕ) (r : Record) → settings bytes ≡ some r → ended bytes ≡ false
 unfolding settings
 settings-plain bytes r h =
-    steps (seven-settings bytes) _ r (chosen (eqb (length bytes) 42) _ r h)
+    steps (seven-settings bytes) _ r (cond-some (eqb (length bytes) 42) _ r h)
     (λ s e k. seven-plain bytes s (settings-wide bytes r h) e)
 
 pub settings-form : Form settings 42
@@ -133,11 +134,11 @@ settings-form = record { wide = settings-wide; plain = settings-plain }
 
 -- what the first bytes of a text say
 pub activation-bytes : (text : List ℕ) → 6 ≤ length text → activation (take 6 text) ≡ and-then (field 0 text) λ row. some (Activate row)
-unfolding activation choose
+unfolding activation
 activation-bytes text h = rw (eq-eqb _ _ (length-take-le 6 text h), field-in 0 6 text (omega arith))
 
 pub settings-bytes : (text : List ℕ) → 42 ≤ length text → settings (take 42 text) ≡ and-then (seven-settings text) λ s. some (Set s)
-unfolding settings seven-settings choose
+unfolding settings seven-settings
 settings-bytes text h =
     rw (
       eq-eqb _ _ (length-take-le 42 text h),

@@ -1,6 +1,6 @@
 -- A line by its first byte.
 use mathlib.Core.Path.{_≡_, refl, sym, _∙_}
-use mathlib.Core.Bool.{Bool, true, false}
+use mathlib.Core.Bool.{Bool, true, false, cond}
 use mathlib.Core.List.{List, _∷_}
 use mathlib.Core.Option.{Option, none}
 use Prim.Native.Nat.{ℕ, suc, _+_, _≤_, _<_}
@@ -13,31 +13,29 @@ use lib.Seq.{drop-cons}
 use Rattle.trace.specs.declared.Record.{Record}
 use Rattle.trace.specs.declared.Record.the-variants.{Blank}
 use Rattle.trace.specs.declared.Read.the-variants.{Line, Refused}
-use Rattle.trace.specs.Numbers.{choose}
 use Rattle.trace.specs.Lines.{line, ended, extent}
 use Rattle.trace.specs.Records.{record-of, settings, activation, refresh}
 use Rattle.trace.specs.Reading.{said, or-refused, reading-by, reading}
 
 -- no byte is left
 pub read-none : (text : List ℕ) (place : ℕ) → length text ≤ place → said (Refused place) ≡ reading text place
-unfolding said reading reading-by or-refused ended extent choose
+unfolding said reading reading-by or-refused ended extent
 read-none text place h = rw (drop-of-length-le text {i = place} h, add-zero)
 
-same-either : (b : Bool) → choose {A = Option Record} b none none ≡ none
-unfolding choose
+same-either : (b : Bool) → cond {A = Option Record} b none none ≡ none
 same-either true = refl
 same-either false = refl
 
 module _ (text : List ℕ) (place : ℕ) (h : place < length text) where
   pub read-blank : getD text place 0 ≡ 10 → said (Line Blank (place + 1)) ≡ reading text place
-  unfolding said reading reading-by or-refused line ended extent choose record-of
+  unfolding said reading reading-by or-refused line ended extent record-of
   read-blank e = rw (drop-cons text place 0 h, eq-eqb _ _ e)
 
   module _ (long : getD text place 0 ≡ 10 → ⊥) where
     -- what the byte's lines say, read from behind it on
     by-letter : (says : List ℕ → Option Record) → ((bytes : List ℕ) → record-of (getD text place 0 ∷ bytes) ≡ says bytes)
         → reading text place ≡ reading-by says (drop (place + 1) text) (place + 1)
-    unfolding reading reading-by line ended extent choose
+    unfolding reading reading-by line ended extent
     by-letter says same =
         let next : (n : ℕ) → place + suc n ≡ place + 1 + n = λ n. omega arith in
         rw (drop-cons text place 0 h, ne-eqb _ _ long, same (line (drop (suc place) text)), next, add-one place)
@@ -48,19 +46,19 @@ module _ (text : List ℕ) (place : ℕ) (h : place < length text) where
     letter-is long says same = by-letter (λ e. long (sym is ∙ e)) says (λ bytes. rw is (same bytes))
 
   pub read-activation : getD text place 0 ≡ 65 → reading text place ≡ reading-by activation (drop (place + 1) text) (place + 1)
-  unfolding record-of choose
+  unfolding record-of
   read-activation e = letter-is 65 e (λ w. omega arith) activation (λ bytes. refl)
 
   pub read-refresh : getD text place 0 ≡ 82 → reading text place ≡ reading-by refresh (drop (place + 1) text) (place + 1)
-  unfolding record-of choose
+  unfolding record-of
   read-refresh e = letter-is 82 e (λ w. omega arith) refresh (λ bytes. refl)
 
   pub read-settings : getD text place 0 ≡ 83 → reading text place ≡ reading-by settings (drop (place + 1) text) (place + 1)
-  unfolding record-of choose
+  unfolding record-of
   read-settings e = letter-is 83 e (λ w. omega arith) settings (λ bytes. refl)
 
   pub read-other : (getD text place 0 ≡ 65 → ⊥) → (getD text place 0 ≡ 82 → ⊥) → (getD text place 0 ≡ 83 → ⊥) → (getD text place 0 ≡ 10 → ⊥)
       → (next : ℕ) → next ≡ place + 1 + extent (drop (place + 1) text) → said (Refused next) ≡ reading text place
-  unfolding record-of choose said reading-by or-refused
+  unfolding record-of said reading-by or-refused
   read-other a r s long next e =
       rw (by-letter long (λ bytes. none) (λ bytes. rw (ne-eqb _ _ s, ne-eqb _ _ a, ne-eqb _ _ r)), same-either (ended (drop (place + 1) text)), e)

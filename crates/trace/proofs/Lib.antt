@@ -1,5 +1,5 @@
 -- Laws of numbers in columns, of lines and of the reader.
-pub mod Choices
+pub mod Options
 pub mod Ends
 pub mod Columns
 pub mod Fixed

@@ -1,6 +1,6 @@
 -- A text that comes in parts: a line that ended reads alike whatever follows, and one with 64 bytes and no end yet is refused whatever follows.
 use mathlib.Core.Path.{_≡_, refl, ap, sym, _∙_}
-use mathlib.Core.Bool.{Bool, true, false}
+use mathlib.Core.Bool.{Bool, true, false, cond}
 use mathlib.Core.Logic.{⊎-elim}
 use mathlib.Core.List.{List, [], _∷_, _++_, append-assoc}
 use mathlib.Core.Option.{Option, none, some}
@@ -10,13 +10,11 @@ use lib.Dec.{eqb}
 use lib.ListN.{length, drop, length-append, length-drop, drop-of-length-le}
 use lib.Seq.{drop-append-le}
 use Rattle.device.specs.Refusal.{accepted, refused}
-use Rattle.device.proofs.Cases.{split, le-or-lt}
+use Rattle.laws.proofs.Cases.{split, le-or-lt, clash, missing, either}
 use Rattle.trace.specs.declared.Record.{Record}
-use Rattle.trace.specs.Numbers.{choose}
 use Rattle.trace.specs.Lines.{line, ended, extent}
 use Rattle.trace.specs.Records.{record-of}
 use Rattle.trace.specs.Reading.{or-refused, reading-by, reading}
-use Rattle.trace.proofs.Choices.{clash, missing, either}
 use Rattle.trace.proofs.Ends.{line-is, ended-is, extent-is, ended-splits, line-plain}
 use Rattle.trace.proofs.Fixed.{Form}
 use Rattle.trace.proofs.Forms.{settings-form, activation-form, refresh-form}
@@ -45,8 +43,8 @@ pub ended-alike : (a b : List ℕ) (p : ℕ) → ended (drop p a) ≡ true → r
 unfolding reading
 ended-alike a b p h = rw (drop-append-le p a b (ended-within a p h)) (by-alike record-of (drop p a) b p h)
 
-accepted-ended : (ends : Bool) (o : Option Record) (r : Record) → or-refused (choose ends o none) ≡ accepted r → ends ≡ true
-unfolding choose or-refused
+accepted-ended : (ends : Bool) (o : Option Record) (r : Record) → or-refused (cond ends o none) ≡ accepted r → ends ≡ true
+unfolding or-refused
 accepted-ended true o r h = refl
 accepted-ended false o r h = let z : _≡_ {A = ℕ} 0 1 = cc in absurd (omega arith)
 
@@ -55,7 +53,7 @@ behind-letter form h bytes r e = omega (arith, form .wide bytes r e)
 
 -- the widest record has 43 bytes before its byte 10
 record-wide : (bytes : List ℕ) (r : Record) → record-of bytes ≡ some r → length bytes ≤ 43
-unfolding record-of choose
+unfolding record-of
 record-wide [] r h = omega arith
 record-wide (b ∷ bytes) r h =
     split (eqb b 83)
@@ -70,19 +68,19 @@ record-wide (b ∷ bytes) r h =
 
 -- a line whose end is still to come goes on in what follows
 line-on : (text more : List ℕ) → ended text ≡ false → line (text ++ more) ≡ text ++ line more
-unfolding line ended choose
+unfolding line ended
 line-on [] more h = refl
 line-on (b ∷ text) more h =
     split (eqb b 10) (λ e. clash (rw e at h)) (λ e. rw e (ap (λ (t : List ℕ). b ∷ t) (line-on text more (rw e at h))))
 
 extent-on-in : (text more : List ℕ) → ended text ≡ false → extent (text ++ more) ≡ length text + extent more
-unfolding extent ended choose
+unfolding extent ended
 extent-on-in [] more h = omega arith
 extent-on-in (b ∷ text) more h =
     split (eqb b 10) (λ e. clash (rw e at h)) (λ e. rw e (omega (arith, extent-on-in text more (rw e at h))))
 
-wide-none : (ends : Bool) (bytes : List ℕ) → 43 < length bytes → or-refused (choose ends (record-of bytes) none) ≡ refused 11
-unfolding or-refused choose
+wide-none : (ends : Bool) (bytes : List ℕ) → 43 < length bytes → or-refused (cond ends (record-of bytes) none) ≡ refused 11
+unfolding or-refused
 wide-none false bytes h = refl
 wide-none true bytes h =
     either (record-of bytes) (λ e. rw e) (λ r e. absurd (omega (arith, record-wide bytes r e)))

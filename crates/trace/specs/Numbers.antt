@@ -1,17 +1,12 @@
 -- Numbers in columns, read and printed.
 use Prim.Native.Nat.{ℕ, zero, suc, _+_, _-_, _*_, _/_, _%_}
-use mathlib.Core.Bool.{Bool, true, false, _&&_}
+use mathlib.Core.Bool.{Bool, true, false, _&&_, cond}
 use mathlib.Core.List.{List, [], _∷_, _++_}
 use mathlib.Core.Option.{Option, none, some}
 use lib.Dec.{leb, eqb}
 use lib.ListN.{length, take, drop}
 use Rattle.trace.specs.declared.Field.{Field}
 use Rattle.trace.specs.declared.Field.the-variants.{Number, Other}
-
--- the first of two where a test holds, else the second
-unfoldable pub choose : {A : Type 0} → Bool → A → A → A
-choose true x y = x
-choose false x y = y
 
 -- 'digit'
 unfoldable pub is-digit : ℕ → Bool
@@ -20,12 +15,12 @@ is-digit b = leb 48 b && leb b 57
 -- digits to the end, behind those that make n
 unfoldable pub digits : ℕ → List ℕ → Option ℕ
 digits n [] = some n
-digits n (b ∷ bs) = choose (is-digit b) (digits (n * 10 + (b - 48)) bs) none
+digits n (b ∷ bs) = cond (is-digit b) (digits (n * 10 + (b - 48)) bs) none
 
 -- 'A number is right-justified': blanks, then at least one digit; leading zeros are allowed
 unfoldable pub number : List ℕ → Option ℕ
 number [] = none
-number (b ∷ bs) = choose (eqb b 32) (number bs) (digits 0 (b ∷ bs))
+number (b ∷ bs) = cond (eqb b 32) (number bs) (digits 0 (b ∷ bs))
 
 -- the number in the 6 columns from a column on
 unfoldable pub field : ℕ → List ℕ → Option ℕ

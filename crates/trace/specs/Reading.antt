@@ -1,4 +1,5 @@
 -- 'The reader': one line's record or refusal 11, and the place behind the line.
+use mathlib.Core.Bool.{cond}
 use Prim.Native.Nat.{ℕ, _+_, min}
 use mathlib.Core.List.{List}
 use mathlib.Core.Option.{Option, none, some}
@@ -6,7 +7,6 @@ use mathlib.Core.Path.{_≡_}
 use lib.ListN.{drop, length}
 use denote.Ref.{RefT, now}
 use Rattle.device.specs.Refusal.{Outcome, accepted, refused}
-use Rattle.trace.specs.Numbers.{choose}
 use Rattle.trace.specs.Lines.{line, ended, extent}
 use Rattle.trace.specs.Records.{record-of}
 use Rattle.trace.specs.declared.Record.{Record}
@@ -31,7 +31,7 @@ or-refused (some r) = accepted r
 -- the line at the front of a text that begins at a place, by what its bytes say; 11 too for 'a last line without byte 10'
 unfoldable pub reading-by : (List ℕ → Option Record) → List ℕ → ℕ → Reading
 reading-by says text place =
-    record { outcome = or-refused (choose (ended text) (says (line text)) none); place = place + extent text }
+    record { outcome = or-refused (cond (ended text) (says (line text)) none); place = place + extent text }
 
 -- 'It reads one line': the one at a place of a text. At or behind the text's end no bytes are left: 11, and that place back
 unfoldable pub reading : List ℕ → ℕ → Reading

@@ -1,10 +1,11 @@
 -- 'Lines': what the bytes of a line say.
+use mathlib.Core.Bool.{cond}
 use Prim.Native.Nat.{ℕ}
 use mathlib.Core.List.{List, [], _∷_}
 use mathlib.Core.Option.{Option, none, some}
 use lib.Dec.{eqb}
 use lib.ListN.{length}
-use Rattle.trace.specs.Numbers.{choose, field}
+use Rattle.trace.specs.Numbers.{field}
 use Rattle.device.specs.declared.Settings.{Settings}
 use Rattle.trace.specs.declared.Fields.{Fields}
 use Rattle.trace.specs.declared.Fields.the-variants.{Seven, Other}
@@ -44,11 +45,11 @@ found-seven Other = none
 
 -- the settings behind an `S`
 unfoldable pub settings : List ℕ → Option Record
-settings bytes = choose (eqb (length bytes) 42) (and-then (seven-settings bytes) λ s. some (Set s)) none
+settings bytes = cond (eqb (length bytes) 42) (and-then (seven-settings bytes) λ s. some (Set s)) none
 
 -- 'a bus row' (logical row) behind an `A`
 unfoldable pub activation : List ℕ → Option Record
-activation bytes = choose (eqb (length bytes) 6) (and-then (field 0 bytes) λ row. some (Activate row)) none
+activation bytes = cond (eqb (length bytes) 6) (and-then (field 0 bytes) λ row. some (Activate row)) none
 
 -- `R` 'alone': nothing behind it
 unfoldable pub refresh : List ℕ → Option Record
@@ -59,6 +60,6 @@ refresh (b ∷ bs) = none
 unfoldable pub record-of : List ℕ → Option Record
 record-of [] = some Blank
 record-of (b ∷ bs) =
-    choose (eqb b 83) (settings bs)
-    (choose (eqb b 65) (activation bs)
-    (choose (eqb b 82) (refresh bs) none))
+    cond (eqb b 83) (settings bs)
+    (cond (eqb b 65) (activation bs)
+    (cond (eqb b 82) (refresh bs) none))

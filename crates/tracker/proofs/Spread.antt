@@ -8,7 +8,7 @@ use lib.ListN.{length, getD, replicate}
 use Rattle.device.specs.declared.Settings.{Settings}
 use Rattle.device.specs.Victims.{rows-between, victims}
 use Rattle.device.proofs.Neighbours.{between-length, victims-few}
-use Rattle.device.proofs.Cases.{split}
+use Rattle.laws.proofs.Cases.{split}
 use Rattle.summary.specs.Steps.{Summary, disturb, disturb-each, spread, in-rows, besides, drop-rows, picked, taken-out, empty}
 use Rattle.summary.specs.Rules.{Room, Below, below-none, below-more}
 use Rattle.summary.specs.Tables.{table, read, Holds, Held}

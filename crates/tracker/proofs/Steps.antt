@@ -10,7 +10,7 @@ use borrow.Author.Tests.{ltb-true, lt-ltb, eqb-true, eqb-false, eq-eqb, ne-eqb}
 use lib.Dec.{ltb, eqb}
 use lib.ListN.{length, drop, getD}
 use lib.Seq.{drop-cons}
-use Rattle.device.proofs.Cases.{split, le-or-lt}
+use Rattle.laws.proofs.Cases.{split, le-or-lt}
 use Rattle.summary.specs.Entries.{Entry, counts-of, count-or}
 use Rattle.summary.specs.Steps.{estimate}
 use Rattle.summary.specs.Tables.{entries-of, read, Holds}

@@ -6,7 +6,7 @@ use lib.Dec.{eqb, ltb}
 use lib.ListN.{length, getD}
 use Rattle.summary.specs.Tables.{entered-in}
 use Rattle.summary.proofs.DisturbCases.{by-cases}
-use Rattle.device.proofs.Cases.{split}
+use Rattle.laws.proofs.Cases.{split}
 use Rattle.summary.specs.Entries.{Entry, counts-of, has, count-or, without, without-all, raised, entered, has-count, without-count}
 use Rattle.summary.specs.Steps.{Summary, estimate, disturb, disturb-each, drop-rows}
 use Rattle.summary.specs.Rules.{Ceiling, bare, under, Room}

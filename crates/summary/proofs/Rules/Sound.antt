@@ -9,7 +9,7 @@ use borrow.Author.Tests.{ltb-true}
 use lib.Dec.{eqb, ltb}
 use lib.ListN.{length}
 use Rattle.summary.proofs.DisturbCases.{by-cases}
-use Rattle.device.proofs.Cases.{split}
+use Rattle.laws.proofs.Cases.{split}
 use Rattle.summary.specs.Entries.{Entry, has, without, without-all, raised, entered, has-count, without-count}
 use Rattle.summary.specs.Steps.{Summary, empty, disturb, disturb-each, drop-rows}
 use Rattle.summary.specs.Tables.{entered-in}

@@ -6,7 +6,7 @@ use Prim.Native.Nat.{ℕ, _+_, _-_, _/_, _≤_, _<_}
 use native.Mathlib.Omega.{arith}
 use lib.ListN.{length, getD, take}
 use lib.Seq.{getD-take, length-take-le}
-use Rattle.device.proofs.Cases.{le-or-lt}
+use Rattle.laws.proofs.Cases.{le-or-lt}
 use Rattle.tables.specs.Places.{Rising, lower-place}
 use Rattle.tables.proofs.Searches.{lower-most, lower-before, lower-at}
 use Rattle.tables.proofs.lower_bound.Statement.{statement}

@@ -1,0 +1,3 @@
+-- Laws that belong to no definition of the product.
+pub mod Cases
+pub mod Every

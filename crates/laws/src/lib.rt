@@ -1,0 +1,1 @@
+// Laws of cases, choices and lists that every crate may cite; no code.
