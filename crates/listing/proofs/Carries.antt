@@ -18,7 +18,8 @@ use Rattle.limit.proofs.Further.{reached-settled, reached-long}
 use Rattle.listing.specs.declared.Place.{Place}
 use Rattle.listing.specs.Output.{Prints}
 use Rattle.listing.specs.Steps.{Standing, Step}
-use Rattle.listing.specs.Carried.{Memory, memory, stood, carried, stored, Running, Ready, Lists, Behind, Leaves}
+use Rattle.listing.specs.Memory.{Memory, memory, stood, carried, stored, Running, Ready}
+use Rattle.listing.specs.Contracts.{Lists, Behind, Leaves}
 
 module _ (m : Memory) where
   pub carried-stands : m .place .stands ≡ true → carried m ≡ stood (m .place .settings) (take (m .place .settings .counters) (m .rows)) (take (m .place .settings .counters) (m .counts)) (m .place .position)

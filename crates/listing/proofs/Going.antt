@@ -17,7 +17,7 @@ use Rattle.trace.specs.Reading.{reading, reading-by}
 use Rattle.listing.specs.Output.{Prints}
 use Rattle.listing.specs.Steps.{Progress}
 use Rattle.listing.specs.Texts.{whole, read, outcomes, lines, listed, passed, listing, after}
-use Rattle.listing.specs.Carried.{Memory, carried, Represents}
+use Rattle.listing.specs.Memory.{Memory, carried, Represents}
 use Rattle.listing.specs.Chunks.{next-number, step-in, Going, gone, takes, going, part}
 use Rattle.listing.proofs.Fronts.{lines-front, extent-within, ended-first, read-front}
 use Rattle.listing.proofs.Writing.{prints-nothing, prints-long, prints-then}

@@ -13,7 +13,7 @@ use Rattle.trace.specs.Reading.{reading, reading-by, or-refused}
 use Rattle.listing.specs.Output.{refusal-line}
 use Rattle.listing.specs.Steps.{Progress, refused-step, line-step, step}
 use Rattle.listing.specs.Texts.{lines, read, outcomes, listed, listing}
-use Rattle.listing.specs.Carried.{Memory, Represents}
+use Rattle.listing.specs.Memory.{Memory, Represents}
 use Rattle.listing.specs.Chunks.{next-number, last-line}
 use Rattle.listing.proofs.Alike.{counted-on, refusal-alike}
 use Rattle.listing.proofs.Lengths.{refusal-length}

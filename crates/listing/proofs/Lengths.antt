@@ -26,7 +26,7 @@ use Rattle.laws.proofs.Cases.{split, clash}
 use Rattle.listing.specs.Output.{bound-line, refresh-line, refusal-line}
 use Rattle.listing.specs.Steps.{Standing, refused-step, set-up-step, answered, activation-step, refresh-step, record-step, line-step}
 use Rattle.listing.specs.Texts.{read}
-use Rattle.listing.specs.Carried.{Running}
+use Rattle.listing.specs.Memory.{Running}
 use Rattle.listing.proofs.Accepts.{event-is, names-few}
 use Rattle.listing.proofs.Turns.{volume-most, list-long}
 use Rattle.listing.proofs.Writing.{length-rows}

@@ -11,7 +11,7 @@ use Rattle.trace.specs.Lines.{ended}
 use Rattle.listing.specs.Output.{Prints}
 use Rattle.listing.specs.Steps.{Progress}
 use Rattle.listing.specs.Texts.{after}
-use Rattle.listing.specs.Carried.{Memory, Ready, Represents}
+use Rattle.listing.specs.Memory.{Memory, Ready, Represents}
 use Rattle.listing.specs.Chunks.{Going, part, kept-bytes, Turned, turned}
 use Rattle.listing.specs.Parts.{Printed, lists, keeps, ends, Part-moves, Chunk-moves, End-moves}
 use Rattle.listing.proofs.Progress.{memory-represents}

@@ -5,7 +5,7 @@ use Prim.Native.Nat.{ℕ, _-_, _≤_}
 use native.Mathlib.Nat.{sub-zero}
 use lib.ListN.{length, take, drop}
 use lib.Seq.{take-at, drop-at, length-take-le}
-use Rattle.listing.specs.Carried.{Behind}
+use Rattle.listing.specs.Contracts.{Behind}
 
 part-long : (n : ℕ) (t t′ : List ℕ) → n ≤ length t → length t′ ≡ length (take (n - 0) t) → length t′ ≡ n
 part-long n t t′ h e = e ∙ rw (sub-zero n) (length-take-le n t h)

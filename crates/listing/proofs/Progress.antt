@@ -12,7 +12,7 @@ use Rattle.limit.proofs.Further.{reached-set-up, reached-activation, reached-re
 use Rattle.trace.specs.declared.Record.{Record}
 use Rattle.trace.specs.declared.Record.the-variants.{Set, Activate, Refresh, Blank}
 use Rattle.listing.specs.Steps.{Standing, Progress, start, Step, refused-step, set-up-step, activation-step, refresh-step, record-step, line-step, step, next}
-use Rattle.listing.specs.Carried.{Memory, memory, start-place, carried, stored, Running, Ready, Represents}
+use Rattle.listing.specs.Memory.{Memory, memory, start-place, carried, stored, Running, Ready, Represents}
 use Rattle.listing.specs.Chunks.{next-number, step-in, next-in}
 use Rattle.listing.proofs.Alike.{counted-on, line-alike}
 use Rattle.listing.proofs.Carries.{stored-carried, stored-ready}

@@ -21,7 +21,8 @@ use Rattle.tracker.specs.Answers.{given, set-up-call}
 use Rattle.trace.specs.declared.Record.the-variants.{Set}
 use Rattle.listing.specs.Output.{Prints}
 use Rattle.listing.specs.Steps.{Standing, refused-step, set-up-step, record-step}
-use Rattle.listing.specs.Carried.{stood, settings-line}
+use Rattle.listing.specs.Memory.{stood}
+use Rattle.listing.specs.Contracts.{settings-line}
 use Rattle.listing.proofs.Alike.{set-up-first}
 
 cleared-first : (s : Settings) → first-failed (set-up-tests s (replicate (s .counters) 0) (replicate (s .counters) 0)) ≡ or-later (first-failed (settings-tests s)) 0

@@ -20,7 +20,8 @@ use Rattle.limit.specs.Reachable.{Reached}
 use Rattle.limit.proofs.Further.{reached-settled}
 use Rattle.listing.specs.Output.{refusal-line, refresh-line, Prints}
 use Rattle.listing.specs.Steps.{answered, activation-step, refresh-step}
-use Rattle.listing.specs.Carried.{Lists, stood}
+use Rattle.listing.specs.Memory.{stood}
+use Rattle.listing.specs.Contracts.{Lists}
 use Rattle.listing.proofs.Writing.{prints-nothing}
 use Rattle.listing.proofs.Accepts.{event-is, event-names, event-leaves, names-few}
 

@@ -4,6 +4,8 @@ use mathlib.Core.Bool.{Bool, _&&_, cond}
 use mathlib.Core.List.{List, [], _∷_, _++_}
 use lib.Dec.{leb, ltb}
 use lib.ListN.{length, take, drop}
+use denote.Ref.{now}
+use Rattle.laws.specs.Lent.{Lent}
 use Rattle.device.specs.Refusal.{Outcome}
 use Rattle.trace.specs.declared.Record.{Record}
 use Rattle.trace.specs.Numbers.{written}
@@ -13,7 +15,7 @@ use Rattle.listing.specs.declared.Chunk.{Chunk}
 use Rattle.listing.specs.Output.{refusal-line}
 use Rattle.listing.specs.Steps.{Step, line-step}
 use Rattle.listing.specs.Texts.{lines, read}
-use Rattle.listing.specs.Carried.{Memory, memory, carried, stored}
+use Rattle.listing.specs.Memory.{Memory, memory-of, carried, stored}
 
 -- the number of the line behind so many
 unfoldable pub next-number : ℕ → ℕ
@@ -87,11 +89,17 @@ unfoldable pub last-line : ℕ → List ℕ → ℕ → List ℕ
 last-line number [] room = []
 last-line number (b ∷ bs) room = cond (ltb room 18) [] (refusal-line number 11)
 
--- what the code's answers say, with what was left in the lent memory
-abbrev pub part-left : Part → List ℕ → List ℕ → List ℕ → Going
-part-left r rows counts buffer =
-    record { memory = memory (r .place) rows counts; taken = r .taken; buffer = buffer; end = r .end }
+-- what the calls' answers say, with what they left in the lent memory
+abbrev pub part-left : Part → Lent → Lent → Lent → Going
+part-left r rows counts out =
+    record { memory = memory-of (r .place) (rows .exit) (counts .exit); taken = r .taken; buffer = now (out .exit); end = r .end }
 
-abbrev pub chunk-left : Chunk → List ℕ → List ℕ → List ℕ → List ℕ → Turned
-chunk-left r rows counts text buffer =
-    record { memory = memory (r .place) rows counts; buffer = buffer; end = r .end; text = text; kept = r .kept }
+abbrev pub chunk-left : Chunk → Lent → Lent → Lent → Lent → Turned
+chunk-left r rows counts text out =
+    record {
+      memory = memory-of (r .place) (rows .exit) (counts .exit);
+      buffer = now (out .exit);
+      end = r .end;
+      text = now (text .exit);
+      kept = r .kept;
+    }

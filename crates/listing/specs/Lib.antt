@@ -2,6 +2,7 @@
 pub mod Output
 pub mod Steps
 pub mod Texts
-pub mod Carried
+pub mod Memory
 pub mod Chunks
 pub mod Parts
+pub mod Contracts

@@ -8,7 +8,7 @@ use lib.ListN.{length, take, drop}
 use Rattle.trace.specs.Lines.{ended}
 use Rattle.listing.specs.Steps.{Progress}
 use Rattle.listing.specs.Texts.{whole, listing, after}
-use Rattle.listing.specs.Carried.{Memory, Represents}
+use Rattle.listing.specs.Memory.{Memory, Represents}
 use Rattle.listing.specs.Chunks.{next-number, part, turned, last-line}
 
 -- from where the listing is, with these bytes at hand and these parts still to come, all that is printed

@@ -6,12 +6,17 @@ mod record;
 use device::Settings;
 use tracker::Position;
 ghost use mathlib.Core.Path.{_≡_};
-ghost use mathlib.Core.List.{_++_};
 ghost use Prim.Native.Nat.{_+_, _*_, _≤_, min};
-ghost use lib.ListN.{length, drop};
-ghost use Rattle.listing.specs.Output.{Prints};
-ghost use Rattle.listing.specs.Carried.{memory, start-place, Ready};
-ghost use Rattle.listing.specs.Chunks.{next-number, part as part-of, part-left, turned, chunk-left, last-line, kept-bytes};
+ghost use lib.ListN.{length};
+ghost use Rattle.listing.specs.Memory.{memory-of, start-place, Ready};
+ghost use Rattle.listing.specs.Contracts.{Prints-into, Copies-front};
+ghost use Rattle.listing.specs.Chunks.{next-number, part, part-left, turned, chunk-left, last-line, kept-bytes};
+
+// Line numbers are printed modulo this.
+const LINES: u64 = 10_000_000_000;
+
+// Room for the longest line that is printed, which has 110 bytes.
+const ROOM: usize = 200;
 
 // Where a listing is: whether a tracker stands, its settings and position, and the lines so far, which count modulo 10,000,000,000.
 pub struct Place {
@@ -80,16 +85,16 @@ pub fn list_part(
     text: &[u8],
     out: &mut [u8],
 ) -> Part
-    requires { ⌜ Ready (memory p (now rows) (now counts)) ⌝ }
-    ensures { λ r. ⌜ part-left r (now (rows .exit)) (now (counts .exit)) (now (out .exit)) ≡ part-of (memory p (now (rows .entry)) (now (counts .entry))) (now (text .entry)) (now (out .entry)) ⌝ }
+    requires { ⌜ Ready (memory-of p rows counts) ⌝ }
+    ensures { λ r. ⌜ part-left r rows counts out ≡ part (memory-of p (rows .entry) (counts .entry)) (now (text .entry)) (now (out .entry)) ⌝ }
 {
     let mut place = p;
     let mut at: usize = 0;
     let mut end: usize = 0;
-    while at < text.len() && 200 <= out.len() - end {
+    while at < text.len() && ROOM <= out.len() - end {
         let answer = trace::read_line(text, at);
         let next = trace::place_behind(answer);
-        if text[next - 1] != 10 {
+        if text[next - 1] != b'\n' {
             return Part {
                 place,
                 taken: at,
@@ -110,7 +115,7 @@ pub fn list_part(
 
 // The end of a trace: what is left of it is a last line without byte 10, which is refused, or nothing.
 pub fn list_end(p: Place, text: &[u8], out: &mut [u8]) -> usize
-    ensures { λ r. ⌜ Prints (now (out .entry)) 0 (last-line (next-number (p .lines)) (now (text .entry)) (length (now (out .entry)))) (now (out .exit)) r ⌝ }
+    ensures { λ r. ⌜ Prints-into out 0 (last-line (next-number (p .lines)) (now (text .entry)) (length (now (out .entry)))) r ⌝ }
 {
     if text.len() == 0 {
         return 0;
@@ -118,7 +123,7 @@ pub fn list_end(p: Place, text: &[u8], out: &mut [u8]) -> usize
     if out.len() < 18 {
         return 0;
     }
-    print::print_refusal(out, 0, p.lines % 10000000000 + 1, 11)
+    print::print_refusal(out, 0, p.lines % LINES + 1, 11)
 }
 
 // The smaller of two numbers.
@@ -130,7 +135,7 @@ fn smaller(a: usize, b: usize) -> usize
 
 // Of the text's bytes from one place to another, the first 64 go to its front; how many they are.
 pub fn keep(text: &mut [u8], from: usize, to: usize) -> usize
-    ensures { λ r. ⌜ (r ≡ length (kept-bytes from to (now (text .entry)))) × (now (text .exit) ≡ kept-bytes from to (now (text .entry)) ++ drop r (now (text .entry))) ⌝ }
+    ensures { λ r. ⌜ Copies-front text (kept-bytes from to (now (text .entry))) r ⌝ }
 {
     let end = smaller(to, text.len());
     let begin = smaller(from, end);
@@ -153,8 +158,8 @@ pub fn list_chunk(
     len: usize,
     out: &mut [u8],
 ) -> Chunk
-    requires { ⌜ Ready (memory p (now rows) (now counts)) × (len ≤ length (now text)) × (55 * len + 200 ≤ length (now out)) ⌝ }
-    ensures { λ r. ⌜ chunk-left r (now (rows .exit)) (now (counts .exit)) (now (text .exit)) (now (out .exit)) ≡ turned (memory p (now (rows .entry)) (now (counts .entry))) (now (text .entry)) len (now (out .entry)) ⌝ }
+    requires { ⌜ Ready (memory-of p rows counts) × (len ≤ length (now text)) × (55 * len + 200 ≤ length (now out)) ⌝ }
+    ensures { λ r. ⌜ chunk-left r rows counts text out ≡ turned (memory-of p (rows .entry) (counts .entry)) (now (text .entry)) len (now (out .entry)) ⌝ }
 {
     let part = list_part(p, rows, counts, &text[0..len], out);
     let place = part.place;

@@ -10,15 +10,15 @@ use tracker::Refreshed;
 use tracker::SetUp;
 ghost use mathlib.Core.Path.{_≡_};
 ghost use Prim.Native.Nat.{_+_, _≤_};
-ghost use lib.ListN.{length, take, replicate};
+ghost use lib.ListN.{length};
 ghost use Rattle.bound.specs.Answers.{outcome, Small};
 ghost use Rattle.trace.specs.declared.Record.the-variants.{Set};
-ghost use Rattle.tracker.specs.Calls.{set-up, activate as activated, refresh as refreshed};
-ghost use Rattle.tracker.specs.Answers.{given, set-up-call, refresh-count, refresh-position};
+ghost use Rattle.tracker.specs.Calls.{activate as activated};
+ghost use Rattle.tracker.specs.Answers.{lent, refresh-count, refresh-position};
 ghost use Rattle.limit.specs.Reachable.{Reached};
-ghost use Rattle.listing.specs.Steps.{record-step, activation-step, refresh-step};
-ghost use Rattle.listing.specs.Output.{Prints};
-ghost use Rattle.listing.specs.Carried.{memory, carried, Lists, Behind, Leaves, settings-line};
+ghost use Rattle.listing.specs.Steps.{record-step, activation-step};
+ghost use Rattle.listing.specs.Memory.{memory-of, carried};
+ghost use Rattle.listing.specs.Contracts.{Prints-into, settings-line, front, event-step, Lists-whole, Lists-front, Keeps-behind, Sets-up-front, Lists-line};
 
 // The number picked.
 fn count_of(answer: Refreshed) -> u32
@@ -51,8 +51,8 @@ fn list_activation(
     out: &mut [u8],
     at: usize,
 ) -> Moved
-    requires { ⌜ Reached s (given (now rows) (now counts) p) × (at + 200 ≤ length (now out)) ⌝ }
-    ensures { λ r. ⌜ Lists (activation-step line s (activated s (given (now (rows .entry)) (now (counts .entry)) p) row)) s (now (rows .exit)) (now (counts .exit)) (r .position) (now (out .entry)) at (now (out .exit)) (r .end) ⌝ }
+    requires { ⌜ Reached s (lent rows counts p) × (at + 200 ≤ length (now out)) ⌝ }
+    ensures { λ r. ⌜ Lists-whole (activation-step line s (activated s (lent (rows .entry) (counts .entry) p) row)) s rows counts out at r ⌝ }
 {
     if s.rows <= row {
         let end = print::print_refusal(out, at, line, 9);
@@ -76,8 +76,8 @@ fn list_event(
     out: &mut [u8],
     at: usize,
 ) -> Moved
-    requires { ⌜ Reached s (given (now rows) (now counts) p) × (at + 200 ≤ length (now out)) ⌝ }
-    ensures { λ r. ⌜ Lists (refresh-step line s (p .events) (refreshed s (given (now (rows .entry)) (now (counts .entry)) p) (replicate (s .volume) 0))) s (now (rows .exit)) (now (counts .exit)) (r .position) (now (out .entry)) at (now (out .exit)) (r .end) ⌝ }
+    requires { ⌜ Reached s (lent rows counts p) × (at + 200 ≤ length (now out)) ⌝ }
+    ensures { λ r. ⌜ Lists-whole (event-step line s (p .events) (lent (rows .entry) (counts .entry) p)) s rows counts out at r ⌝ }
 {
     let mut list = [0; 16];
     let answer = tracker::refresh_accepted(s, rows, counts, p, &mut list);
@@ -97,9 +97,9 @@ pub fn front_activation(
     out: &mut [u8],
     at: usize,
 ) -> Moved
-    requires { ⌜ Reached s (given (take (s .counters) (now rows)) (take (s .counters) (now counts)) p) × (at + 200 ≤ length (now out)) × (s .counters ≤ length (now rows)) × (s .counters ≤ length (now counts)) ⌝ }
-    ensures { λ r. ⌜ Lists (activation-step line s (activated s (given (take (s .counters) (now (rows .entry))) (take (s .counters) (now (counts .entry))) p) row)) s (take (s .counters) (now (rows .exit))) (take (s .counters) (now (counts .exit))) (r .position) (now (out .entry)) at (now (out .exit)) (r .end) ⌝ }
-    ensures { λ r. ⌜ Behind (s .counters) (now (rows .entry)) (now (counts .entry)) (now (rows .exit)) (now (counts .exit)) ⌝ }
+    requires { ⌜ Reached s (front s rows counts p) × (at + 200 ≤ length (now out)) × (s .counters ≤ length (now rows)) × (s .counters ≤ length (now counts)) ⌝ }
+    ensures { λ r. ⌜ Lists-front (activation-step line s (activated s (front s (rows .entry) (counts .entry) p) row)) s rows counts out at r ⌝ }
+    ensures { λ r. ⌜ Keeps-behind s rows counts ⌝ }
 {
     let c = s.counters as usize;
     list_activation(s, &mut rows[0..c], &mut counts[0..c], p, row, line, out, at)
@@ -115,9 +115,9 @@ pub fn front_event(
     out: &mut [u8],
     at: usize,
 ) -> Moved
-    requires { ⌜ Reached s (given (take (s .counters) (now rows)) (take (s .counters) (now counts)) p) × (at + 200 ≤ length (now out)) × (s .counters ≤ length (now rows)) × (s .counters ≤ length (now counts)) ⌝ }
-    ensures { λ r. ⌜ Lists (refresh-step line s (p .events) (refreshed s (given (take (s .counters) (now (rows .entry))) (take (s .counters) (now (counts .entry))) p) (replicate (s .volume) 0))) s (take (s .counters) (now (rows .exit))) (take (s .counters) (now (counts .exit))) (r .position) (now (out .entry)) at (now (out .exit)) (r .end) ⌝ }
-    ensures { λ r. ⌜ Behind (s .counters) (now (rows .entry)) (now (counts .entry)) (now (rows .exit)) (now (counts .exit)) ⌝ }
+    requires { ⌜ Reached s (front s rows counts p) × (at + 200 ≤ length (now out)) × (s .counters ≤ length (now rows)) × (s .counters ≤ length (now counts)) ⌝ }
+    ensures { λ r. ⌜ Lists-front (event-step line s (p .events) (front s (rows .entry) (counts .entry) p)) s rows counts out at r ⌝ }
+    ensures { λ r. ⌜ Keeps-behind s rows counts ⌝ }
 {
     let c = s.counters as usize;
     list_event(s, &mut rows[0..c], &mut counts[0..c], p, line, out, at)
@@ -126,8 +126,8 @@ pub fn front_event(
 // Sets up on the first C places.
 fn front_set_up(s: Settings, rows: &mut [u32], counts: &mut [u32]) -> SetUp
     requires { ⌜ (s .counters ≤ length (now rows)) × (s .counters ≤ length (now counts)) ⌝ }
-    ensures { λ r. ⌜ set-up-call r (take (s .counters) (now (rows .exit))) (take (s .counters) (now (counts .exit))) ≡ set-up s (take (s .counters) (now (rows .entry))) (take (s .counters) (now (counts .entry))) ⌝ }
-    ensures { λ r. ⌜ Behind (s .counters) (now (rows .entry)) (now (counts .entry)) (now (rows .exit)) (now (counts .exit)) ⌝ }
+    ensures { λ r. ⌜ Sets-up-front s rows counts r ⌝ }
+    ensures { λ r. ⌜ Keeps-behind s rows counts ⌝ }
 {
     let c = s.counters as usize;
     tracker::set_up(s, &mut rows[0..c], &mut counts[0..c])
@@ -136,7 +136,7 @@ fn front_set_up(s: Settings, rows: &mut [u32], counts: &mut [u32]) -> SetUp
 // The line of settings, by the bound's answer; the place behind it.
 fn print_settings(out: &mut [u8], at: usize, line: u64, answer: Answer) -> usize
     requires { ⌜ (at + 22 ≤ length (now out)) × Small (outcome answer) ⌝ }
-    ensures { λ r. ⌜ Prints (now (out .entry)) at (settings-line line (outcome answer)) (now (out .exit)) r ⌝ }
+    ensures { λ r. ⌜ Prints-into out at (settings-line line (outcome answer)) r ⌝ }
 {
     match answer {
         Answer::Value(h) => print::print_bound(out, at, h),
@@ -155,7 +155,7 @@ pub fn list_settings(
     at: usize,
 ) -> Listed
     requires { ⌜ (at + 200 ≤ length (now out)) × (length (now rows) ≡ 2048) × (length (now counts) ≡ 2048) ⌝ }
-    ensures { λ r. ⌜ Leaves (record-step line (carried (memory p (now (rows .entry)) (now (counts .entry)))) (Set s)) line (memory p (now (rows .entry)) (now (counts .entry))) (memory (r .place) (now (rows .exit)) (now (counts .exit))) (now (out .entry)) at (now (out .exit)) (r .end) ⌝ }
+    ensures { λ r. ⌜ Lists-line (record-step line (carried (memory-of p (rows .entry) (counts .entry))) (Set s)) line p rows counts out at r ⌝ }
 {
     let end = print_settings(out, at, line, bound::bound(s));
     if device::settings_refusal(s) != 0 {

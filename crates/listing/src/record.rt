@@ -1,4 +1,5 @@
 // One line of a trace, as it was read: its record or its refusal, on the caller's tables of 2,048 places.
+use crate::LINES;
 use crate::Listed;
 use crate::Place;
 use crate::line;
@@ -11,9 +12,10 @@ ghost use Prim.Native.Nat.{_+_, _≤_};
 ghost use lib.ListN.{length};
 ghost use Rattle.trace.specs.declared.Record.the-variants.{Activate, Refresh};
 ghost use Rattle.trace.specs.Reading.{said};
-ghost use Rattle.listing.specs.Steps.{record-step, line-step};
-ghost use Rattle.listing.specs.Carried.{memory, carried, Ready, Leaves};
-ghost use Rattle.listing.specs.Chunks.{next-number};
+ghost use Rattle.listing.specs.Steps.{record-step};
+ghost use Rattle.listing.specs.Memory.{memory-of, carried, Ready};
+ghost use Rattle.listing.specs.Contracts.{Lists-line};
+ghost use Rattle.listing.specs.Chunks.{next-number, step-in};
 
 // A place with the tracker's position as given, and so many lines.
 fn at_line(p: Place, position: Position, lines: u64) -> Place
@@ -38,8 +40,8 @@ fn activation_line(
     out: &mut [u8],
     at: usize,
 ) -> Listed
-    requires { ⌜ Ready (memory p (now rows) (now counts)) × (at + 200 ≤ length (now out)) ⌝ }
-    ensures { λ r. ⌜ Leaves (record-step line (carried (memory p (now (rows .entry)) (now (counts .entry)))) (Activate row)) line (memory p (now (rows .entry)) (now (counts .entry))) (memory (r .place) (now (rows .exit)) (now (counts .exit))) (now (out .entry)) at (now (out .exit)) (r .end) ⌝ }
+    requires { ⌜ Ready (memory-of p rows counts) × (at + 200 ≤ length (now out)) ⌝ }
+    ensures { λ r. ⌜ Lists-line (record-step line (carried (memory-of p (rows .entry) (counts .entry))) (Activate row)) line p rows counts out at r ⌝ }
 {
     let position = p.position;
     if p.stands {
@@ -67,8 +69,8 @@ fn event_line(
     out: &mut [u8],
     at: usize,
 ) -> Listed
-    requires { ⌜ Ready (memory p (now rows) (now counts)) × (at + 200 ≤ length (now out)) ⌝ }
-    ensures { λ r. ⌜ Leaves (record-step line (carried (memory p (now (rows .entry)) (now (counts .entry)))) Refresh) line (memory p (now (rows .entry)) (now (counts .entry))) (memory (r .place) (now (rows .exit)) (now (counts .exit))) (now (out .entry)) at (now (out .exit)) (r .end) ⌝ }
+    requires { ⌜ Ready (memory-of p rows counts) × (at + 200 ≤ length (now out)) ⌝ }
+    ensures { λ r. ⌜ Lists-line (record-step line (carried (memory-of p (rows .entry) (counts .entry))) Refresh) line p rows counts out at r ⌝ }
 {
     let position = p.position;
     if p.stands {
@@ -97,8 +99,8 @@ fn list_record(
     out: &mut [u8],
     at: usize,
 ) -> Listed
-    requires { ⌜ Ready (memory p (now rows) (now counts)) × (at + 200 ≤ length (now out)) ⌝ }
-    ensures { λ r. ⌜ Leaves (record-step line (carried (memory p (now (rows .entry)) (now (counts .entry)))) what) line (memory p (now (rows .entry)) (now (counts .entry))) (memory (r .place) (now (rows .exit)) (now (counts .exit))) (now (out .entry)) at (now (out .exit)) (r .end) ⌝ }
+    requires { ⌜ Ready (memory-of p rows counts) × (at + 200 ≤ length (now out)) ⌝ }
+    ensures { λ r. ⌜ Lists-line (record-step line (carried (memory-of p (rows .entry) (counts .entry))) what) line p rows counts out at r ⌝ }
 {
     let came = p.position;
     match what {
@@ -121,10 +123,10 @@ pub fn list_line(
     out: &mut [u8],
     at: usize,
 ) -> Listed
-    requires { ⌜ Ready (memory p (now rows) (now counts)) × (at + 200 ≤ length (now out)) ⌝ }
-    ensures { λ r. ⌜ Leaves (line-step (next-number (p .lines)) (carried (memory p (now (rows .entry)) (now (counts .entry)))) (said answer .outcome)) (next-number (p .lines)) (memory p (now (rows .entry)) (now (counts .entry))) (memory (r .place) (now (rows .exit)) (now (counts .exit))) (now (out .entry)) at (now (out .exit)) (r .end) ⌝ }
+    requires { ⌜ Ready (memory-of p rows counts) × (at + 200 ≤ length (now out)) ⌝ }
+    ensures { λ r. ⌜ Lists-line (step-in (memory-of p (rows .entry) (counts .entry)) (said answer .outcome)) (next-number (p .lines)) p rows counts out at r ⌝ }
 {
-    let line = p.lines % 10000000000 + 1;
+    let line = p.lines % LINES + 1;
     let Read::Line(what, _) = answer else {
         let position = p.position;
         let end = print::print_refusal(out, at, line, 11);

@@ -9,7 +9,7 @@ use lib.Seq.{take-take, take-at}
 use Rattle.trace.specs.Numbers.{written}
 use Rattle.trace.specs.Lines.{ended}
 use Rattle.listing.specs.Steps.{Progress}
-use Rattle.listing.specs.Carried.{Memory, Represents}
+use Rattle.listing.specs.Memory.{Memory, Represents}
 use Rattle.listing.specs.Chunks.{next-number, last-line}
 use Rattle.listing.specs.Parts.{Printed, comes, Parts-joined, Chunk-moves, End-moves}
 use Rattle.listing.proofs.Progress.{start-represents}

@@ -7,7 +7,7 @@ use native.Mathlib.Nat.{zero-add}
 use native.Mathlib.Omega.{arith}
 use lib.ListN.{length, take}
 use Rattle.listing.specs.Output.{Prints}
-use Rattle.listing.specs.Carried.{Memory, Ready}
+use Rattle.listing.specs.Memory.{Memory, Ready}
 use Rattle.listing.specs.Chunks.{next-number, Turned as Chunked, turned, last-line}
 use Rattle.listing.proofs.Moves.{turned-steady}
 use Rattle.listing.proofs.Last.{last-fits}

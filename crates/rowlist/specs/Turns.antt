@@ -4,10 +4,12 @@ use mathlib.Core.Path.{_≡_}
 use mathlib.Core.Bool.{Bool, true, false}
 use mathlib.Core.List.{List, [], _∷_, _++_}
 use lib.ListN.{length, take, drop}
+use denote.Ref.{now}
+use Rattle.laws.specs.Lent.{Slice, Lent}
 use Rattle.trace.specs.Numbers.{written}
 use Rattle.listing.specs.Steps.{start}
 use Rattle.listing.specs.Texts.{listing}
-use Rattle.listing.specs.Carried.{Memory, memory, start-place}
+use Rattle.listing.specs.Memory.{Memory, memory, memory-of, start-place}
 use Rattle.listing.specs.Chunks.{next-number, turned, last-line}
 use Rattle.listing.specs.Parts.{joined}
 use Rattle.rowlist.specs.declared.Input.{Input}
@@ -66,14 +68,23 @@ turn-of m text kept Failed buffer =
       more = false;
     }
 
--- what the code's answer says, with what was left in the lent memory
-abbrev pub turn-left : Turn → List ℕ → List ℕ → List ℕ → List ℕ → Turned
-turn-left r rows counts text buffer =
+-- the same of the code's parameters: a turn from the one before it, what is asked for it, and what its answer says with what it left
+abbrev pub turn-from : Turn → Lent → Lent → Lent → Input → Lent → Turned
+turn-from from rows counts text input out =
+    turn-of (memory-of (from .place) (rows .entry) (counts .entry)) (now (text .entry)) (from .kept) input (now (out .entry))
+
+pub record Readable (from : Turn) (input : Input) (text out : Slice) : Type 0 where
+  pub within : Within input (from .kept) (length (now text))
+  pub few : from .kept ≤ length (now text)
+  pub room : 55 * length (now text) + 200 ≤ length (now out)
+
+abbrev pub turn-left : Turn → Lent → Lent → Lent → Lent → Turned
+turn-left r rows counts text out =
     record {
-      memory = memory (r .place) rows counts;
-      text = text;
+      memory = memory-of (r .place) (rows .exit) (counts .exit);
+      text = now (text .exit);
       kept = r .kept;
-      buffer = buffer;
+      buffer = now (out .exit);
       end = r .end;
       more = r .more;
     }

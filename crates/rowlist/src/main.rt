@@ -6,8 +6,8 @@ ghost use mathlib.Core.Path.{_≡_};
 ghost use mathlib.Core.Bool.{true};
 ghost use Prim.Native.Nat.{_+_, _*_, _≤_};
 ghost use lib.ListN.{length};
-ghost use Rattle.listing.specs.Carried.{memory, start-place, Ready};
-ghost use Rattle.rowlist.specs.Turns.{Within, Came, turn-of, turn-left};
+ghost use Rattle.listing.specs.Memory.{memory-of, start-place, Ready};
+ghost use Rattle.rowlist.specs.Turns.{Readable, Came, turn-from, turn-left};
 
 // What a read came to: so many bytes at hand, the input's end, or a failure.
 enum Input {
@@ -51,8 +51,8 @@ fn between_reads(
     input: Input,
     out: &mut [u8],
 ) -> Turn
-    requires { ⌜ Ready (memory (from .place) (now rows) (now counts)) × Within input (from .kept) (length (now text)) × (from .kept ≤ length (now text)) × (55 * length (now text) + 200 ≤ length (now out)) ⌝ }
-    ensures { λ r. ⌜ turn-left r (now (rows .exit)) (now (counts .exit)) (now (text .exit)) (now (out .exit)) ≡ turn-of (memory (from .place) (now (rows .entry)) (now (counts .entry))) (now (text .entry)) (from .kept) input (now (out .entry)) ⌝ }
+    requires { ⌜ Ready (memory-of (from .place) rows counts) × Readable from input text out ⌝ }
+    ensures { λ r. ⌜ turn-left r rows counts text out ≡ turn-from from rows counts text input out ⌝ }
 {
     let place = from.place;
     let kept = from.kept;

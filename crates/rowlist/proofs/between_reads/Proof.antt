@@ -11,8 +11,8 @@ list-chunk-requires : tie.Need-list-chunk-requires
 unfolding Within
 list-chunk-requires c κs =
     let a = c .before .before .before .before .before .before .before .before .before .before .before .before in
-    let within = rw (c .before .before .before .before .before .input .given .1) at (a .pre .1) in
-    (a .pre .0, within .1, omega (arith, within .1, a .pre .3))
+    let within = rw (c .before .before .before .before .before .input .given .1) at (a .pre .1 .within) in
+    (a .pre .0, within .1, omega (arith, within .1, a .pre .1 .room))
 
 returns : tie.Need-returns
 returns c = rw (c .before .before .before .before .before .before .before .before .before .before .before .before .before .before .before .input .given .1) (turn-chunk _ _ _ _ _ _ (c .before .before .before .before .before .before .before .before .before .list-chunk .ensures))

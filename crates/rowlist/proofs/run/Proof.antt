@@ -6,7 +6,7 @@ use native.Mathlib.Omega.{arith}
 use borrow.Author.Needs.{needs}
 use lib.ListN.{length}
 use lib.Seq.{length-take-le}
-use Rattle.listing.specs.Carried.{memory, Ready}
+use Rattle.listing.specs.Memory.{memory, Ready}
 use Rattle.listing.proofs.Progress.{start-represents}
 use Rattle.rowlist.specs.declared.Turn.{Turn}
 use Rattle.rowlist.proofs.Steady.{turn-steady}
@@ -45,8 +45,14 @@ read-behind-requires c κs = let l = c .before .before .loop .inv in omega (arit
 between-reads-requires : tie.Need-between-reads-requires Inv-loop μ-loop
 between-reads-requires c κs =
     let l = c .before .before .before .before .before .before .before .before .before .loop .inv in
-    let r = c .before .before .before .before .before .before .read-behind in
-    (l .ready, r .ensures .within, omega (arith, r .kept .0, l .text-long, l .few), omega (arith, r .kept .0, l .text-long, l .out-long))
+    let r = c .before .before .before .before .before .before .read-behind in (
+      l .ready,
+      record {
+        within = r .ensures .within;
+        few = omega (arith, r .kept .0, l .text-long, l .few);
+        room = omega (arith, r .kept .0, l .text-long, l .out-long);
+      },
+    )
 
 slice-reshare-prefix-write-all : tie.Need-slice-reshare-prefix-write-all Inv-loop μ-loop
 slice-reshare-prefix-write-all c =

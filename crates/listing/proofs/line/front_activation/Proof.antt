@@ -4,7 +4,7 @@ use borrow.Author.Needs.{needs}
 use Rattle.tracker.specs.Calls.{activate}
 use Rattle.listing.specs.Steps.{activation-step}
 use Rattle.tracker.specs.Answers.{given}
-use Rattle.listing.specs.Carried.{Lists}
+use Rattle.listing.specs.Contracts.{Lists}
 use Rattle.listing.proofs.Parts.{fronts, fronts-behind}
 use Rattle.listing.proofs.line.front_activation.Statement.{statement}
 use Rattle.listing.proofs.line.front_activation.Tie as tie

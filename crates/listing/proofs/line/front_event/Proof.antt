@@ -5,7 +5,7 @@ use lib.ListN.{replicate}
 use Rattle.tracker.specs.Calls.{refresh}
 use Rattle.listing.specs.Steps.{refresh-step}
 use Rattle.tracker.specs.Answers.{given}
-use Rattle.listing.specs.Carried.{Lists}
+use Rattle.listing.specs.Contracts.{Lists}
 use Rattle.listing.proofs.Parts.{fronts, fronts-behind}
 use Rattle.listing.proofs.line.front_event.Statement.{statement}
 use Rattle.listing.proofs.line.front_event.Tie as tie

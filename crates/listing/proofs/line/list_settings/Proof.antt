@@ -6,7 +6,7 @@ use lib.ListN.{take}
 use Rattle.device.proofs.Accepted.{accepted}
 use Rattle.bound.proofs.Narrow.{bound-answer-small}
 use Rattle.tracker.specs.Answers.{given}
-use Rattle.listing.specs.Carried.{memory, stood, carried, stored}
+use Rattle.listing.specs.Memory.{memory, stood, carried, stored}
 use Rattle.listing.proofs.Carries.{front-put}
 use Rattle.listing.proofs.Settled.{settings-printed, settings-refused, settings-stand}
 use Rattle.listing.proofs.line.list_settings.Statement.{statement}

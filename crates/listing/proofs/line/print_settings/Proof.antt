@@ -2,7 +2,7 @@
 use native.Mathlib.Omega.{arith}
 use borrow.Author.Needs.{needs}
 use Rattle.bound.specs.Answers.{outcome, Small}
-use Rattle.listing.specs.Carried.{settings-line}
+use Rattle.listing.specs.Contracts.{settings-line}
 use Rattle.listing.proofs.line.print_settings.Statement.{statement}
 use Rattle.listing.proofs.line.print_settings.Tie as tie
 

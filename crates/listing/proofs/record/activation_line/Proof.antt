@@ -1,7 +1,7 @@
 -- `listing::record::activation_line` meets its contract.
 use borrow.Author.Needs.{needs}
 use Rattle.listing.specs.Steps.{record-step, refused-step}
-use Rattle.listing.specs.Carried.{memory, stood}
+use Rattle.listing.specs.Memory.{memory, stood}
 use Rattle.listing.proofs.Carries.{carried-stands, carried-none, running-stands, counters-most, moved-on, stays}
 use Rattle.listing.proofs.record.activation_line.Statement.{statement}
 use Rattle.listing.proofs.record.activation_line.Tie as tie

@@ -2,7 +2,7 @@
 use borrow.Author.Needs.{needs}
 use Rattle.tracker.specs.Answers.{given}
 use Rattle.listing.specs.Steps.{record-step, refused-step}
-use Rattle.listing.specs.Carried.{memory, stood}
+use Rattle.listing.specs.Memory.{memory, stood}
 use Rattle.listing.proofs.Carries.{carried-stands, carried-none, running-stands, counters-most, moved-on, stays}
 use Rattle.listing.proofs.record.event_line.Statement.{statement}
 use Rattle.listing.proofs.record.event_line.Tie as tie

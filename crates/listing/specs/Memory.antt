@@ -1,18 +1,18 @@
--- How the code carries a listing from line to line: a place, and tables of 2,048 places of which the first C are the tracker's.
+-- How a listing is carried from line to line: a place, and two lent tables of 2,048 places, of which the first C are the tracker's.
 use Prim.Native.Nat.{ℕ, _%_}
 use mathlib.Core.Path.{_≡_}
 use mathlib.Core.Bool.{true, false, cond}
 use mathlib.Core.List.{List, _++_}
 use mathlib.Core.Option.{Option, none, some}
 use lib.ListN.{length, take, drop}
+use denote.Ref.{now}
+use Rattle.laws.specs.Lent.{Slice}
 use Rattle.device.specs.declared.Settings.{Settings}
-use Rattle.device.specs.Refusal.{Outcome, accepted, refused}
 use Rattle.tracker.specs.declared.Position.{Position}
 use Rattle.tracker.specs.Answers.{given}
 use Rattle.limit.specs.Reachable.{Reached}
 use Rattle.listing.specs.declared.Place.{Place}
-use Rattle.listing.specs.Output.{bound-line, refusal-line, Prints}
-use Rattle.listing.specs.Steps.{Standing, Progress, Step}
+use Rattle.listing.specs.Steps.{Standing, Progress}
 
 -- what the caller keeps of a listing: where it is, and both tables
 pub record Memory : Type 0 where
@@ -22,6 +22,10 @@ pub record Memory : Type 0 where
 
 abbrev pub memory : Place → List ℕ → List ℕ → Memory
 memory place rows counts = record { place = place; rows = rows; counts = counts }
+
+-- the same of a call's parameters
+abbrev pub memory-of : Place → Slice → Slice → Memory
+memory-of place rows counts = memory place (now rows) (now counts)
 
 -- where a listing begins: no tracker stands, no line was read, and every number is 0
 unfoldable pub start-place : Place
@@ -82,23 +86,3 @@ pub record Represents (m : Memory) (g : Progress) : Type 0 where
   pub ready : Ready m
   pub tracker : g .tracker ≡ carried m
   pub lines : m .place .lines % 10000000000 ≡ g .count % 10000000000
-
--- what a settings line prints, by the bound's answer
-unfoldable pub settings-line : ℕ → Outcome ℕ → List ℕ
-settings-line number (accepted h) = bound-line h
-settings-line number (refused k) = refusal-line number k
-
--- what a line did to a tracker that stands, in tables of C places, and what it printed
-pub record Lists (step : Step) (s : Settings) (rows counts : List ℕ) (p : Position) (before : List ℕ) (at : ℕ) (after : List ℕ) (end : ℕ) : Type 0 where
-  pub printed : Prints before at (step .prints) after end
-  pub left : step .tracker ≡ stood s rows counts p
-
--- the places behind the first keep what they had
-pub record Behind (first : ℕ) (rows counts rows′ counts′ : List ℕ) : Type 0 where
-  pub of-rows : drop first rows′ ≡ drop first rows
-  pub of-counts : drop first counts′ ≡ drop first counts
-
--- what a line left in the memory, its number being so many lines, and what it printed
-pub record Leaves (step : Step) (line : ℕ) (m m′ : Memory) (before : List ℕ) (at : ℕ) (after : List ℕ) (end : ℕ) : Type 0 where
-  pub printed : Prints before at (step .prints) after end
-  pub left : m′ ≡ stored (step .tracker) line m

@@ -1,0 +1,2 @@
+-- What contracts say of lent slices.
+pub mod Lent

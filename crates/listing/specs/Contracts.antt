@@ -1,0 +1,80 @@
+-- Inner relations, in which the functions of this crate promise each other what a line did. The public calls' contracts do not name them: those are
+-- equations with Chunks.antt.
+use Prim.Native.Nat.{ℕ}
+use mathlib.Core.Path.{_≡_}
+use mathlib.Core.List.{List, _++_}
+use lib.ListN.{length, take, drop, replicate}
+use denote.Ref.{now}
+use Rattle.laws.specs.Lent.{Slice, Lent}
+use Rattle.device.specs.declared.Settings.{Settings}
+use Rattle.device.specs.Refusal.{Outcome, accepted, refused}
+use Rattle.tracker.specs.declared.Position.{Position}
+use Rattle.tracker.specs.State.{State}
+use Rattle.tracker.specs.declared.SetUp.{SetUp}
+use Rattle.tracker.specs.Calls.{set-up, refresh}
+use Rattle.tracker.specs.Answers.{given, set-up-call}
+use Rattle.listing.specs.declared.Place.{Place}
+use Rattle.listing.specs.declared.Listed.{Listed}
+use Rattle.listing.specs.declared.Moved.{Moved}
+use Rattle.listing.specs.Output.{bound-line, refusal-line, Prints}
+use Rattle.listing.specs.Steps.{Step, refresh-step}
+use Rattle.listing.specs.Memory.{Memory, memory-of, stood, stored}
+
+-- a text is printed into a lent buffer at a place; the place behind it
+abbrev pub Prints-into : Lent → ℕ → List ℕ → ℕ → Type 0
+Prints-into out at text end = Prints (now (out .entry)) at text (now (out .exit)) end
+
+-- bytes are copied to a lent text's front, so many
+abbrev pub Copies-front : Lent → List ℕ → ℕ → Type 0
+Copies-front text bytes count = (count ≡ length bytes) × (now (text .exit) ≡ bytes ++ drop count (now (text .entry)))
+
+-- what a settings line prints, by the bound's answer
+unfoldable pub settings-line : ℕ → Outcome ℕ → List ℕ
+settings-line number (accepted h) = bound-line h
+settings-line number (refused k) = refusal-line number k
+
+-- what a line did to a tracker that stands, in tables of C places, and what it printed
+pub record Lists (step : Step) (s : Settings) (rows counts : List ℕ) (p : Position) (before : List ℕ) (at : ℕ) (after : List ℕ) (end : ℕ) : Type 0 where
+  pub printed : Prints before at (step .prints) after end
+  pub left : step .tracker ≡ stood s rows counts p
+
+-- the places behind the first keep what they had
+pub record Behind (first : ℕ) (rows counts rows′ counts′ : List ℕ) : Type 0 where
+  pub of-rows : drop first rows′ ≡ drop first rows
+  pub of-counts : drop first counts′ ≡ drop first counts
+
+-- what a line left in the memory, its number being so many lines, and what it printed
+pub record Leaves (step : Step) (line : ℕ) (m m′ : Memory) (before : List ℕ) (at : ℕ) (after : List ℕ) (end : ℕ) : Type 0 where
+  pub printed : Prints before at (step .prints) after end
+  pub left : m′ ≡ stored (step .tracker) line m
+
+-- the state in the first C places of lent tables
+abbrev pub front : Settings → Slice → Slice → Position → State
+front s rows counts p = given (take (s .counters) (now rows)) (take (s .counters) (now counts)) p
+
+-- the line of an event after so many in its window: it is lent a list of V places
+abbrev pub event-step : ℕ → Settings → ℕ → State → Step
+event-step line s e st = refresh-step line s e (refresh s st (replicate (s .volume) 0))
+
+-- setting up on the first C places of lent tables
+abbrev pub Sets-up-front : Settings → Lent → Lent → SetUp → Type 0
+Sets-up-front s rows counts r =
+    set-up-call r (take (s .counters) (now (rows .exit))) (take (s .counters) (now (counts .exit))) ≡
+    set-up s (take (s .counters) (now (rows .entry))) (take (s .counters) (now (counts .entry)))
+
+-- the same relations of the functions' parameters: on tables of C places, on the first C of longer ones, and on the whole memory
+abbrev pub Lists-whole : Step → Settings → Lent → Lent → Lent → ℕ → Moved → Type 0
+Lists-whole step s rows counts out at r =
+    Lists step s (now (rows .exit)) (now (counts .exit)) (r .position) (now (out .entry)) at (now (out .exit)) (r .end)
+
+abbrev pub Lists-front : Step → Settings → Lent → Lent → Lent → ℕ → Moved → Type 0
+Lists-front step s rows counts out at r =
+    Lists step s (take (s .counters) (now (rows .exit))) (take (s .counters) (now (counts .exit))) (r .position) (now (out .entry)) at (now (out .exit)) (r .end)
+
+abbrev pub Keeps-behind : Settings → Lent → Lent → Type 0
+Keeps-behind s rows counts =
+    Behind (s .counters) (now (rows .entry)) (now (counts .entry)) (now (rows .exit)) (now (counts .exit))
+
+abbrev pub Lists-line : Step → ℕ → Place → Lent → Lent → Lent → ℕ → Listed → Type 0
+Lists-line step line p rows counts out at r =
+    Leaves step line (memory-of p (rows .entry) (counts .entry)) (memory-of (r .place) (rows .exit) (counts .exit)) (now (out .entry)) at (now (out .exit)) (r .end)
