@@ -1,10 +1,10 @@
 #!/usr/bin/env python3
 """Compares the library's set up, activation, refresh event and agreement with the plain model.
 
-    rt check replay
+    rt check test_calls
     python3 tests/calls/compare.py [--seed N] [--program FILE]
 
-The program of crates/replay makes the library's calls. Builds the model, then compares the number
+The program of crates/test_calls makes the library's calls. Builds the model, then compares the number
 and all lent memory after each call: on edges of document 01, on runs, on states that no run
 reaches, on states that break one rule each, and on refused calls, with one fixed and one fresh seed
 (--seed repeats a fresh one). The model's number is also held against the one that the case was made
@@ -89,7 +89,7 @@ def read_state(numbers):
     return State(tuple(numbers[:7]), *lists), rest
 
 
-# The program of crates/replay: requests and answers of 32-bit words, the lowest byte first
+# The program of crates/test_calls: requests and answers of 32-bit words, the lowest byte first
 #
 # A request: the call, settings, position, row, lengths of both tables and of the list, rows,
 # counts, list; then the second state of an agreement: settings, position, lengths, rows, counts.
@@ -165,7 +165,7 @@ def library_answers(program, cases, path):
     with open(f"{path}.answers", "rb") as file:
         answers = file.read()
     if status != 0 or len(answers) != ANSWER.size * len(cases):
-        print(f"  replay: exit status {status}, {len(answers)} bytes for {len(cases)} answers")
+        print(f"  test_calls: exit status {status}, {len(answers)} bytes for {len(cases)} answers")
     whole = answers[:len(answers) // ANSWER.size * ANSWER.size]
     lines = [answer_line(*pair) for pair in zip(cases, ANSWER.iter_unpack(whole))]
     return lines + [None] * (len(cases) - len(lines))
@@ -580,12 +580,12 @@ def compare(tally, kinds, program, cases, name):
 
 def main():
     parser = argparse.ArgumentParser(description="Compares the tracker's calls with the model.")
-    parser.add_argument("--program", default=ROOT / "target/bin/replay",
-                        help="in place of target/bin/replay")
+    parser.add_argument("--program", default=ROOT / "target/bin/test_calls",
+                        help="in place of target/bin/test_calls")
     arguments, fresh_seed = arguments_with_seeds(parser)
     program = os.path.abspath(arguments.program)
     if not os.path.exists(program):
-        give_up(f"{program} is missing; `rt check replay` writes it")
+        give_up(f"{program} is missing; `rt check test_calls` writes it")
 
     os.chdir(ROOT)
     build(OUT, BUILD_MODEL)

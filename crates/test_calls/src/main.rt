@@ -147,12 +147,12 @@ fn call_refresh(
     request: &[u8],
     rows: &mut [u32],
     counts: &mut [u32],
-    list: &mut [u32],
+    picks: &mut [u32],
     answer: &mut [u8],
 ) {
     let s = settings_at(request, 1);
     let p = position_at(request, 8);
-    let r = tracker::refresh(s, rows, counts, p, list);
+    let r = tracker::refresh(s, rows, counts, p, picks);
     match r {
         Refreshed::Accepted(n, q) => put_head(answer, 0, n, q),
         Refreshed::Refused(k, q) => put_head(answer, k, 0, q),
@@ -190,35 +190,41 @@ fn call_agree(request: &[u8], rows: &[u32], counts: &[u32], answer: &mut [u8]) {
 }
 
 // Makes the call that the request names; one that is none of the four is taken as agreement.
-fn call(request: &[u8], rows: &mut [u32], counts: &mut [u32], list: &mut [u32], answer: &mut [u8]) {
+fn call(
+    request: &[u8],
+    rows: &mut [u32],
+    counts: &mut [u32],
+    picks: &mut [u32],
+    answer: &mut [u8],
+) {
     let op = word(request, 0, 0);
     if op == 0 {
         call_set_up(request, rows, counts, answer);
     } else if op == 1 {
         call_activate(request, rows, counts, answer);
     } else if op == 2 {
-        call_refresh(request, rows, counts, list, answer);
+        call_refresh(request, rows, counts, picks, answer);
     } else {
         call_agree(request, rows, counts, answer);
     }
 }
 
-// Makes the call on the parts of the tables and of the list that the request lends.
+// Makes the call on the parts of the tables and of the picks that the request lends.
 fn call_on_parts(
     request: &[u8],
     rows: &mut [u32],
     counts: &mut [u32],
-    list: &mut [u32],
+    picks: &mut [u32],
     answer: &mut [u8],
 ) {
     let n = length_at(request, 13, rows.len());
     let m = length_at(request, 14, counts.len());
-    let l = length_at(request, 15, list.len());
+    let l = length_at(request, 15, picks.len());
     call(
         request,
         &mut rows[0..n],
         &mut counts[0..m],
-        &mut list[0..l],
+        &mut picks[0..l],
         answer,
     );
 }
@@ -227,14 +233,14 @@ fn call_on_parts(
 fn serve(request: &[u8], answer: &mut [u8]) {
     let mut rows = [0u32; 64];
     let mut counts = [0u32; 64];
-    let mut list = [0u32; 32];
+    let mut picks = [0u32; 32];
     words_in(request, 16, &mut rows);
     words_in(request, 80, &mut counts);
-    words_in(request, 144, &mut list);
-    call_on_parts(request, &mut rows, &mut counts, &mut list, answer);
+    words_in(request, 144, &mut picks);
+    call_on_parts(request, &mut rows, &mut counts, &mut picks, answer);
     words_out(answer, 6, &rows);
     words_out(answer, 70, &counts);
-    words_out(answer, 134, &list);
+    words_out(answer, 134, &picks);
 }
 
 // Reads one request and writes its answer; whether there was a whole one.

@@ -1,7 +1,7 @@
--- `replay::main` is safe and ends. The measure is the number of turns that are left; nothing has to hold from turn to turn.
+-- `test_calls::main` is safe and ends. The measure is the number of turns that are left; nothing has to hold from turn to turn.
 use native.Mathlib.Omega.{arith}
-use Rattle.replay.proofs.main.Statement.{statement}
-use Rattle.replay.proofs.main.Tie as tie
+use Rattle.test_calls.proofs.main.Statement.{statement}
+use Rattle.test_calls.proofs.main.Tie as tie
 
 abbrev Inv-loop : tie.InvT-loop
 Inv-loop turns₀ turns = Unit {0}

@@ -1,10 +1,10 @@
--- `replay::words_in` is safe and ends. The invariant: `i` is at most the table's length, which stays.
+-- `test_calls::words_in` is safe and ends. The invariant: `i` is at most the table's length, which stays.
 use Prim.Native.Nat.{_≤_, _-_}
 use mathlib.Core.Path.{_≡_}
 use borrow.Author.Needs.{needs}
 use lib.ListN.{length}
-use Rattle.replay.proofs.words_in.Statement.{statement}
-use Rattle.replay.proofs.words_in.Tie as tie
+use Rattle.test_calls.proofs.words_in.Statement.{statement}
+use Rattle.test_calls.proofs.words_in.Tie as tie
 
 abbrev Inv-loop : tie.InvT-loop
 Inv-loop buf field table₀ i₀ table i = (i ≤ length table₀) × (length table ≡ length table₀)

@@ -1,8 +1,8 @@
--- `replay::byte` answers at most 255: what is known of an element of a slice of bytes.
+-- `test_calls::byte` answers at most 255: what is known of an element of a slice of bytes.
 use borrow.Author.Needs.{needs}
 use native.Mathlib.Omega.{arith}
-use Rattle.replay.proofs.byte.Statement.{statement}
-use Rattle.replay.proofs.byte.Tie as tie
+use Rattle.test_calls.proofs.byte.Statement.{statement}
+use Rattle.test_calls.proofs.byte.Tie as tie
 
 shared-slice-read-result : tie.Need-shared-slice-read-result
 shared-slice-read-result c = search needs

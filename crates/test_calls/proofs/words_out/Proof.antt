@@ -1,10 +1,10 @@
--- `replay::words_out` is safe and ends. The invariant: `i` is at most the table's length, and the buffer's length stays.
+-- `test_calls::words_out` is safe and ends. The invariant: `i` is at most the table's length, and the buffer's length stays.
 use Prim.Native.Nat.{_≤_, _-_}
 use mathlib.Core.Path.{_≡_}
 use borrow.Author.Needs.{needs}
 use lib.ListN.{length}
-use Rattle.replay.proofs.words_out.Statement.{statement}
-use Rattle.replay.proofs.words_out.Tie as tie
+use Rattle.test_calls.proofs.words_out.Statement.{statement}
+use Rattle.test_calls.proofs.words_out.Tie as tie
 
 abbrev Inv-loop : tie.InvT-loop
 Inv-loop buf₀ field table i₀ buf i = (i ≤ length table) × (length buf ≡ length buf₀)
