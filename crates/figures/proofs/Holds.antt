@@ -1,6 +1,6 @@
--- The shared theorem of the table: every figure in it is what the definitions give, by one test that is computed over the whole table.
+-- The shared theorem of a table: every figure in it is what the definitions give, by one test that is computed over the whole table.
 use mathlib.Core.Path.{_≡_, refl, subst, sym}
-use mathlib.Core.Bool.{Bool, true, false, _&&_, cond}
+use mathlib.Core.Bool.{Bool, true, false, _&&_}
 use mathlib.Core.Logic.{⊎-elim}
 use mathlib.Core.List.{List, [], _∷_, List·Memᴰ, List·Memᴰ·not-nil, List·Memᴰ·cases-cons}
 use Prim.Native.Nat.{ℕ}
@@ -11,10 +11,10 @@ use Rattle.device.specs.Acceptance.{within, rows-allowed, diameter-allowed, blo
 use Rattle.device.specs.Remap.{remap-table, physical}
 use Rattle.device.specs.Victims.{rows-from, rows-between, victims}
 use Rattle.summary.specs.Entries.{rows-of, counts-of, has, count-or, without, without-all, raised, entered, has-count, without-count, top, picks}
-use Rattle.summary.specs.Steps.{empty, in-rows, disturb, disturb-each, drop-rows, spread, activation, besides, picked, taken-out, cleared-if, sources, event}
+use Rattle.summary.specs.Steps.{empty, estimate, in-rows, disturb, disturb-each, drop-rows, spread, activation, besides, picked, taken-out, cleared-if, sources, event}
 use Rattle.summary.specs.Tables.{table, entries-of, read}
 use Rattle.tracker.specs.State.{summary-of, state-of, zeros, ascending, counts-allowed, valid}
-use Rattle.tracker.specs.Calls.{victims-in, block-rows, ends-window, next-event, tables-long, set-up-tests, activation-tests, refresh-tests, kept-unless, set-up, activate, refresh}
+use Rattle.tracker.specs.Calls.{victims-in, block-rows, ends-window, next-event, tables-long, set-up-tests, activation-tests, refresh-tests, agreement-tests, kept-unless, set-up, activate, refresh, same-estimates, agree}
 use Rattle.trace.specs.Numbers.{is-digit, digits, number, field, digit-or-blank, columns-before, printed}
 use Rattle.trace.specs.Lines.{line, ended, extent}
 use Rattle.trace.specs.Records.{and-then, seven-settings, settings, activation as activation-record, refresh as refresh-record, record-of}
@@ -27,6 +27,7 @@ use Rattle.bound.specs.Totals.{size, total, disturbers, bound-at, bound-of}
 use Rattle.bound.specs.Least.{with-counters, meets, or-else, first-from, least-of}
 use Rattle.bound.specs.Answers.{bound-answer, least-answer, settings-of}
 use Rattle.figures.specs.Table.{Figure, numbers, remap-figure, bound-figure, least-figure, position-of, begun, state-numbers, traced, line-4, line-5, line-6, activations, trace-input, trace-output, shown, figures}
+use Rattle.figures.specs.Edges.{small, whole, two-places, untracked, refusal-of, set-up-numbers, activation-numbers, event-numbers, agreement-numbers, set-up-figure, activation-figure, event-figure, agreement-figure, set-up-edges, activation-edges, event-edges, agreement-edges, edges}
 
 same : List ℕ → List ℕ → Bool
 same [] [] = true
@@ -66,7 +67,7 @@ unfolding
     table entries-of read summary-of state-of zeros ascending counts-allowed valid
     victims-in block-rows ends-window next-event tables-long set-up-tests activation-tests refresh-tests kept-unless set-up activate refresh
     left-by state-after
-    cond is-digit digits number field digit-or-blank columns-before printed line ended extent
+    is-digit digits number field digit-or-blank columns-before printed line ended extent
     and-then seven-settings settings activation-record refresh-record record-of or-refused reading-by reading
     bound-line row-columns refresh-line refusal-line
     start refused-step set-up-step answered activation-step refresh-step record-step line-step step next
@@ -75,3 +76,20 @@ all-pass = tt
 
 pub figures-hold : (f : Figure) → List·Memᴰ f figures → f .defined ≡ f .given
 figures-hold = each figures all-pass
+
+edges-pass : T (every edges)
+unfolding
+    every same edges set-up-edges activation-edges event-edges agreement-edges shown state-numbers settings-of
+    small whole two-places untracked refusal-of set-up-numbers activation-numbers event-numbers agreement-numbers
+    set-up-figure activation-figure event-figure agreement-figure
+    first-failed unless refuse tested within rows-allowed diameter-allowed block-allowed settings-tests-with settings-tests
+    remap-table physical rows-from rows-between victims
+    rows-of counts-of has count-or without without-all raised entered has-count without-count top picks
+    empty estimate in-rows disturb disturb-each drop-rows spread activation besides picked taken-out cleared-if sources event
+    table entries-of read summary-of state-of zeros ascending counts-allowed valid
+    victims-in block-rows ends-window next-event tables-long set-up-tests activation-tests refresh-tests agreement-tests kept-unless
+    set-up activate refresh same-estimates agree
+edges-pass = tt
+
+pub edges-hold : (f : Figure) → List·Memᴰ f edges → f .defined ≡ f .given
+edges-hold = each edges edges-pass

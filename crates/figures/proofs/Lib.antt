@@ -1,2 +1,2 @@
--- Every figure of the table holds.
+-- Every figure of the tables holds.
 pub mod Holds
