@@ -1,2 +1,5 @@
 -- Every figure of the tables holds.
-pub mod Holds
+pub mod Tests
+pub mod Table
+pub mod Edges
+pub mod Claims

@@ -113,5 +113,6 @@ agreement-edges =
     agreement-figure (settings-of 16 2 1 3 4 4 4) (untracked 0 0) (8 ∷ []) ∷
     agreement-figure (small 2 1) (untracked 4 0) (21 ∷ []) ∷ []
 
+-- all of them; tests/calls/edges.calls runs the same
 unfoldable pub edges : List Figure
 edges = set-up-edges ++ activation-edges ++ event-edges ++ agreement-edges
