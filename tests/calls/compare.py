@@ -1,14 +1,15 @@
 #!/usr/bin/env python3
 """Compares the library's set up, activation, refresh event and agreement with the plain model.
 
-    rt check replay
+    rt check test_calls
     python3 tests/calls/compare.py [--seed N] [--program FILE]
 
-The program of crates/replay makes the library's calls. Builds the model, then compares the number
-and all lent memory after each call: on edges of document 01, on runs, on states that no run
-reaches, on states that break one rule each, and on refused calls, with one fixed and one fresh seed
-(--seed repeats a fresh one). The model's number is also held against the one that the case was made
-for. Queries and answers stay in target/calls/.
+The program of crates/test_calls makes the library's calls. Builds the model, then compares the
+number and all lent memory after each call: on document 01's example and on edges, with answers
+written by hand (example.calls, edges.calls), on sweeps around limits, on runs, on states that no
+run reaches, on states that break one rule each, and on refused calls, with one fixed and one fresh
+seed (--seed repeats a fresh one). The model's number is also held against the one that the case was
+made for. Queries and answers stay in target/calls/.
 Exit status: 0 all equal; 1 a difference; 2 something is missing or cannot be built.
 """
 
@@ -33,8 +34,9 @@ from states import (
     state_of, valid_state, victims,
 )
 
+HERE = "tests/calls"
 OUT = "target/calls"
-EXAMPLE = "tests/listing/example.calls"
+WRITTEN = {"example": "document 01's example", "edges": "edges"}
 MODEL_CALLS = [MODEL, "calls"]
 
 # The number that the model has to give is None where only the model knows it.
@@ -89,14 +91,14 @@ def read_state(numbers):
     return State(tuple(numbers[:7]), *lists), rest
 
 
-# The program of crates/replay: requests and answers of 32-bit words, the lowest byte first
+# The program of crates/test_calls: requests and answers of 32-bit words, the lowest byte first
 #
-# A request: the call, settings, position, row, lengths of both tables and of the list, rows,
-# counts, list; then the second state of an agreement: settings, position, lengths, rows, counts.
-# An answer: the refusal or 0, the value, the position, rows, counts, list, all as after the call.
+# A request: the call, settings, position, row, lengths of both tables and of the picks, rows,
+# counts, picks; then the second state of an agreement: settings, position, lengths, rows, counts.
+# An answer: the refusal or 0, the value, the position, rows, counts, picks, all as after the call.
 
 CALLS = ("set_up", "activate", "refresh", "agree")
-PICKS = 32  # places for the list
+PICKS = 32  # places for the picks
 REQUEST = struct.Struct(f"<{16 + 2 * PLACES + PICKS + 13 + 2 * PLACES}I")
 ANSWER = struct.Struct(f"<{6 + 2 * PLACES + PICKS}I")
 MARGIN = 0xb5a2c3d4  # stands behind every list and has to stay there
@@ -165,26 +167,17 @@ def library_answers(program, cases, path):
     with open(f"{path}.answers", "rb") as file:
         answers = file.read()
     if status != 0 or len(answers) != ANSWER.size * len(cases):
-        print(f"  replay: exit status {status}, {len(answers)} bytes for {len(cases)} answers")
+        print(f"  test_calls: exit status {status}, {len(answers)} bytes for {len(cases)} answers")
     whole = answers[:len(answers) // ANSWER.size * ANSWER.size]
     lines = [answer_line(*pair) for pair in zip(cases, ANSWER.iter_unpack(whole))]
     return lines + [None] * (len(cases) - len(lines))
 
 
-# Edges of document 01
+# Sweeps around limits; edges.calls has the edges with answers written by hand
 
 
-def edge_cases():
+def sweep_cases():
     example = (16, 2, 1, 2, 4, 4, 4)
-    empty = state_of(example, {}, 0)
-    yield case("activate", empty, 15, 0, "row 15 of 16")
-    yield case("activate", empty, 16, -9, "row 16 of 16")
-
-    least = changed(example, (VOLUME, 3), (COUNTERS, 3))
-    fewer = changed(least, (COUNTERS, 2))
-    yield case("set_up", state_of(least, {}, 0), None, 0, "counters equal to the volume")
-    yield case("set_up", state_of(fewer, {}, 0), None, -4, "one counter fewer than the volume")
-
     for activations, number in ((0, 0), (3, 0), (4, -22)):
         state = state_of(example, {4: 3}, 1, activations=activations)
         kind = f"activation {activations + 1} of an interval of 4"
@@ -527,9 +520,7 @@ EXPECTED_KINDS = (
     "disagree: one count", "disagree: spillover",
     "set up of a run", "activation of a run", "event of a run", "agreement in a run",
     "fault in a run", "valid state",
-    "row 15 of 16", "row 16 of 16", "counters equal to the volume",
-    "one counter fewer than the volume", "activation 1 of an interval of 4",
-    "activation 4 of an interval of 4", "activation 5 of an interval of 4",
+    *(f"activation {number} of an interval of 4" for number in (1, 4, 5)),
     "event in a full interval", "events of a whole window", "window of one event",
     "counts at the most", *(f"end of the bank, B {diameter}" for diameter in (2, 4)),
     *(f"activation: cut at {end}, B {diameter}" for end in ("row 0", "the last row")
@@ -544,17 +535,18 @@ EXPECTED_KINDS = (
 )
 
 
-def check_example(tally, program):
-    """Document 01's example trace as calls, with answers written by hand."""
-    tally.begin("document 01's example")
-    queries, expected = read_figures(EXAMPLE)
-    model = Run(MODEL_CALLS, queries, f"{OUT}/example.model").finish_model()
-    cases = [read_query(query) for query in queries]
-    library = library_answers(program, cases, f"{OUT}/example.library")
-    for side, answers in (("model", model), ("library", library)):
-        for query, wanted, answer in zip(queries, expected, answers):
-            message = f"{query}: written is {wanted}, the {side} gives {answer}"
-            tally.check(answer == wanted, message)
+def check_written(tally, program):
+    """Calls with answers written by hand, by both sides."""
+    for name, title in WRITTEN.items():
+        tally.begin(f"{title}, written by hand")
+        queries, expected = read_figures(f"{HERE}/{name}.calls")
+        model = Run(MODEL_CALLS, queries, f"{OUT}/{name}.model").finish_model()
+        cases = [read_query(query) for query in queries]
+        library = library_answers(program, cases, f"{OUT}/{name}.library")
+        for side, answers in (("model", model), ("library", library)):
+            for query, wanted, answer in zip(queries, expected, answers):
+                message = f"{query}: written is {wanted}, the {side} gives {answer}"
+                tally.check(answer == wanted, message)
 
 
 def short(text):
@@ -580,20 +572,20 @@ def compare(tally, kinds, program, cases, name):
 
 def main():
     parser = argparse.ArgumentParser(description="Compares the tracker's calls with the model.")
-    parser.add_argument("--program", default=ROOT / "target/bin/replay",
-                        help="in place of target/bin/replay")
+    parser.add_argument("--program", default=ROOT / "target/bin/test_calls",
+                        help="in place of target/bin/test_calls")
     arguments, fresh_seed = arguments_with_seeds(parser)
     program = os.path.abspath(arguments.program)
     if not os.path.exists(program):
-        give_up(f"{program} is missing; `rt check replay` writes it")
+        give_up(f"{program} is missing; `rt check test_calls` writes it")
 
     os.chdir(ROOT)
     build(OUT, BUILD_MODEL)
     tally = Tally()
     kinds = collections.Counter()
-    check_example(tally, program)
+    check_written(tally, program)
     model = Model()
-    compare(tally, kinds, program, list(edge_cases()), "edges")
+    compare(tally, kinds, program, list(sweep_cases()), "sweeps")
     compare(tally, kinds, program, list(random_cases(random.Random(FIXED_SEED), model)), "fixed")
     compare(tally, kinds, program, list(random_cases(random.Random(fresh_seed), model)), "fresh")
     model.close()

@@ -1,7 +1,7 @@
 """States of a tracker as the calls are lent them: accepted ones, and ones that break one rule.
 
 A State is the settings, the two tables and the position; it is written in a query as the model's
-calls read it. Tables have at most PLACES places, as the program of crates/replay has.
+calls read it. Tables have at most PLACES places, as the program of crates/test_calls has.
 """
 
 import copy

@@ -27,8 +27,7 @@ import time
 sys.dont_write_bytecode = True
 sys.path.insert(0, str(pathlib.Path(__file__).resolve().parents[1]))
 from comparison import (
-    BUILD_MODEL, FIXED_SEED, MODEL, ROOT, Run, Tally, arguments_with_seeds, build, give_up,
-    read_figures,
+    BUILD_MODEL, FIXED_SEED, MODEL, ROOT, Tally, arguments_with_seeds, build, give_up,
 )
 from failures import check_failures
 from traces import plain_trace, long_lines, random_traces
@@ -193,10 +192,6 @@ EXPECTED_KINDS = (
 
 def check_written(tally, command):
     tally.begin("document 01's example, and edges written by hand")
-    queries, expected = read_figures(f"{HERE}/example.calls")
-    answers = Run([MODEL, "calls"], queries, f"{OUT}/example.model").finish_model()
-    for query, wanted, answer in zip(queries, expected, answers):
-        tally.check(answer == wanted, f"{query}: written is {wanted}, the model gives {answer}")
     for name in ("example", "edges"):
         text = pathlib.Path(f"{HERE}/{name}.trace").read_bytes()
         wanted = pathlib.Path(f"{HERE}/{name}.listing").read_bytes()

@@ -1,5 +1,6 @@
 //! A straightforward `rowlist`, as the baseline for the product's speed: buffered input and
-//! output, and an ordered map as the summary. `tests/listing/compare.py` tests it too.
+//! output, and an ordered map as the summary. `tests/listing/compare.py --program
+//! target/plain/release/plain_rowlist` compares it with the model, once `bench/run` has built it.
 
 mod tracker;
 

@@ -1,2 +1,5 @@
--- Every figure of the table holds.
-pub mod Holds
+-- Every figure of the tables holds.
+pub mod Tests
+pub mod Table
+pub mod Edges
+pub mod Claims

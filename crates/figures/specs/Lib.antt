@@ -1,2 +1,4 @@
--- Document 01's worked figures.
+-- Document 01's worked figures, edges of the tracker's calls, and what is claimed of them.
 pub mod Table
+pub mod Edges
+pub mod Claims

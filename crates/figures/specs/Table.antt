@@ -13,11 +13,12 @@ use Rattle.listing.specs.Steps.{start}
 use Rattle.listing.specs.Texts.{listing}
 use Rattle.bound.specs.Answers.{bound-answer, least-answer, settings-of}
 
+-- an 'edge figure': what document 01 gives, and what the definitions give
 pub record Figure : Type 0 where
   pub given : List ℕ
   pub defined : List ℕ
 
--- an answer as numbers: the refusal (0: accepted), then the value
+-- the answer of 'bound' or 'least counter count' as numbers: the 'refusal', 0 where there is none, and the value
 unfoldable pub numbers : Outcome ℕ → List ℕ
 numbers (accepted v) = 0 ∷ v ∷ []
 numbers (refused k) = k ∷ []
@@ -26,7 +27,7 @@ numbers (refused k) = k ∷ []
 unfoldable pub remap-figure : ℕ → ℕ → Figure
 remap-figure row place = record { given = place ∷ []; defined = physical row ∷ [] }
 
--- 'H for N B V C T n P gives ..'
+-- 'H for N B V C T n P: .. gives ..'
 unfoldable pub bound-figure : Settings → ℕ → Figure
 bound-figure s bound = record { given = 0 ∷ bound ∷ []; defined = numbers (bound-answer s) }
 
@@ -35,43 +36,45 @@ unfoldable pub least-figure : ℕ → List ℕ → Figure
 least-figure threshold given =
     record { given = given; defined = numbers (least-answer (settings-of 16 2 1 0 4 4 4) threshold) }
 
--- the position of an answer
+-- the 'position' that 'setting up' hands back; 'a refused setting up has no position to hand back'
 unfoldable pub position-of : Outcome Position → Position
 position-of (accepted p) = p
 position-of (refused k) = record { events = k; activations = k; tracked = k; spillover = k }
 
--- the state that setting up leaves, whatever the tables held
+-- the 'two number tables' and 'position' that 'setting up' leaves, where the tables held 7
 unfoldable pub begun : Settings → State
 begun s =
     let call = set-up s (replicate (s .counters) 7) (replicate (s .counters) 7) in
     record { rows = call .rows; counts = call .counts; position = position-of (call .answer) }
 
--- a state as numbers: rows, counts, e, a, tracked, spill
+-- the tables 'rows' and 'counts' and the 'position' as numbers: e, a, 'number of tracked rows', 'spill'
 unfoldable pub state-numbers : State → List ℕ
 state-numbers st =
     st .rows ++ st .counts ++
     st .position .events ∷ st .position .activations ∷ st .position .tracked ∷ st .position .spillover ∷ []
 
--- the trace's device, and its lines 2 to 4: `A     5`, `A     5`, `A     2`
+-- 'the trace above': the settings of its line 1, `S    16     2     1     2     4     4     4`
 unfoldable pub traced : Settings
 traced = settings-of 16 2 1 2 4 4 4
 
+-- 'after line 4 the summary is ..': lines 2 to 4 are `A     5`, `A     5`, `A     2`
 unfoldable pub line-4 : State
 line-4 = state-after traced (activation-of 5 ∷ activation-of 5 ∷ activation-of 2 ∷ []) (begun traced)
 
--- line 5, `R`, with a list of three places, and line 6, `A    16`
+-- 'after line 5 it is ..': line 5 is `R`; the 'lent list' has three places that hold 9
 unfoldable pub line-5 : Refresh-call
 line-5 = refresh traced line-4 (9 ∷ 9 ∷ 9 ∷ [])
 
+-- line 6, `A    16`, which the trace's output refuses with 9
 unfoldable pub line-6 : Activation-call
 line-6 = activate traced (line-5 .state) 16
 
--- 'activation 4 of an interval with T = 4 accepted, activation 5 refused 22'
+-- so many activations of 'an interval with T = 4'
 unfoldable pub activations : ℕ → State
 activations zero = begun traced
 activations (suc k) = activate traced (activations k) 8 .state
 
--- the trace's input, a line to a row, and its output whole
+-- the trace's 'input', a line to a row
 unfoldable pub trace-input : List ℕ
 trace-input =
     83 ∷ 32 ∷ 32 ∷ 32 ∷ 32 ∷ 49 ∷ 54 ∷ 32 ∷ 32 ∷ 32 ∷ 32 ∷ 32 ∷ 50 ∷ 32 ∷ 32 ∷ 32 ∷ 32 ∷ 32 ∷ 49 ∷ 32 ∷ 32 ∷ 32 ∷ 32 ∷ 32 ∷ 50 ∷ 32 ∷ 32 ∷ 32 ∷ 32 ∷ 32 ∷ 52 ∷ 32 ∷ 32 ∷ 32 ∷ 32 ∷ 32 ∷ 52 ∷ 32 ∷ 32 ∷ 32 ∷ 32 ∷ 32 ∷ 52 ∷ 10 ∷
@@ -81,16 +84,18 @@ trace-input =
     82 ∷ 10 ∷
     65 ∷ 32 ∷ 32 ∷ 32 ∷ 32 ∷ 49 ∷ 54 ∷ 10 ∷ []
 
+-- its 'output whole'
 unfoldable pub trace-output : List ℕ
 trace-output =
     66 ∷ 32 ∷ 32 ∷ 32 ∷ 32 ∷ 32 ∷ 32 ∷ 32 ∷ 32 ∷ 51 ∷ 48 ∷ 32 ∷ 32 ∷ 32 ∷ 32 ∷ 32 ∷ 32 ∷ 32 ∷ 32 ∷ 54 ∷ 48 ∷ 10 ∷
     82 ∷ 32 ∷ 32 ∷ 32 ∷ 32 ∷ 32 ∷ 48 ∷ 32 ∷ 32 ∷ 32 ∷ 32 ∷ 32 ∷ 49 ∷ 32 ∷ 32 ∷ 32 ∷ 32 ∷ 32 ∷ 52 ∷ 10 ∷
     88 ∷ 32 ∷ 32 ∷ 32 ∷ 32 ∷ 32 ∷ 32 ∷ 32 ∷ 32 ∷ 32 ∷ 54 ∷ 32 ∷ 32 ∷ 32 ∷ 32 ∷ 32 ∷ 57 ∷ 10 ∷ []
 
--- what document 01 gives, and what the definitions give
+-- a figure of these two
 unfoldable pub shown : List ℕ → List ℕ → Figure
 shown given defined = record { given = given; defined = defined }
 
+-- the figures 'marked *, to be proved': folds, the trace, activations 4 and 5, H, 'least counter count'
 unfoldable pub figures : List Figure
 figures =
     remap-figure 2 3 ∷

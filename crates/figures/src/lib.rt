@@ -1,1 +1,1 @@
-// Document 01's worked figures, proved from the definitions: specs/Table.antt has them, proofs/Holds.antt the theorem.
+// Document 01's worked figures and edges of the tracker's calls, proved from the definitions: specs/ has the tables, proofs/Tests.antt the shared theorem.

@@ -1,2 +1,0 @@
--- The edges computed from the definitions.
-pub mod Computed

@@ -1,3 +1,0 @@
--- What the edge cases hold.
-pub mod Lent
-pub mod Edges

@@ -1,0 +1,15 @@
+-- The claims of specs/Claims.antt, each under its own name.
+use Rattle.figures.specs.Table.{figures}
+use Rattle.figures.specs.Edges.{edges}
+use Rattle.figures.specs.Claims.{Figures-hold, Edges-hold}
+use Rattle.figures.proofs.Tests.{holds-every}
+use Rattle.figures.proofs.Table.{figures-pass}
+use Rattle.figures.proofs.Edges.{edges-pass}
+
+pub figures-hold : Figures-hold
+unfolding Figures-hold
+figures-hold = holds-every figures figures-pass
+
+pub edges-hold : Edges-hold
+unfolding Edges-hold
+edges-hold = holds-every edges edges-pass

@@ -1,0 +1,42 @@
+-- The table of document 01's figures passes its test, by computing.
+use lib.Dec.{T}
+use Rattle.device.specs.Refusal.{first-failed, unless, refuse, tested}
+use Rattle.device.specs.Acceptance.{within, rows-allowed, diameter-allowed, block-allowed, settings-tests-with, settings-tests, settings-tests-but-counters}
+use Rattle.device.specs.Remap.{remap-table, physical}
+use Rattle.device.specs.Victims.{rows-from, rows-between, victims}
+use Rattle.summary.specs.Entries.{rows-of, counts-of, has, count-or, without, without-all, raised, entered, has-count, without-count, top, picks}
+use Rattle.summary.specs.Steps.{empty, in-rows, disturb, disturb-each, drop-rows, spread, activation, besides, picked, taken-out, cleared-if, sources, event}
+use Rattle.summary.specs.Tables.{table, entries-of, read}
+use Rattle.tracker.specs.State.{summary-of, state-of, zeros, ascending, counts-allowed, valid}
+use Rattle.tracker.specs.Calls.{victims-in, block-rows, ends-window, next-event, tables-long, set-up-tests, activation-tests, refresh-tests, kept-unless, set-up, activate, refresh}
+use Rattle.trace.specs.Numbers.{is-digit, digits, number, field, digit-or-blank, columns-before, printed}
+use Rattle.trace.specs.Lines.{line, ended, extent}
+use Rattle.trace.specs.Records.{and-then, seven-settings, settings, activation as activation-record, refresh as refresh-record, record-of}
+use Rattle.trace.specs.Reading.{or-refused, reading-by, reading}
+use Rattle.listing.specs.Output.{bound-line, row-columns, refresh-line, refusal-line}
+use Rattle.listing.specs.Steps.{start, refused-step, set-up-step, answered, activation-step, refresh-step, record-step, line-step, step, next}
+use Rattle.listing.specs.Texts.{in-front, lines, read as read-line, outcomes, listed, listing}
+use Rattle.limit.specs.Run.{left-by, state-after}
+use Rattle.bound.specs.Totals.{size, total, disturbers, bound-at, bound-of}
+use Rattle.bound.specs.Least.{with-counters, meets, or-else, first-from, least-of}
+use Rattle.bound.specs.Answers.{bound-answer, least-answer, settings-of}
+use Rattle.figures.specs.Table.{numbers, remap-figure, bound-figure, least-figure, position-of, begun, state-numbers, traced, line-4, line-5, line-6, activations, trace-input, trace-output, shown, figures}
+use Rattle.figures.proofs.Tests.{same, every}
+
+pub figures-pass : T (every figures)
+unfolding
+    every same figures numbers remap-figure bound-figure least-figure position-of begun state-numbers traced line-4 line-5 line-6 activations trace-input trace-output shown
+    first-failed unless refuse tested within rows-allowed diameter-allowed block-allowed settings-tests-with settings-tests settings-tests-but-counters
+    remap-table physical rows-from rows-between victims
+    size total disturbers bound-at bound-of with-counters meets or-else first-from least-of bound-answer least-answer settings-of
+    rows-of counts-of has count-or without without-all raised entered has-count without-count top picks
+    empty in-rows disturb disturb-each drop-rows spread activation besides picked taken-out cleared-if sources event
+    table entries-of read summary-of state-of zeros ascending counts-allowed valid
+    victims-in block-rows ends-window next-event tables-long set-up-tests activation-tests refresh-tests kept-unless set-up activate refresh
+    left-by state-after
+    is-digit digits number field digit-or-blank columns-before printed line ended extent
+    and-then seven-settings settings activation-record refresh-record record-of or-refused reading-by reading
+    bound-line row-columns refresh-line refusal-line
+    start refused-step set-up-step answered activation-step refresh-step record-step line-step step next
+    in-front lines read-line outcomes listed listing
+figures-pass = tt

@@ -1,0 +1,17 @@
+-- What is claimed of the tables of figures. proofs/Claims.antt proves each under the same name.
+use mathlib.Core.Path.{_≡_}
+use mathlib.Core.List.{List, List·Memᴰ}
+use Rattle.figures.specs.Table.{Figure, figures}
+use Rattle.figures.specs.Edges.{edges}
+
+-- every figure of a table is what the definitions give
+unfoldable pub Table-holds : List Figure → Type 0
+Table-holds table = (f : Figure) → List·Memᴰ f table → f .defined ≡ f .given
+
+-- 'the starred figures are proved from the definitions as one table with a shared theorem'
+unfoldable pub Figures-hold : Type 0
+Figures-hold = Table-holds figures
+
+-- so are the edges of the tracker's calls
+unfoldable pub Edges-hold : Type 0
+Edges-hold = Table-holds edges

@@ -1,0 +1,118 @@
+-- Edges of the tracker's calls, those of 'Edge figures' that bear no * among them: what follows by hand, and what the definitions give.
+use Prim.Native.Nat.{ℕ}
+use mathlib.Core.Bool.{Bool, cond}
+use mathlib.Core.List.{List, [], _∷_, _++_}
+use Rattle.device.specs.declared.Settings.{Settings}
+use Rattle.device.specs.Refusal.{Outcome, accepted, refused}
+use Rattle.tracker.specs.State.{State}
+use Rattle.tracker.specs.Calls.{SetUp-call, Activation-call, Refresh-call, set-up, activate, refresh, agree}
+use Rattle.bound.specs.Answers.{settings-of}
+use Rattle.figures.specs.Table.{Figure, shown, state-numbers}
+
+-- the settings 16 B V 2 4 4 4
+unfoldable pub small : ℕ → ℕ → Settings
+small b v = settings-of 16 b v 2 4 4 4
+
+-- the settings 16 2 1 2 4 n 16: 'the regular block' is the whole bank at the first event
+unfoldable pub whole : ℕ → Settings
+whole n = settings-of 16 2 1 2 4 n 16
+
+-- tables of two places and a 'position': rows, counts, e, a, 'number of tracked rows'; the 'spill' is 0
+unfoldable pub two-places : ℕ → ℕ → ℕ → ℕ → ℕ → ℕ → ℕ → State
+two-places row row′ count count′ e a tracked =
+    record {
+      rows = row ∷ row′ ∷ [];
+      counts = count ∷ count′ ∷ [];
+      position = record { events = e; activations = a; tracked = tracked; spillover = 0 };
+    }
+
+-- no row tracked, after so many events and activations
+unfoldable pub untracked : ℕ → ℕ → State
+untracked e a = two-places 0 0 0 0 e a 0
+
+-- the 'refusal' of a call, 0 where it is accepted
+unfoldable pub refusal-of : {A : Type 0} → Outcome A → ℕ
+refusal-of (accepted x) = 0
+refusal-of (refused k) = k
+
+-- 'setting up' as numbers: the refusal and both tables
+unfoldable pub set-up-numbers : SetUp-call → List ℕ
+set-up-numbers u = refusal-of (u .answer) ∷ u .rows ++ u .counts
+
+-- an 'activation' as numbers: the refusal and the state
+unfoldable pub activation-numbers : Activation-call → List ℕ
+activation-numbers u = u .refusal ∷ state-numbers (u .state)
+
+-- an 'event' as numbers: the refusal, 'the number picked', the 'lent list' and the state
+unfoldable pub event-numbers : Refresh-call → List ℕ
+event-numbers u = u .refusal ∷ u .count ∷ u .picks ++ state-numbers (u .state)
+
+-- 'agreement' as numbers: the refusal, and 1 where the two agree
+unfoldable pub agreement-numbers : Outcome Bool → List ℕ
+agreement-numbers (accepted same) = 0 ∷ cond same 1 0 ∷ []
+agreement-numbers (refused k) = k ∷ []
+
+-- setting up on tables that hold 7
+unfoldable pub set-up-figure : Settings → List ℕ → Figure
+set-up-figure s given = shown given (set-up-numbers (set-up s (7 ∷ 7 ∷ []) (7 ∷ 7 ∷ [])))
+
+-- an activation of a 'bus row'
+unfoldable pub activation-figure : Settings → State → ℕ → List ℕ → Figure
+activation-figure s st row given = shown given (activation-numbers (activate s st row))
+
+-- an event with a list of two places that hold 7
+unfoldable pub event-figure : Settings → State → List ℕ → Figure
+event-figure s st given = shown given (event-numbers (refresh s st (7 ∷ 7 ∷ [])))
+
+-- the summary of a fresh tracker with the settings 16 2 1 2 4 4 4 beside another
+unfoldable pub agreement-figure : Settings → State → List ℕ → Figure
+agreement-figure s st given = shown given (agreement-numbers (agree (small 2 1) (untracked 0 0) s st))
+
+-- 'C = V accepted, V − 1 refused', and N = 16, the least
+unfoldable pub set-up-edges : List Figure
+set-up-edges =
+    set-up-figure (small 2 1) (0 ∷ 0 ∷ 0 ∷ 0 ∷ 0 ∷ []) ∷
+    set-up-figure (small 2 2) (0 ∷ 0 ∷ 0 ∷ 0 ∷ 0 ∷ []) ∷
+    set-up-figure (small 2 3) (4 ∷ 7 ∷ 7 ∷ 7 ∷ 7 ∷ []) ∷
+    shown (8 ∷ 7 ∷ 7 ∷ 7 ∷ 7 ∷ 7 ∷ []) (set-up-numbers (set-up (small 2 1) (7 ∷ 7 ∷ 7 ∷ []) (7 ∷ 7 ∷ []))) ∷ []
+
+-- 'row 15 accepted and 16 refused for N = 16'; the last of an interval and one more; e = n; rows 0 and N − 1 with each B
+unfoldable pub activation-edges : List Figure
+activation-edges =
+    activation-figure (small 2 1) (untracked 0 0) 15 (0 ∷ 13 ∷ 15 ∷ 1 ∷ 1 ∷ 0 ∷ 1 ∷ 2 ∷ 0 ∷ []) ∷
+    activation-figure (small 2 1) (untracked 0 0) 16 (9 ∷ 0 ∷ 0 ∷ 0 ∷ 0 ∷ 0 ∷ 0 ∷ 0 ∷ 0 ∷ []) ∷
+    activation-figure (small 2 1) (untracked 0 3) 5 (0 ∷ 4 ∷ 6 ∷ 1 ∷ 1 ∷ 0 ∷ 4 ∷ 2 ∷ 0 ∷ []) ∷
+    activation-figure (small 2 1) (untracked 0 4) 5 (22 ∷ 0 ∷ 0 ∷ 0 ∷ 0 ∷ 0 ∷ 4 ∷ 0 ∷ 0 ∷ []) ∷
+    activation-figure (small 2 1) (untracked 4 0) 5 (21 ∷ 0 ∷ 0 ∷ 0 ∷ 0 ∷ 4 ∷ 0 ∷ 0 ∷ 0 ∷ []) ∷
+    activation-figure (small 2 1) (untracked 0 0) 0 (0 ∷ 1 ∷ 0 ∷ 1 ∷ 0 ∷ 0 ∷ 1 ∷ 1 ∷ 0 ∷ []) ∷
+    activation-figure (small 2 1) (untracked 0 0) 14 (0 ∷ 14 ∷ 0 ∷ 1 ∷ 0 ∷ 0 ∷ 1 ∷ 1 ∷ 0 ∷ []) ∷
+    activation-figure (small 4 1) (untracked 0 0) 0 (0 ∷ 1 ∷ 2 ∷ 1 ∷ 1 ∷ 0 ∷ 1 ∷ 2 ∷ 0 ∷ []) ∷
+    activation-figure (small 4 1) (untracked 0 0) 14 (0 ∷ 13 ∷ 14 ∷ 1 ∷ 1 ∷ 0 ∷ 1 ∷ 2 ∷ 0 ∷ []) ∷ []
+
+-- e = n; a list with 'fewer than V places'; no row tracked; 'all of them if fewer are tracked'; a block that is the whole bank, and one that is
+-- empty; n = 1; the event before a window's last, and the last
+unfoldable pub event-edges : List Figure
+event-edges =
+    event-figure (small 2 1) (untracked 4 0) (21 ∷ 0 ∷ 7 ∷ 7 ∷ 0 ∷ 0 ∷ 0 ∷ 0 ∷ 4 ∷ 0 ∷ 0 ∷ 0 ∷ []) ∷
+    shown (10 ∷ 0 ∷ 0 ∷ 0 ∷ 0 ∷ 0 ∷ 0 ∷ 0 ∷ 0 ∷ 0 ∷ []) (event-numbers (refresh (small 2 1) (untracked 0 0) [])) ∷
+    event-figure (small 2 1) (untracked 0 0) (0 ∷ 0 ∷ 7 ∷ 7 ∷ 3 ∷ 4 ∷ 2 ∷ 3 ∷ 1 ∷ 0 ∷ 2 ∷ 2 ∷ []) ∷
+    event-figure (small 2 2) (two-places 14 0 1 0 0 1 1) (0 ∷ 1 ∷ 14 ∷ 7 ∷ 2 ∷ 3 ∷ 3 ∷ 3 ∷ 1 ∷ 0 ∷ 2 ∷ 3 ∷ []) ∷
+    event-figure (whole 4) (untracked 0 0) (0 ∷ 0 ∷ 7 ∷ 7 ∷ 13 ∷ 15 ∷ 10 ∷ 10 ∷ 1 ∷ 0 ∷ 2 ∷ 10 ∷ []) ∷
+    event-figure (whole 4) (untracked 1 0) (0 ∷ 0 ∷ 7 ∷ 7 ∷ 0 ∷ 0 ∷ 0 ∷ 0 ∷ 2 ∷ 0 ∷ 0 ∷ 0 ∷ []) ∷
+    event-figure (whole 1) (untracked 0 0) (0 ∷ 0 ∷ 7 ∷ 7 ∷ 13 ∷ 15 ∷ 10 ∷ 10 ∷ 0 ∷ 0 ∷ 2 ∷ 10 ∷ []) ∷
+    event-figure (small 2 1) (untracked 2 0) (0 ∷ 0 ∷ 7 ∷ 7 ∷ 10 ∷ 12 ∷ 3 ∷ 3 ∷ 3 ∷ 0 ∷ 2 ∷ 2 ∷ []) ∷
+    event-figure (small 2 1) (two-places 0 2 1 1 3 1 2) (0 ∷ 1 ∷ 0 ∷ 7 ∷ 14 ∷ 15 ∷ 3 ∷ 3 ∷ 0 ∷ 0 ∷ 2 ∷ 2 ∷ []) ∷ []
+
+-- two fresh summaries; another N; a row tracked in the second alone; the second's settings, tables and position refused
+unfoldable pub agreement-edges : List Figure
+agreement-edges =
+    agreement-figure (small 2 1) (untracked 0 0) (0 ∷ 1 ∷ []) ∷
+    agreement-figure (settings-of 32 2 1 2 4 4 8) (untracked 0 0) (0 ∷ 0 ∷ []) ∷
+    agreement-figure (small 2 1) (two-places 1 0 1 0 0 1 1) (0 ∷ 0 ∷ []) ∷
+    agreement-figure (small 3 1) (untracked 0 0) (2 ∷ []) ∷
+    agreement-figure (settings-of 16 2 1 3 4 4 4) (untracked 0 0) (8 ∷ []) ∷
+    agreement-figure (small 2 1) (untracked 4 0) (21 ∷ []) ∷ []
+
+-- all of them; tests/calls/edges.calls runs the same
+unfoldable pub edges : List Figure
+edges = set-up-edges ++ activation-edges ++ event-edges ++ agreement-edges

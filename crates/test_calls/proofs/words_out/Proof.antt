@@ -1,0 +1,56 @@
+-- `test_calls::words_out` is safe and ends. The invariant: `i` is at most the table's length, and the buffer's length stays.
+use Prim.Native.Nat.{_≤_, _-_}
+use mathlib.Core.Path.{_≡_}
+use borrow.Author.Needs.{needs}
+use lib.ListN.{length}
+use Rattle.test_calls.proofs.words_out.Statement.{statement}
+use Rattle.test_calls.proofs.words_out.Tie as tie
+
+abbrev Inv-loop : tie.InvT-loop
+Inv-loop buf₀ field table i₀ buf i = (i ≤ length table) × (length buf ≡ length buf₀)
+
+abbrev μ-loop : tie.MeasureT-loop
+μ-loop buf₀ field table i₀ buf i = length table - i
+
+loop-holds : tie.Need-loop-holds Inv-loop μ-loop
+loop-holds c = search needs
+
+mul-put-word : tie.Need-mul-put-word Inv-loop μ-loop
+mul-put-word c = search needs
+
+shared-slice-read-put-word : tie.Need-shared-slice-read-put-word Inv-loop μ-loop
+shared-slice-read-put-word c = search needs
+
+put-word-requires : tie.Need-put-word-requires Inv-loop μ-loop
+put-word-requires c κs = search needs
+
+add-i : tie.Need-add-i Inv-loop μ-loop
+add-i c = search needs
+
+loop-less : tie.Need-loop-less Inv-loop μ-loop
+loop-less c = search needs
+
+loop-again : tie.Need-loop-again Inv-loop μ-loop
+loop-again c = search needs
+
+same-length : tie.Need-same-length Inv-loop μ-loop
+same-length c = search needs
+
+returns : tie.Need-returns Inv-loop μ-loop
+returns c = search needs
+
+pub words-out-spec : {M : Type 1} → statement M
+words-out-spec =
+    tie.close
+    (tie.spec
+    Inv-loop
+    μ-loop
+    loop-holds
+    mul-put-word
+    shared-slice-read-put-word
+    put-word-requires
+    add-i
+    loop-less
+    loop-again
+    same-length
+    returns)

@@ -1,0 +1,66 @@
+#!/usr/bin/env python3
+"""Checks the limit on disturbance on random runs of the plain model.
+
+    python3 tests/limit/check.py [--seed N] [--runs N]
+
+Builds the model, which then plays the runs (tests/model/src/limit.rs): settings, early events and
+refused calls at random, and rows at random or chosen to drive disturbance high. After each call
+every row's disturbance has to be at most 2 x H, and at most H while the first window lasts; a call
+is refused only for its row, its list or a full interval. One fixed and one fresh seed (--seed
+repeats a fresh one).
+Exit status: 0 the limit held; 1 it did not; 2 something is missing or cannot be built.
+"""
+
+import argparse
+import os
+import pathlib
+import re
+import subprocess
+import sys
+
+sys.dont_write_bytecode = True
+sys.path.insert(0, str(pathlib.Path(__file__).resolve().parents[1]))
+from comparison import (
+    BUILD_MODEL, FIXED_SEED, MODEL, ROOT, TIME_LIMIT, Tally, arguments_with_seeds, build, give_up,
+)
+
+RUNS = 1000  # for each seed
+CLOSING = re.compile(r"limit: (\d+) passed, (\d+) failed")
+
+
+def play(tally, seed, runs, name):
+    """Adds the model's own count of runs; its other lines are printed as they are."""
+    tally.begin(f"{name}: {runs} runs")
+    try:
+        done = subprocess.run([MODEL, "limit", str(seed), str(runs)], stdout=subprocess.PIPE,
+                              text=True, timeout=TIME_LIMIT)
+    except subprocess.TimeoutExpired:
+        give_up(f"the model did not end within {TIME_LIMIT} seconds on seed {seed}")
+    *lines, last = done.stdout.splitlines() or [""]
+    closing = CLOSING.fullmatch(last)
+    if done.returncode not in (0, 1) or not closing:
+        give_up(f"the model failed on seed {seed}: exit status {done.returncode}")
+    for line in lines:
+        print(f"  {line.strip()}")
+    passed, failed = map(int, closing.groups())
+    if passed + failed != runs or (failed > 0) != (done.returncode == 1):
+        give_up(f"the model miscounted on seed {seed}: {last}")
+    tally.passed += passed
+    tally.failed += failed
+
+
+def main():
+    parser = argparse.ArgumentParser(description="Checks the limit on random runs of the model.")
+    parser.add_argument("--runs", type=int, default=RUNS, help="for each seed")
+    arguments, fresh_seed = arguments_with_seeds(parser)
+
+    os.chdir(ROOT)
+    build("target", BUILD_MODEL)
+    tally = Tally()
+    play(tally, FIXED_SEED, arguments.runs, "fixed")
+    play(tally, fresh_seed, arguments.runs, "fresh")
+    return tally.close("limit")
+
+
+if __name__ == "__main__":
+    sys.exit(main())
