@@ -1,6 +1,6 @@
 -- Runs of calls: the invariant of the plain tracker holds after setting up and after any list of calls. Every event is a regular one, so that a
 -- window has n of them, and an event leaves no activations.
-use mathlib.Core.Path.{_≡_, refl, _∙_, sym, ap}
+use mathlib.Core.Path.{_≡_, refl, sym, ap}
 use mathlib.Core.Bool.{true, false}
 use mathlib.Core.List.{List, [], _∷_, _++_}
 use Prim.Native.Nat.{ℕ, zero, suc, _+_, _%_}
@@ -10,17 +10,18 @@ use lib.Dec.{ltb, leb}
 use lib.ListN.{length, take, drop}
 use lib.Seq.{take-at}
 use Rattle.device.specs.declared.Settings.{Settings}
-use Rattle.device.specs.Refusal.{first-failed, unless, refuse, accepted, tested}
+use Rattle.device.specs.Refusal.{first-failed, refuse, accepted, tested}
 use Rattle.device.specs.Acceptance.{settings-tests}
 use Rattle.device.specs.Remap.{physical}
 use Rattle.laws.proofs.Cases.{split, zero-one}
 use Rattle.device.proofs.Permutation.{physical-below}
-use Rattle.device.proofs.Accepted.{Accepted, accepted as accepted-facts, or-later, settings-then}
+use Rattle.device.proofs.Accepted.{Accepted, accepted as accepted-facts}
 use Rattle.summary.specs.Steps.{Summary, empty, activation, picked, event}
 use Rattle.tracker.specs.declared.Position.{Position}
 use Rattle.tracker.specs.State.{State, state-of}
-use Rattle.tracker.specs.Calls.{kept-unless, tables-long, set-up-tests, set-up, activate, refresh, block-rows, ends-window, next-event, victims-in}
+use Rattle.tracker.specs.Calls.{kept-unless, set-up-tests, set-up, activate, refresh, block-rows, ends-window, next-event, victims-in}
 use Rattle.tracker.proofs.LaidOut.{read-back}
+use Rattle.tracker.proofs.Passed.{open-tables}
 use Rattle.tracker.proofs.Refusals.{Held, activation-refusals, refresh-refusals}
 use Rattle.limit.specs.Exact.{Happened, Exact, at-rest, after, after-all, exact}
 use Rattle.limit.specs.Present.{cleared, next-window, present-after-all, present}
@@ -50,7 +51,7 @@ pub record State-inv (s : Settings) (st : State) (x y : Exact) : Type 0 where
   pub stored : st ≡ state-of s events activations sum
   pub inv : Plain-inv s events activations sum x y
 
--- the counter and that of the present window, after a call
+-- the invariant after a call: of the state it leaves, the exact disturbance and that of the present window
 abbrev Call-inv : Settings → Command → State → Exact → Exact → Type 0
 Call-inv s c st x y =
     State-inv s (left-by s c st) (after s (told-by s c st) x) (after s (told-by s c st) (next-window s (told-by s c st) y))
@@ -132,29 +133,21 @@ unfolding tested
 tested-accepted zero p q e = (refl, cc)
 tested-accepted (suc k) p q e = zero-one (cc)
 
-or-later-zero : (k later : ℕ) → or-later k later ≡ 0 → k ≡ 0
-unfolding or-later
-or-later-zero zero later e = refl
-or-later-zero (suc k) later e = absurd (omega arith)
-
 module _ {s : Settings} {st : State} (b : Begun s st) where
-  set-up-passed : (first-failed (set-up-tests s (b .rows) (b .counts)) ≡ 0) × (state-of s 0 0 empty .position ≡ st .position)
+  set-up-tests-passed : (first-failed (set-up-tests s (b .rows) (b .counts)) ≡ 0) × (state-of s 0 0 empty .position ≡ st .position)
   unfolding set-up
-  set-up-passed =
+  set-up-tests-passed =
       tested-accepted (first-failed (set-up-tests s (b .rows) (b .counts))) (state-of s 0 0 empty .position) (st .position) (b .accepts)
 
   pub begun-accepted : first-failed (settings-tests s) ≡ 0
-  unfolding set-up-tests
-  begun-accepted =
-      or-later-zero (first-failed (settings-tests s)) (first-failed (unless (tables-long s (b .rows) (b .counts)) 8 ∷ []))
-      (sym (settings-then s (unless (tables-long s (b .rows) (b .counts)) 8 ∷ [])) ∙ set-up-passed .0)
+  begun-accepted = open-tables s (b .rows) (b .counts) (set-up-tests-passed .0) .settled
 
   begun-state : st ≡ state-of s 0 0 empty
   unfolding set-up kept-unless
   begun-state =
-      let rows : st .rows ≡ state-of s 0 0 empty .rows = rw (set-up-passed .0) at (b .rows-left) in
-      let counts : st .counts ≡ state-of s 0 0 empty .counts = rw (set-up-passed .0) at (b .counts-left) in
-      λ i. record { rows = rows i; counts = counts i; position = sym (set-up-passed .1) i }
+      let rows : st .rows ≡ state-of s 0 0 empty .rows = rw (set-up-tests-passed .0) at (b .rows-left) in
+      let counts : st .counts ≡ state-of s 0 0 empty .counts = rw (set-up-tests-passed .0) at (b .counts-left) in
+      λ i. record { rows = rows i; counts = counts i; position = sym (set-up-tests-passed .1) i }
 
   state-inv-set-up : State-inv s st at-rest at-rest
   state-inv-set-up =
