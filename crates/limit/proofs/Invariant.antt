@@ -107,7 +107,7 @@ module _ (s : Settings) (ok : Accepted s) {all e k a : ℕ} {sum : Summary} {x y
         room = i .room;
         counted = i .counted;
         together = i .together;
-        carry = carry-renewed s (row ∷ []) [] (row ∷ []) (i .carry);
+        carry = carry-renewed s (row ∷ []) (row ∷ []) (i .carry) [];
       }
 
   -- the rows that an event with any ascending block renews, each once, are the summary's sources

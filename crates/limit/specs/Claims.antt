@@ -35,19 +35,19 @@ Never-21 =
     ((row : ℕ) → activate s (state-after s calls st) row .refusal ≡ 21 → ⊥) ×
     ((picks : List ℕ) → refresh s (state-after s calls st) picks .refusal ≡ 21 → ⊥)
 
--- the tracker's e is f modulo n
+-- the position's e, 'events so far in this window', is 'the remainder of f by n'
 unfoldable pub Events-modulo : Type 0
 Events-modulo =
     (s : Settings) (st : State) → Begun s st → (calls : List Command) →
     state-after s calls st .position .events ≡ exact s (happened s calls st) .refreshes % s .window
 
--- every row's disturbance in the present window is at most its estimate
+-- every row's disturbance in the present window is at most its 'estimate'
 unfoldable pub Estimated : Type 0
 Estimated =
     (s : Settings) (st : State) → Begun s st → (calls : List Command) (row : ℕ) →
     present s (happened s calls st) .disturbance row ≤ estimate (summary-of (state-after s calls st)) row
 
--- and at most H(e + 1), H with e + 1 in place of n
+-- and at most H(e + 1), 'the bound H' with e + 1 in place of n
 unfoldable pub Window-figure : Type 0
 Window-figure =
     (s : Settings) (st : State) → Begun s st → (calls : List Command) (row : ℕ) →
