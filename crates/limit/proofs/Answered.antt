@@ -1,4 +1,4 @@
--- The limit of answers: a sequence of answers that meet their contracts is a run, of which demand 3 holds.
+-- A sequence of answers that meet their contracts is a run: a list of calls leads where it leads and tells the counter the same.
 use mathlib.Core.Path.{_≡_, refl, sym, _∙_, ap}
 use mathlib.Core.List.{List, [], _∷_, _++_}
 use lib.ListN.{take}
@@ -8,29 +8,21 @@ use Rattle.tracker.specs.Calls.{SetUp-call, Activation-call, Refresh-call}
 use Rattle.tracker.specs.Answers.{given, set-up-call, activation-call, refresh-call}
 use Rattle.limit.specs.Exact.{Happened, activated, refreshed}
 use Rattle.limit.specs.Run.{Command, activation-of, refresh-into, left-by, told-by, state-after, happened, Begun}
-use Rattle.limit.specs.Demand.{Demand-3}
-use Rattle.limit.specs.Answered.{Answered, set-up-answered, activation-answered, refresh-answered, Demand-3-of-answers}
-use Rattle.limit.proofs.Theorem.{limit}
-use Rattle.limit.proofs.Further.{state-after-append}
-
--- what happened in a list of calls behind another
-happened-append : (s : Settings) (cs ds : List Command) (st : State) → happened s (cs ++ ds) st ≡ happened s cs st ++ happened s ds (state-after s cs st)
-unfolding happened state-after
-happened-append s [] ds st = refl
-happened-append s (c ∷ cs) ds st = ap (λ (hs : List Happened). told-by s c st ∷ hs) (happened-append s cs ds (left-by s c st))
+use Rattle.limit.specs.Answered.{Answered, set-up-answered, activation-answered, refresh-answered}
+use Rattle.limit.proofs.Run.{state-after-append, happened-append}
 
 -- the run of a sequence of answers
-record Ran (s : Settings) (st : State) (told : List Happened) : Type 0 where
-  begun : State
-  starts : Begun s begun
-  calls : List Command
-  leads : st ≡ state-after s calls begun
-  tells : told ≡ happened s calls begun
+pub record Run-of (s : Settings) (st : State) (told : List Happened) : Type 0 where
+  pub begun : State
+  pub starts : Begun s begun
+  pub calls : List Command
+  pub leads : st ≡ state-after s calls begun
+  pub tells : told ≡ happened s calls begun
 
 -- one call more
-ran-call : {s : Settings} {st : State} {told : List Happened} (c : Command) → Ran s st told → (st′ : State) (h : Happened) → st′ ≡ left-by s c st → h ≡ told-by s c st → Ran s st′ (told ++ h ∷ [])
+run-of-call : {s : Settings} {st : State} {told : List Happened} (c : Command) → Run-of s st told → (st′ : State) (h : Happened) → st′ ≡ left-by s c st → h ≡ told-by s c st → Run-of s st′ (told ++ h ∷ [])
 unfolding state-after happened
-ran-call {s} c k st′ h left tells =
+run-of-call {s} c k st′ h left tells =
     record {
       begun = k .begun;
       starts = k .starts;
@@ -39,9 +31,9 @@ ran-call {s} c k st′ h left tells =
       tells = rw (tells, k .leads, k .tells, happened-append s (k .calls) (c ∷ []) (k .begun));
     }
 
-ran : {s : Settings} {st : State} {told : List Happened} → Answered s st told → Ran s st told
+pub answered-run : {s : Settings} {st : State} {told : List Happened} → Answered s st told → Run-of s st told
 unfolding set-up-call activation-call refresh-call given state-after happened left-by told-by
-ran (set-up-answered r p rows₀ counts₀ rows counts meets ready) =
+answered-run (set-up-answered r p rows₀ counts₀ rows counts meets ready) =
     record {
       begun = given rows counts p;
       starts = record {
@@ -55,17 +47,11 @@ ran (set-up-answered r p rows₀ counts₀ rows counts meets ready) =
       leads = refl;
       tells = refl;
     }
-ran (activation-answered a row r rows counts meets) =
-    ran-call (activation-of row) (ran a) _ _
+answered-run (activation-answered a row r rows counts meets) =
+    run-of-call (activation-of row) (answered-run a) _ _
     (ap (λ (c : Activation-call). c .state) meets)
     (ap (λ (c : Activation-call). activated row (c .accepts)) meets)
-ran (refresh-answered a list₀ r rows counts list meets) =
-    ran-call (refresh-into list₀) (ran a) _ _
+answered-run (refresh-answered a list₀ r rows counts list meets) =
+    run-of-call (refresh-into list₀) (answered-run a) _ _
     (ap (λ (c : Refresh-call). c .state) meets)
     (ap (λ (c : Refresh-call). refreshed (c .accepts) (take (c .count) (c .picks))) meets)
-
-pub limit-of-answers : Demand-3-of-answers
-unfolding Demand-3-of-answers Demand-3
-limit-of-answers s st told a row inside =
-    let k = ran a in
-    rw (k .tells) (limit s (k .begun) (k .starts) (k .calls) row inside)

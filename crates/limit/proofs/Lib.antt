@@ -1,10 +1,12 @@
--- The limit's proof, from single counts up to lists of calls.
-pub mod Counting
+-- The limit: the counter's laws, the averaging argument of one window, what is carried between windows, the invariant, runs of calls, the claims.
+pub mod Exact
 pub mod Scheme
 pub mod Window
-pub mod Instance
+pub mod Block
+pub mod SchemeOf
 pub mod Carry
 pub mod Invariant
-pub mod Theorem
-pub mod Further
+pub mod Run
 pub mod Answered
+pub mod Reachable
+pub mod Claims

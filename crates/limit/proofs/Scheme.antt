@@ -2,12 +2,9 @@
 -- others, each once. The bound of so many events, as the document's loop gives it.
 use mathlib.Core.Path.{_≡_}
 use mathlib.Core.List.{List}
-use Prim.Native.Nat.{ℕ, suc, _+_, _-_, _*_, _≤_, _<_}
-use native.Mathlib.Nat.{le-trans}
-use native.Mathlib.Omega.{arith}
+use Prim.Native.Nat.{ℕ, suc, _+_, _*_, _≤_, _<_}
 use Rattle.device.proofs.Times.{times}
 use Rattle.bound.specs.Totals.{total}
-use Rattle.bound.proofs.Growth.{total-grows}
 use Rattle.summary.proofs.Event.{Reach}
 
 pub record Scheme : Type 0 where

@@ -1,12 +1,11 @@
--- Demand 3 of the library: sequences of answers of `set_up`, `activate` and `refresh`. Of an answer only its function's contract is known: each
+-- Sequences of answers of `set_up`, `activate` and `refresh`. Of an answer only its function's contract is known: each
 -- constructor's first equation is the `ensures` in crates/tracker/src/lib.rt, with the tables and position that the answer before left.
-use Prim.Native.Nat.{ℕ, _*_, _≤_, _<_}
+use Prim.Native.Nat.{ℕ}
 use mathlib.Core.Path.{_≡_}
 use mathlib.Core.List.{List, [], _∷_, _++_}
 use lib.ListN.{take}
 use Rattle.device.specs.declared.Settings.{Settings}
 use Rattle.device.specs.Refusal.{accepted}
-use Rattle.bound.specs.Totals.{bound-of}
 use Rattle.tracker.specs.declared.Position.{Position}
 use Rattle.tracker.specs.declared.SetUp.{SetUp}
 use Rattle.tracker.specs.declared.Activation.{Activation}
@@ -14,7 +13,7 @@ use Rattle.tracker.specs.declared.Refreshed.{Refreshed}
 use Rattle.tracker.specs.State.{State}
 use Rattle.tracker.specs.Calls.{set-up, activate, refresh}
 use Rattle.tracker.specs.Answers.{given, set-up-call, set-up-outcome, activation-call, activation-accepts, activation-position, refresh-call, refresh-accepts, refresh-count, refresh-position}
-use Rattle.limit.specs.Exact.{Happened, activated, refreshed, exact}
+use Rattle.limit.specs.Exact.{Happened, activated, refreshed}
 
 -- a sequence of answers: the tables and position that the last one left, and what the counter was told
 pub data Answered (s : Settings) : State → List Happened → Type 0 where
@@ -24,10 +23,3 @@ pub data Answered (s : Settings) : State → List Happened → Type 0 where
   activation-answered : {st : State} {told : List Happened} → Answered s st told → (row : ℕ) (r : Activation) (rows counts : List ℕ) → activation-call r rows counts ≡ activate s st row → Answered s (given rows counts (activation-position r)) (told ++ activated row (activation-accepts r) ∷ [])
   -- an event with any lent list: it is told 'whether the call was accepted' and 'the rows .. from the lent list's front, as many as its answer says'
   refresh-answered : {st : State} {told : List Happened} → Answered s st told → (list₀ : List ℕ) (r : Refreshed) (rows counts list : List ℕ) → refresh-call r rows counts list ≡ refresh s st list₀ → Answered s (given rows counts (refresh-position r)) (told ++ refreshed (refresh-accepts r) (take (refresh-count r) list) ∷ [])
-
--- after any such sequence, every row's number is at most 2 × H, and at most H while the first window lasts (f below n)
-unfoldable pub Demand-3-of-answers : Type 0
-Demand-3-of-answers =
-    (s : Settings) (st : State) (told : List Happened) → Answered s st told → (row : ℕ) → row < s .rows →
-    (exact s told .disturbance row ≤ 2 * bound-of s) ×
-    (exact s told .refreshes < s .window → exact s told .disturbance row ≤ bound-of s)

@@ -42,29 +42,28 @@ unfoldable pub once : List ℕ → List ℕ
 once [] = []
 once (x ∷ xs) = x ∷ besides (x ∷ []) (once xs)
 
--- an event first sets 'every named and every block row' to 0
-unfoldable pub restored : Settings → List ℕ → ℕ → (ℕ → ℕ) → ℕ → ℕ
-restored s named e d = zeroed (named ++ block-rows s e) d
+-- 'every named and every block row' is set to 0
+unfoldable pub restored : List ℕ → List ℕ → (ℕ → ℕ) → ℕ → ℕ
+restored named block d = zeroed (named ++ block) d
 
--- an accepted event: 'the remainder of f by n as e' gives the block; its rows are set to 0, then 1 is added 'to each neighbour of each of
--- them, once per such row'
-unfoldable pub after-event : Settings → List ℕ → Exact → Exact
-after-event s named x =
-    let e = x .refreshes % s .window in
+-- the counter's one operation: named and block rows are set to 0, then 1 is added 'to each neighbour of each of them, once per such row'
+unfoldable pub renewed : Settings → List ℕ → List ℕ → Exact → Exact
+renewed s named block x =
     record {
-      disturbance = disturbed-by s (once (named ++ block-rows s e)) (restored s named e (x .disturbance));
-      refreshes = x .refreshes + 1;
-    }
-
--- one call: 'a refused call changes nothing'
-unfoldable pub after : Settings → Happened → Exact → Exact
-after s (activated row true) x =
-    record {
-      disturbance = disturbed-by s (physical row ∷ []) (zeroed (physical row ∷ []) (x .disturbance));
+      disturbance = disturbed-by s (once (named ++ block)) (restored named block (x .disturbance));
       refreshes = x .refreshes;
     }
+
+-- 'then f rises by 1'
+unfoldable pub one-event-more : Exact → Exact
+one-event-more x = record { disturbance = x .disturbance; refreshes = x .refreshes + 1 }
+
+-- one call: an activation renews 'the die row of its bus row'; an event the rows it named and the regular block, which 'the remainder of f by n
+-- as e' gives; 'a refused call changes nothing'
+unfoldable pub after : Settings → Happened → Exact → Exact
+after s (activated row true) x = renewed s (physical row ∷ []) [] x
 after s (activated row false) x = x
-after s (refreshed true named) x = after-event s named x
+after s (refreshed true named) x = one-event-more (renewed s named (block-rows s (x .refreshes % s .window)) x)
 after s (refreshed false named) x = x
 
 -- the calls in their order

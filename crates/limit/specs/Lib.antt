@@ -1,7 +1,7 @@
--- The exact disturbance, runs of calls, and the limit.
+-- The exact disturbance, runs of calls, sequences of answers, and what is claimed of them.
 pub mod Exact
 pub mod Present
 pub mod Run
-pub mod Demand
 pub mod Answered
 pub mod Reachable
+pub mod Claims

@@ -1,40 +1,9 @@
--- What holds of every state that a list of calls can reach, besides demand 3.
-use Prim.Native.Nat.{ℕ, _+_, _%_, _≤_}
+-- The states that a list of calls can reach after an accepted setting up.
 use mathlib.Core.Path.{_≡_}
 use mathlib.Core.List.{List}
 use Rattle.device.specs.declared.Settings.{Settings}
-use Rattle.bound.specs.Totals.{bound-at}
-use Rattle.summary.specs.Steps.{estimate}
-use Rattle.tracker.specs.State.{State, summary-of}
-use Rattle.tracker.specs.Calls.{activate, refresh}
-use Rattle.limit.specs.Exact.{exact}
-use Rattle.limit.specs.Present.{present}
-use Rattle.limit.specs.Run.{Command, Begun, state-after, happened}
-
--- no call is refused with 21
-unfoldable pub Never-21 : Type 0
-Never-21 =
-    (s : Settings) (st : State) → Begun s st → (calls : List Command) →
-    ((row : ℕ) → activate s (state-after s calls st) row .refusal ≡ 21 → ⊥) ×
-    ((picks : List ℕ) → refresh s (state-after s calls st) picks .refusal ≡ 21 → ⊥)
-
--- the tracker's e is f modulo n
-unfoldable pub Events-modulo : Type 0
-Events-modulo =
-    (s : Settings) (st : State) → Begun s st → (calls : List Command) →
-    state-after s calls st .position .events ≡ exact s (happened s calls st) .refreshes % s .window
-
--- every row's disturbance in the present window is at most its estimate
-unfoldable pub Estimated : Type 0
-Estimated =
-    (s : Settings) (st : State) → Begun s st → (calls : List Command) (row : ℕ) →
-    present s (happened s calls st) .disturbance row ≤ estimate (summary-of (state-after s calls st)) row
-
--- and at most H(e + 1), H with e + 1 in place of n
-unfoldable pub Window-figure : Type 0
-Window-figure =
-    (s : Settings) (st : State) → Begun s st → (calls : List Command) (row : ℕ) →
-    present s (happened s calls st) .disturbance row ≤ bound-at s (state-after s calls st .position .events + 1)
+use Rattle.tracker.specs.State.{State}
+use Rattle.limit.specs.Run.{Command, Begun, state-after}
 
 -- a state that some list of calls reaches after an accepted setting up
 pub record Reached (s : Settings) (st : State) : Type 0 where

@@ -1,36 +1,38 @@
--- Runs: any list of activations and events after an accepted setting up.
+-- Runs: 'the lists of activations and refresh events that can follow an accepted setting up'.
 use Prim.Native.Nat.{ℕ}
 use mathlib.Core.Path.{_≡_}
 use mathlib.Core.List.{List, [], _∷_}
 use lib.ListN.{take}
 use Rattle.device.specs.declared.Settings.{Settings}
 use Rattle.device.specs.Refusal.{accepted}
-use Rattle.tracker.specs.declared.Position.{Position}
 use Rattle.tracker.specs.State.{State}
 use Rattle.tracker.specs.Calls.{set-up, activate, refresh}
 use Rattle.limit.specs.Exact.{Happened, activated, refreshed}
 
--- a call of the list: an activation of any logical row, or an event with any lent list
+-- a call of the list: an activation with any logical row ('bus row'), or an event with any lent list
 pub data Command : Type 0 where
   activation-of : ℕ → Command
   refresh-into : List ℕ → Command
 
--- the state that a call leaves, and what the counter is told of it
+-- the state that a call leaves
 unfoldable pub left-by : Settings → Command → State → State
 left-by s (activation-of row) st = activate s st row .state
 left-by s (refresh-into picks) st = refresh s st picks .state
 
+-- what the counter 'is fed' of a call: its row, 'whether the call was accepted, and the rows that an accepted event named: from the lent list's front,
+-- as many as its answer says'
 unfoldable pub told-by : Settings → Command → State → Happened
 told-by s (activation-of row) st = activated row (activate s st row .accepts)
 told-by s (refresh-into picks) st =
     let call = refresh s st picks in
     refreshed (call .accepts) (take (call .count) (call .picks))
 
--- each call gets the tables and position that the call before left
+-- 'the first call gets the tables and the position that setting up left, each later one those that the call before left'
 unfoldable pub state-after : Settings → List Command → State → State
 state-after s [] st = st
 state-after s (c ∷ cs) st = state-after s cs (left-by s c st)
 
+-- what it is fed of the list, 'each call in order'
 unfoldable pub happened : Settings → List Command → State → List Happened
 happened s [] st = []
 happened s (c ∷ cs) st = told-by s c st ∷ happened s cs (left-by s c st)

@@ -15,7 +15,7 @@ use Rattle.tracker.specs.State.{State, summary-of}
 use Rattle.tracker.specs.Calls.{kept-unless, activation-tests, refresh-tests, activate, refresh}
 use Rattle.tracker.proofs.Passed.{activation-refused}
 use Rattle.limit.specs.Reachable.{Reached}
-use Rattle.limit.proofs.Further.{activation-refused-with, refresh-refused-with}
+use Rattle.limit.proofs.Reachable.{activation-refused-with, refresh-refused-with}
 
 module _ {s : Settings} {st : State} (r : Reached s st) where
   pub row-outside : (row : ℕ) → s .rows ≤ row → record { accepts = false; refusal = 9; state = st } ≡ activate s st row

@@ -14,7 +14,7 @@ use Rattle.tracker.specs.declared.Position.{Position}
 use Rattle.tracker.specs.State.{State}
 use Rattle.tracker.specs.Answers.{given}
 use Rattle.limit.specs.Reachable.{Reached}
-use Rattle.limit.proofs.Further.{reached-settled, reached-long}
+use Rattle.limit.proofs.Reachable.{reached-accepted, reached-length}
 use Rattle.listing.specs.declared.Place.{Place}
 use Rattle.listing.specs.Output.{Prints}
 use Rattle.listing.specs.Steps.{Standing, Step}
@@ -36,7 +36,7 @@ module _ (m : Memory) where
 
 -- C is at most 2,048
 pub counters-most : {s : Settings} {st : State} (t : List ℕ) → Reached s st → length t ≡ 2048 → s .counters ≤ length t
-counters-most {s} t r e = omega (arith, e, accepted s (reached-settled r) .counters .most)
+counters-most {s} t r e = omega (arith, e, accepted s (reached-accepted r) .counters .most)
 
 -- a place with another position, at a line
 abbrev at-line : Place → Position → ℕ → Place
@@ -73,7 +73,7 @@ module _ (m : Memory) (lines : ℕ) (ready : Ready m) where
   stored-carried none r = refl
   stored-carried (some t) r =
       let c : ℕ = t .settings .counters in
-      let long = reached-long r in
+      let long = reached-length r in
       rw (take-at (t .state .rows) (drop c (m .rows)) c (long .0), take-at (t .state .counts) (drop c (m .counts)) c (long .1))
 
   front-long : {s : Settings} {st : State} (front t : List ℕ) → Reached s st → length front ≡ s .counters → length t ≡ 2048 → length (front ++ drop (s .counters) t) ≡ 2048
@@ -87,6 +87,6 @@ module _ (m : Memory) (lines : ℕ) (ready : Ready m) where
   stored-ready (some t) r =
       record {
         running = rw (stored-carried (some t) r) r;
-        rows-long = front-long (t .state .rows) (m .rows) r (reached-long r .0) (ready .rows-long);
-        counts-long = front-long (t .state .counts) (m .counts) r (reached-long r .1) (ready .counts-long);
+        rows-long = front-long (t .state .rows) (m .rows) r (reached-length r .0) (ready .rows-long);
+        counts-long = front-long (t .state .counts) (m .counts) r (reached-length r .1) (ready .counts-long);
       }

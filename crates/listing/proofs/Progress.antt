@@ -8,7 +8,7 @@ use Rattle.device.specs.declared.Settings.{Settings}
 use Rattle.device.specs.Refusal.{Outcome, accepted, refused}
 use Rattle.tracker.specs.declared.Position.{Position}
 use Rattle.tracker.specs.Calls.{set-up}
-use Rattle.limit.proofs.Further.{reached-set-up, reached-activation, reached-refresh}
+use Rattle.limit.proofs.Reachable.{reached-set-up, reached-activation, reached-refresh}
 use Rattle.trace.specs.declared.Record.{Record}
 use Rattle.trace.specs.declared.Record.the-variants.{Set, Activate, Refresh, Blank}
 use Rattle.listing.specs.Steps.{Standing, Progress, start, Step, refused-step, set-up-step, activation-step, refresh-step, record-step, line-step, step, next}

@@ -17,7 +17,7 @@ use Rattle.tracker.specs.Calls.{Refresh-call, activation-tests, activate, refre
 use Rattle.tracker.proofs.Passed.{activation-done}
 use Rattle.tracker.specs.Answers.{given, refresh-call, refresh-count, refresh-position}
 use Rattle.limit.specs.Reachable.{Reached}
-use Rattle.limit.proofs.Further.{reached-settled}
+use Rattle.limit.proofs.Reachable.{reached-accepted}
 use Rattle.listing.specs.Output.{refusal-line, refresh-line, Prints}
 use Rattle.listing.specs.Steps.{answered, activation-step, refresh-step}
 use Rattle.listing.specs.Memory.{stood}
@@ -37,7 +37,7 @@ activation-listed s st row line rows counts p before at none left h =
     rw (← activation-done s st row none left) (record { printed = prints-nothing before at h; left = refl })
 
 pub volume-most : {s : Settings} {st : State} → Reached s st → s .volume ≤ 16
-volume-most {s} r = accepted s (reached-settled r) .others .volume .most
+volume-most {s} r = accepted s (reached-accepted r) .others .volume .most
 
 pub list-long : (n : ℕ) → n ≤ length {A = ℕ} (replicate n 0)
 list-long n = let long : length {A = ℕ} (replicate n 0) ≡ n = length-replicate n 0 in omega arith

@@ -1,22 +1,23 @@
--- The plain counter's operations, in numbers: what setting to 0 and adding 1 do to each row, and which rows an event refreshes.
+-- The exact counter's operation, in numbers: what setting to 0 and adding 1 do to each row, and that the rows of an event, each once, are the
+-- summary's sources.
 use mathlib.Core.Path.{_≡_, refl, _∙_, sym, ap}
-use mathlib.Core.Bool.{Bool, true, false, _||_, cond}
+use mathlib.Core.Bool.{false}
 use mathlib.Core.Logic.{_⊎_, inl, inr, ⊎-elim}
 use mathlib.Core.List.{List, [], _∷_, _++_}
-use Prim.Native.Nat.{ℕ, zero, suc, _+_, _≤_, _<_}
+use Prim.Native.Nat.{ℕ, _+_, _≤_}
 use native.Mathlib.Omega.{arith}
-use borrow.Author.Tests.{eqb-true, eqb-false, ne-eqb}
+use borrow.Author.Tests.{eqb-false, ne-eqb}
 use lib.Dec.{eqb}
 use Rattle.device.specs.declared.Settings.{Settings}
 use Rattle.laws.proofs.Cases.{split}
-use Rattle.device.proofs.Times.{hit, times, hit-other, times-append, times-below}
+use Rattle.device.proofs.Times.{hit, times, times-append, times-below}
 use Rattle.device.proofs.Neighbours as Neighbours
 use Rattle.device.proofs.Neighbours.{Ascends}
 use Rattle.summary.specs.Steps.{in-rows, besides}
 use Rattle.summary.proofs.Event.{reached}
 use Rattle.summary.proofs.Distinct as Distinct
 use Rattle.summary.proofs.Distinct.{Distinct}
-use Rattle.tracker.specs.Calls.{victims-in, block-rows}
+use Rattle.tracker.specs.Calls.{victims-in}
 use Rattle.limit.specs.Exact.{zeroed, restored, one-more, disturbed-by, once}
 
 one-more-times : (vs : List ℕ) (d : ℕ → ℕ) (v : ℕ) → one-more vs d v ≡ d v + times v vs
@@ -25,14 +26,14 @@ one-more-times [] d v = omega arith
 one-more-times (x ∷ xs) d v = omega (arith, one-more-times xs d v)
 
 -- each row's number rises by how often it is disturbed
-pub disturbed-reached : (s : Settings) (rows : List ℕ) (d : ℕ → ℕ) (v : ℕ) → disturbed-by s rows d v ≡ d v + reached (victims-in s) v rows
+pub disturbed-by-reached : (s : Settings) (rows : List ℕ) (d : ℕ → ℕ) (v : ℕ) → disturbed-by s rows d v ≡ d v + reached (victims-in s) v rows
 unfolding disturbed-by reached
-disturbed-reached s [] d v = omega arith
-disturbed-reached s (x ∷ xs) d v =
-    omega (arith, disturbed-reached s xs (one-more (victims-in s x) d) v, one-more-times (victims-in s x) d v)
+disturbed-by-reached s [] d v = omega arith
+disturbed-by-reached s (x ∷ xs) d v =
+    omega (arith, disturbed-by-reached s xs (one-more (victims-in s x) d) v, one-more-times (victims-in s x) d v)
 
 -- a row that is set to 0, or one that is not among them and keeps its number
-pub zeroed-cases : (rows : List ℕ) (d : ℕ → ℕ) (v : ℕ) → (zeroed rows d v ≡ 0) ⊎ ((times v rows ≡ 0) × (zeroed rows d v ≡ d v))
+zeroed-cases : (rows : List ℕ) (d : ℕ → ℕ) (v : ℕ) → (zeroed rows d v ≡ 0) ⊎ ((times v rows ≡ 0) × (zeroed rows d v ≡ d v))
 unfolding zeroed times hit
 zeroed-cases [] d v = inr (refl, refl)
 zeroed-cases (x ∷ xs) d v =
@@ -44,28 +45,50 @@ zeroed-cases (x ∷ xs) d v =
     (λ kept. inr (rw off (omega (arith, kept .0)), rw off (kept .1)))
     (zeroed-cases xs d v))
 
--- setting to 0 lowers every number or keeps it
-pub zeroed-most : (rows : List ℕ) (d : ℕ → ℕ) (v : ℕ) → zeroed rows d v ≤ d v
-zeroed-most rows d v = ⊎-elim (λ gone. omega (arith, gone)) (λ kept. omega (arith, kept .1)) (zeroed-cases rows d v)
-
--- it goes through a sum
-pub zeroed-sum : (rows : List ℕ) (a b c : ℕ → ℕ) (v : ℕ) → a v ≤ b v + c v → zeroed rows a v ≤ zeroed rows b v + zeroed rows c v
+zeroed-sum-le : (rows : List ℕ) (a b c : ℕ → ℕ) (v : ℕ) → a v ≤ b v + c v → zeroed rows a v ≤ zeroed rows b v + zeroed rows c v
 unfolding zeroed
-zeroed-sum [] a b c v h = h
-zeroed-sum (x ∷ xs) a b c v h = split (eqb x v) (λ on. rw on (omega arith)) (λ off. rw off (zeroed-sum xs a b c v h))
+zeroed-sum-le [] a b c v h = h
+zeroed-sum-le (x ∷ xs) a b c v h = split (eqb x v) (λ on. rw on (omega arith)) (λ off. rw off (zeroed-sum-le xs a b c v h))
 
--- an event's rows: set to 0, or neither named nor of the block and kept
-pub restored-cases : (s : Settings) (named : List ℕ) (e : ℕ) (d : ℕ → ℕ) (v : ℕ) → (restored s named e d v ≡ 0) ⊎ ((times v named ≡ 0) × (times v (block-rows s e) ≡ 0) × (restored s named e d v ≡ d v))
+-- named and block rows: set to 0, or neither named nor of the block and kept
+pub restored-cases : (named block : List ℕ) (d : ℕ → ℕ) (v : ℕ) → (restored named block d v ≡ 0) ⊎ ((times v named ≡ 0) × (times v block ≡ 0) × (restored named block d v ≡ d v))
 unfolding restored
-restored-cases s named e d v =
+restored-cases named block d v =
     ⊎-elim
     (λ gone. inl gone)
     (λ kept. let neither = rw times-append at (kept .0) in inr (omega arith, omega arith, kept .1))
     (zeroed-cases _ d v)
 
-pub restored-most : (s : Settings) (named : List ℕ) (e : ℕ) (d : ℕ → ℕ) (v : ℕ) → restored s named e d v ≤ d v
-restored-most s named e d v =
-    ⊎-elim (λ gone. omega (arith, gone)) (λ kept. omega (arith, kept .2)) (restored-cases s named e d v)
+-- no number rises
+pub restored-le : (named block : List ℕ) (d : ℕ → ℕ) (v : ℕ) → restored named block d v ≤ d v
+restored-le named block d v =
+    ⊎-elim (λ gone. omega (arith, gone)) (λ kept. omega (arith, kept .2)) (restored-cases named block d v)
+
+pub restored-zero : (named block : List ℕ) (d : ℕ → ℕ) (v : ℕ) → d v ≡ 0 → restored named block d v ≡ 0
+restored-zero named block d v e = omega (arith, restored-le named block d v)
+
+-- it goes through a sum
+pub restored-sum-le : (named block : List ℕ) (a b c : ℕ → ℕ) (v : ℕ) → a v ≤ b v + c v → restored named block a v ≤ restored named block b v + restored named block c v
+unfolding restored
+restored-sum-le named block a b c v h = zeroed-sum-le _ a b c v h
+
+-- rows are restored and rows disturb their victims: a row keeps only what disturbs it, or it is not among the restored and has that besides
+pub renewed-cases : (s : Settings) (named block sources : List ℕ) (d : ℕ → ℕ) (v : ℕ) → (disturbed-by s sources (restored named block d) v ≤ reached (victims-in s) v sources) ⊎ ((times v (named ++ block) ≡ 0) × (disturbed-by s sources (restored named block d) v ≤ d v + reached (victims-in s) v sources))
+renewed-cases s named block sources d v =
+    let total = disturbed-by-reached s sources (restored named block d) v in
+    ⊎-elim
+    (λ gone. inl (omega (arith, gone, total)))
+    (λ kept. inr (omega (arith, kept .0, kept .1, times-append v named block), omega (arith, kept .2, total)))
+    (restored-cases named block d v)
+
+-- where every row starts from 0, only what disturbs it is there
+pub renewed-from-zero : (s : Settings) (named block sources : List ℕ) (v : ℕ) → disturbed-by s sources (restored named block (λ row. 0)) v ≡ reached (victims-in s) v sources
+renewed-from-zero s named block sources v =
+    omega (
+      arith,
+      disturbed-by-reached s sources (restored named block (λ row. 0)) v,
+      restored-le named block (λ row. 0) v,
+    )
 
 besides-nothing : (xs : List ℕ) → besides [] xs ≡ xs
 unfolding besides in-rows

@@ -1,4 +1,4 @@
--- A reached state: one more call reaches one, it is valid, and its calls are refused with 9, 22 or 10 only.
+-- Reachable states: setting up reaches one, and so does one more call; their calls are refused with 9, 22 or 10 only, and their tables have C places.
 use mathlib.Core.Path.{_≡_, refl, sym, _∙_, ap}
 use mathlib.Core.Bool.{not}
 use mathlib.Core.List.{List, [], _∷_, _++_}
@@ -9,30 +9,21 @@ use lib.ListN.{length}
 use Rattle.device.specs.declared.Settings.{Settings}
 use Rattle.device.specs.Refusal.{first-failed, refuse}
 use Rattle.device.specs.Acceptance.{settings-tests}
-use Rattle.device.proofs.Accepted.{accepted}
 use Rattle.summary.specs.Entries.{rows-of, counts-of}
 use Rattle.summary.specs.Steps.{Summary}
 use Rattle.summary.proofs.Laid.{length-rows, length-counts, length-table}
-use Rattle.tracker.specs.State.{State, state-of, valid}
+use Rattle.tracker.specs.State.{State, state-of}
 use Rattle.tracker.specs.Calls.{activate, refresh, activation-tests, refresh-tests}
 use Rattle.tracker.proofs.Refusals.{Held, activation-refusals, refresh-refusals}
 use Rattle.limit.specs.Run.{Command, activation-of, refresh-into, left-by, state-after, Begun}
 use Rattle.limit.specs.Reachable.{Reached}
-use Rattle.limit.proofs.Instance.{held}
-use Rattle.limit.proofs.Invariant.{begun-accepted}
-use Rattle.limit.proofs.Theorem.{kept-run}
-
--- a list of calls behind another
-pub state-after-append : (s : Settings) (cs ds : List Command) (st : State) → state-after s (cs ++ ds) st ≡ state-after s ds (state-after s cs st)
-unfolding state-after
-state-after-append s [] ds st = refl
-state-after-append s (c ∷ cs) ds st = state-after-append s cs ds (left-by s c st)
+use Rattle.limit.proofs.Run.{state-after-append, begun-accepted, plain-held, state-inv-run}
 
 pub reached-set-up : {s : Settings} {st : State} → Begun s st → Reached s st
 unfolding state-after
 reached-set-up {s} {st} b = record { begun = st; starts = b; calls = []; leads = refl }
 
-pub reached-call : {s : Settings} {st : State} (c : Command) → Reached s st → Reached s (left-by s c st)
+reached-call : {s : Settings} {st : State} (c : Command) → Reached s st → Reached s (left-by s c st)
 unfolding state-after
 reached-call {s} {st} c r =
     record {
@@ -50,45 +41,43 @@ pub reached-refresh : {s : Settings} {st : State} (picks : List ℕ) → Reached
 unfolding left-by
 reached-refresh picks r = reached-call (refresh-into picks) r
 
-pub reached-settled : {s : Settings} {st : State} → Reached s st → first-failed (settings-tests s) ≡ 0
-reached-settled r = begun-accepted (r .starts)
+pub reached-accepted : {s : Settings} {st : State} → Reached s st → first-failed (settings-tests s) ≡ 0
+reached-accepted r = begun-accepted (r .starts)
 
 -- the summary that a reached state holds
-record Summed (s : Settings) (st : State) : Type 0 where
+record Sum-of (s : Settings) (st : State) : Type 0 where
   events : ℕ
   activations : ℕ
   sum : Summary
   stored : st ≡ state-of s events activations sum
   holds : Held s events activations sum
 
-summed : {s : Settings} {st : State} → Reached s st → Summed s st
-summed {s} {st} r =
-    let k = kept-run (r .starts) (r .calls) in
-    let i = k .inv in
+reached-sum : {s : Settings} {st : State} → Reached s st → Sum-of s st
+reached-sum {s} {st} r =
+    let k = state-inv-run (r .starts) (r .calls) in
     record {
       events = k .events;
       activations = k .activations;
       sum = k .sum;
       stored = r .leads ∙ k .stored;
-      holds = held s (accepted s (reached-settled r)) (i .window) (i .few) (i .within) (i .early);
+      holds = plain-held s (reached-accepted r) (k .inv);
     }
 
 pub activation-refused-with : {s : Settings} {st : State} → Reached s st → (row : ℕ) → first-failed (activation-tests s st row) ≡ refuse (not (ltb row (s .rows))) 9 (refuse (not (ltb (st .position .activations) (s .interval))) 22 0)
 unfolding state-of
 activation-refused-with {s} r row =
-    let k = summed r in
-    rw (k .stored) (activation-refusals s (k .events) (k .activations) (k .sum) (reached-settled r) (k .holds) row)
+    let k = reached-sum r in
+    rw (k .stored) (activation-refusals s (k .events) (k .activations) (k .sum) (reached-accepted r) (k .holds) row)
 
 pub refresh-refused-with : {s : Settings} {st : State} → Reached s st → (picks : List ℕ) → first-failed (refresh-tests s st picks) ≡ refuse (not (leb (s .volume) (length picks))) 10 0
 refresh-refused-with {s} r picks =
-    let k = summed r in
-    rw (k .stored) (refresh-refusals s (k .events) (k .activations) (k .sum) (reached-settled r) (k .holds) picks)
+    let k = reached-sum r in
+    rw (k .stored) (refresh-refusals s (k .events) (k .activations) (k .sum) (reached-accepted r) (k .holds) picks)
 
--- its tables have C places
-pub reached-long : {s : Settings} {st : State} → Reached s st → (length (st .rows) ≡ s .counters) × (length (st .counts) ≡ s .counters)
+pub reached-length : {s : Settings} {st : State} → Reached s st → (length (st .rows) ≡ s .counters) × (length (st .counts) ≡ s .counters)
 unfolding state-of
-reached-long {s} r =
-    let k = summed r in
+reached-length {s} r =
+    let k = reached-sum r in
     let es = k .sum .entries in
     let fits = k .holds .sound .fits in
     rw (k .stored) (

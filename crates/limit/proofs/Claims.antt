@@ -1,0 +1,70 @@
+-- The claims, each under its statement's name.
+use mathlib.Core.Path.{_≡_, sym}
+use mathlib.Core.Bool.{Bool, true, false, not}
+use native.Mathlib.Omega.{arith}
+use lib.Dec.{ltb, leb}
+use lib.ListN.{length}
+use Rattle.device.specs.Refusal.{refuse}
+use Rattle.device.proofs.Accepted.{accepted}
+use Rattle.bound.specs.Totals.{bound-of}
+use Rattle.tracker.specs.State.{state-of}
+use Rattle.tracker.specs.Calls.{activate, refresh}
+use Rattle.tracker.proofs.LaidOut.{read-back}
+use Rattle.tracker.proofs.Refusals.{activation-refusals, refresh-refusals}
+use Rattle.limit.specs.Claims.{Demand-3, Demand-3-of-answers, Never-21, Events-modulo, Estimated, Window-figure}
+use Rattle.limit.proofs.Invariant.{inv-limit, inv-first, inv-present}
+use Rattle.limit.proofs.Run.{begun-accepted, plain-held, state-inv-run}
+use Rattle.limit.proofs.Answered.{answered-run}
+
+pub demand-3 : Demand-3
+unfolding Demand-3 bound-of
+demand-3 s st b calls row inside =
+    let ok = accepted s (begun-accepted b) in
+    let i = state-inv-run b calls .inv in
+    (omega (arith, inv-limit s ok i row inside), λ first. inv-first s ok i first row inside)
+
+pub demand-3-of-answers : Demand-3-of-answers
+unfolding Demand-3-of-answers Demand-3
+demand-3-of-answers s st told a row inside =
+    let k = answered-run a in
+    rw (k .tells) (demand-3 s (k .begun) (k .starts) (k .calls) row inside)
+
+not-21 : (outside full : Bool) → refuse outside 9 (refuse full 22 0) ≡ 21 → ⊥
+unfolding refuse
+not-21 true full e = omega arith
+not-21 false true e = omega arith
+not-21 false false e = omega arith
+
+pub never-21 : Never-21
+unfolding Never-21 activate refresh refuse
+never-21 s st b calls =
+    let k = state-inv-run b calls in
+    let ok = begun-accepted b in
+    let sound = plain-held s ok (k .inv) in (
+      (λ row e.
+          not-21 (not (ltb row (s .rows))) (not (ltb (k .activations) (s .interval)))
+          (rw (k .stored, activation-refusals s (k .events) (k .activations) (k .sum) ok sound row) at e)),
+      (λ picks e.
+          short-21 (not (leb (s .volume) (length picks)))
+          (rw (k .stored, refresh-refusals s (k .events) (k .activations) (k .sum) ok sound picks) at e)),
+    )
+  where
+    short-21 : (short : Bool) → refuse short 10 0 ≡ 21 → ⊥
+    short-21 true e = omega arith
+    short-21 false e = omega arith
+
+pub events-modulo : Events-modulo
+unfolding Events-modulo state-of
+events-modulo s st b calls = let k = state-inv-run b calls in rw (k .stored) (sym (k .inv .counted))
+
+pub estimated : Estimated
+unfolding Estimated
+estimated s st b calls row =
+    let k = state-inv-run b calls in
+    rw (k .stored, read-back s (k .events) (k .activations) (k .sum)) (k .inv .window .estimates row)
+
+pub window-figure : Window-figure
+unfolding Window-figure state-of
+window-figure s st b calls row =
+    let k = state-inv-run b calls in
+    rw (k .stored) (inv-present s (accepted s (begun-accepted b)) (k .inv) row)

@@ -1,0 +1,54 @@
+-- What is claimed of every list of calls after an accepted setting up, and of every sequence of answers: each is proved in proofs/Claims.antt under
+-- the same name.
+use Prim.Native.Nat.{ℕ, _+_, _*_, _%_, _≤_, _<_}
+use mathlib.Core.Path.{_≡_}
+use mathlib.Core.List.{List}
+use Rattle.device.specs.declared.Settings.{Settings}
+use Rattle.bound.specs.Totals.{bound-at, bound-of}
+use Rattle.summary.specs.Steps.{estimate}
+use Rattle.tracker.specs.State.{State, summary-of}
+use Rattle.tracker.specs.Calls.{activate, refresh}
+use Rattle.limit.specs.Exact.{Happened, exact}
+use Rattle.limit.specs.Present.{present}
+use Rattle.limit.specs.Run.{Command, Begun, state-after, happened}
+use Rattle.limit.specs.Answered.{Answered}
+
+-- 'The limit on disturbance', demand 3, 'a single statement about the whole list': after it, every row's number is at most 2 × H, and at most H
+-- 'while the first window lasts' (f below n)
+unfoldable pub Demand-3 : Type 0
+Demand-3 =
+    (s : Settings) (st : State) → Begun s st → (calls : List Command) (row : ℕ) → row < s .rows →
+    (exact s (happened s calls st) .disturbance row ≤ 2 * bound-of s) ×
+    (exact s (happened s calls st) .refreshes < s .window → exact s (happened s calls st) .disturbance row ≤ bound-of s)
+
+-- demand 3 of the library: after any sequence of answers that meet their contracts, the same
+unfoldable pub Demand-3-of-answers : Type 0
+Demand-3-of-answers =
+    (s : Settings) (st : State) (told : List Happened) → Answered s st told → (row : ℕ) → row < s .rows →
+    (exact s told .disturbance row ≤ 2 * bound-of s) ×
+    (exact s told .refreshes < s .window → exact s told .disturbance row ≤ bound-of s)
+
+-- no call is refused with 21
+unfoldable pub Never-21 : Type 0
+Never-21 =
+    (s : Settings) (st : State) → Begun s st → (calls : List Command) →
+    ((row : ℕ) → activate s (state-after s calls st) row .refusal ≡ 21 → ⊥) ×
+    ((picks : List ℕ) → refresh s (state-after s calls st) picks .refusal ≡ 21 → ⊥)
+
+-- the position's e, 'events so far in this window', is 'the remainder of f by n'
+unfoldable pub Events-modulo : Type 0
+Events-modulo =
+    (s : Settings) (st : State) → Begun s st → (calls : List Command) →
+    state-after s calls st .position .events ≡ exact s (happened s calls st) .refreshes % s .window
+
+-- every row's disturbance in the present window is at most its 'estimate'
+unfoldable pub Estimated : Type 0
+Estimated =
+    (s : Settings) (st : State) → Begun s st → (calls : List Command) (row : ℕ) →
+    present s (happened s calls st) .disturbance row ≤ estimate (summary-of (state-after s calls st)) row
+
+-- and at most H(e + 1), 'the bound H' with e + 1 in place of n
+unfoldable pub Window-figure : Type 0
+Window-figure =
+    (s : Settings) (st : State) → Begun s st → (calls : List Command) (row : ℕ) →
+    present s (happened s calls st) .disturbance row ≤ bound-at s (state-after s calls st .position .events + 1)
