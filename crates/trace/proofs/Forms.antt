@@ -2,7 +2,7 @@
 use mathlib.Core.Path.{_≡_, refl, ap, sym, _∙_}
 use mathlib.Core.Bool.{false}
 use mathlib.Core.List.{List, [], _∷_}
-use mathlib.Core.Option.{none, some}
+use mathlib.Core.Option.{none, some, bind}
 use Prim.Native.Nat.{ℕ, _+_, _-_, _≤_}
 use native.Mathlib.Omega.{arith}
 use borrow.Author.Tests.{eqb-true, eq-eqb}
@@ -18,7 +18,7 @@ use Rattle.trace.specs.declared.Field.the-variants.{Number, Other}
 use Rattle.trace.specs.declared.Fields.{Fields}
 use Rattle.trace.specs.declared.Fields.the-variants.{Seven, Other as Fewer}
 use Rattle.trace.specs.Lines.{ended}
-use Rattle.trace.specs.Records.{and-then, seven-settings, found-seven, settings, activation, refresh}
+use Rattle.trace.specs.Records.{seven-settings, found-seven, settings, activation, refresh}
 use Rattle.trace.proofs.Options.{steps}
 use Rattle.laws.proofs.Cases.{missing, cond-test, cond-some}
 use Rattle.trace.proofs.Ends.{plain-append}
@@ -133,11 +133,11 @@ pub settings-form : Form settings 42
 settings-form = record { wide = settings-wide; plain = settings-plain }
 
 -- what the first bytes of a text say
-pub activation-bytes : (text : List ℕ) → 6 ≤ length text → activation (take 6 text) ≡ and-then (field 0 text) λ row. some (Activate row)
+pub activation-bytes : (text : List ℕ) → 6 ≤ length text → activation (take 6 text) ≡ bind (field 0 text) λ row. some (Activate row)
 unfolding activation
 activation-bytes text h = rw (eq-eqb _ _ (length-take-le 6 text h), field-in 0 6 text (omega arith))
 
-pub settings-bytes : (text : List ℕ) → 42 ≤ length text → settings (take 42 text) ≡ and-then (seven-settings text) λ s. some (Set s)
+pub settings-bytes : (text : List ℕ) → 42 ≤ length text → settings (take 42 text) ≡ bind (seven-settings text) λ s. some (Set s)
 unfolding settings seven-settings
 settings-bytes text h =
     rw (

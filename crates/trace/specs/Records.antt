@@ -2,7 +2,7 @@
 use mathlib.Core.Bool.{cond}
 use Prim.Native.Nat.{ℕ}
 use mathlib.Core.List.{List, [], _∷_}
-use mathlib.Core.Option.{Option, none, some}
+use mathlib.Core.Option.{Option, none, some, bind}
 use lib.Dec.{eqb}
 use lib.ListN.{length}
 use Rattle.trace.specs.Numbers.{field}
@@ -12,21 +12,16 @@ use Rattle.trace.specs.declared.Fields.the-variants.{Seven, Other}
 use Rattle.trace.specs.declared.Record.{Record}
 use Rattle.trace.specs.declared.Record.the-variants.{Set, Activate, Refresh, Blank}
 
--- what comes of a value, where there is one
-unfoldable pub and-then : {A B : Type 0} → Option A → (A → Option B) → Option B
-and-then none f = none
-and-then (some a) f = f a
-
 -- 'the seven settings' in their order, 6 columns each
 unfoldable pub seven-settings : List ℕ → Option Settings
 seven-settings bytes =
-    and-then (field 0 bytes) λ rows.
-    and-then (field 6 bytes) λ diameter.
-    and-then (field 12 bytes) λ volume.
-    and-then (field 18 bytes) λ counters.
-    and-then (field 24 bytes) λ interval.
-    and-then (field 30 bytes) λ window.
-    and-then (field 36 bytes) λ block.
+    bind (field 0 bytes) λ rows.
+    bind (field 6 bytes) λ diameter.
+    bind (field 12 bytes) λ volume.
+    bind (field 18 bytes) λ counters.
+    bind (field 24 bytes) λ interval.
+    bind (field 30 bytes) λ window.
+    bind (field 36 bytes) λ block.
     some
     (record {
       rows = rows;
@@ -45,11 +40,11 @@ found-seven Other = none
 
 -- the settings behind an `S`
 unfoldable pub settings : List ℕ → Option Record
-settings bytes = cond (eqb (length bytes) 42) (and-then (seven-settings bytes) λ s. some (Set s)) none
+settings bytes = cond (eqb (length bytes) 42) (bind (seven-settings bytes) λ s. some (Set s)) none
 
 -- 'a bus row' (logical row) behind an `A`
 unfoldable pub activation : List ℕ → Option Record
-activation bytes = cond (eqb (length bytes) 6) (and-then (field 0 bytes) λ row. some (Activate row)) none
+activation bytes = cond (eqb (length bytes) 6) (bind (field 0 bytes) λ row. some (Activate row)) none
 
 -- `R` 'alone': nothing behind it
 unfoldable pub refresh : List ℕ → Option Record

@@ -1,7 +1,7 @@
 -- `trace::activation` meets its contract.
 use mathlib.Core.Path.{_≡_, sym, _∙_}
 use mathlib.Core.List.{List}
-use mathlib.Core.Option.{none, some}
+use mathlib.Core.Option.{none, some, bind}
 use Prim.Native.Nat.{ℕ, _+_, _<_}
 use native.Mathlib.Omega.{arith}
 use borrow.Author.Needs.{needs}
@@ -9,7 +9,7 @@ use borrow.Author.Tests.{not-true, not-false}
 use lib.ListN.{length, take, drop, length-drop}
 use Rattle.trace.specs.declared.Record.the-variants.{Activate}
 use Rattle.trace.specs.Numbers.{field}
-use Rattle.trace.specs.Records.{activation, and-then}
+use Rattle.trace.specs.Records.{activation}
 use Rattle.trace.proofs.Fixed.{ends-inside, read-accepted, refused-elsewhere, refused-bytes}
 use Rattle.trace.proofs.Forms.{activation-form, activation-bytes, first-number, first-other}
 use Rattle.trace.proofs.activation.Statement.{statement}
@@ -28,11 +28,11 @@ number-requires : tie.Need-number-requires
 number-requires c κs = omega (arith, rw length-drop at (inside c))
 
 no-row : (text : List ℕ) → 6 < length text → field 0 text ≡ none → activation (take 6 text) ≡ none
-unfolding and-then
+unfolding bind
 no-row text h e = activation-bytes text (omega arith) ∙ rw e
 
 row : (text : List ℕ) (n : ℕ) → 6 < length text → field 0 text ≡ some n → activation (take 6 text) ≡ some (Activate n)
-unfolding and-then
+unfolding bind
 row text n h e = activation-bytes text (omega arith) ∙ rw e
 
 returns-2 : tie.Need-returns-2

@@ -1,7 +1,7 @@
 -- `trace::settings` meets its contract.
 use mathlib.Core.Path.{_≡_, sym, _∙_}
 use mathlib.Core.List.{List}
-use mathlib.Core.Option.{none, some}
+use mathlib.Core.Option.{none, some, bind}
 use Prim.Native.Nat.{ℕ, _+_, _<_}
 use native.Mathlib.Omega.{arith}
 use borrow.Author.Needs.{needs}
@@ -9,7 +9,7 @@ use borrow.Author.Tests.{not-true, not-false}
 use lib.ListN.{length, take, drop, length-drop}
 use Rattle.trace.specs.declared.Record.the-variants.{Set}
 use Rattle.device.specs.declared.Settings.{Settings}
-use Rattle.trace.specs.Records.{settings, seven-settings, and-then}
+use Rattle.trace.specs.Records.{settings, seven-settings}
 use Rattle.trace.proofs.Fixed.{ends-inside, read-accepted, refused-elsewhere, refused-bytes}
 use Rattle.trace.proofs.Forms.{settings-form, settings-bytes, found-settings, found-other}
 use Rattle.trace.proofs.settings.Statement.{statement}
@@ -28,11 +28,11 @@ seven-settings-requires : tie.Need-seven-settings-requires
 seven-settings-requires c κs = omega (arith, rw length-drop at (inside c))
 
 no-settings : (text : List ℕ) → 42 < length text → seven-settings text ≡ none → settings (take 42 text) ≡ none
-unfolding and-then
+unfolding bind
 no-settings text h e = settings-bytes text (omega arith) ∙ rw e
 
 set-up : (text : List ℕ) (s : Settings) → 42 < length text → seven-settings text ≡ some s → settings (take 42 text) ≡ some (Set s)
-unfolding and-then
+unfolding bind
 set-up text s h e = settings-bytes text (omega arith) ∙ rw e
 
 returns-2 : tie.Need-returns-2

@@ -1,10 +1,10 @@
 -- `trace::seven_settings` meets its contract: at each way out, what the fields before it hold.
 use mathlib.Core.Path.{_≡_}
-use mathlib.Core.Option.{some}
+use mathlib.Core.Option.{some, bind}
 use borrow.Author.Needs.{needs}
 use lib.ListN.{drop}
 use Rattle.trace.specs.Numbers.{field}
-use Rattle.trace.specs.Records.{and-then, seven-settings, found-seven}
+use Rattle.trace.specs.Records.{seven-settings, found-seven}
 use Rattle.trace.proofs.Forms.{first-number, first-other, is-number, is-other}
 use Rattle.trace.proofs.seven_settings.Statement.{statement}
 use Rattle.trace.proofs.seven_settings.Tie as tie
@@ -53,20 +53,20 @@ field₇ : (c : tie.After-known-told7) → field 36 (drop (start₇ c .args .at)
 field₇ c = is-number (start₇ c .args .text .now) (start₇ c .args .at) 36 _ _ (c .before .before .before .number7 .ensures) (c .before .block .given .1)
 
 returns : tie.Need-returns
-unfolding seven-settings found-seven and-then
+unfolding seven-settings found-seven bind
 returns c =
     let a = c .before .before .before .before .args in
     rw (first-other (a .text .now) (a .at) _ (c .before .before .number .ensures) (c .enum-told .given .1))
 
 returns-2 : tie.Need-returns-2
-unfolding seven-settings found-seven and-then
+unfolding seven-settings found-seven bind
 returns-2 c =
     let c₁ = c .before .before .before in
     let a = start₁ c₁ .args in
     rw (field₁ c₁, is-other (a .text .now) (a .at) 6 _ (c .before .before .number2 .ensures) (c .enum-told2 .given .1))
 
 returns-3 : tie.Need-returns-3
-unfolding seven-settings found-seven and-then
+unfolding seven-settings found-seven bind
 returns-3 c =
     let c₂ = c .before .before .before in
     let c₁ = c₂ .before .before .before .before in
@@ -74,7 +74,7 @@ returns-3 c =
     rw (field₁ c₁, field₂ c₂, is-other (a .text .now) (a .at) 12 _ (c .before .before .number3 .ensures) (c .enum-told3 .given .1))
 
 returns-4 : tie.Need-returns-4
-unfolding seven-settings found-seven and-then
+unfolding seven-settings found-seven bind
 returns-4 c =
     let c₃ = c .before .before .before in
     let c₂ = c₃ .before .before .before .before in
@@ -83,7 +83,7 @@ returns-4 c =
     rw (field₁ c₁, field₂ c₂, field₃ c₃, is-other (a .text .now) (a .at) 18 _ (c .before .before .number4 .ensures) (c .enum-told4 .given .1))
 
 returns-5 : tie.Need-returns-5
-unfolding seven-settings found-seven and-then
+unfolding seven-settings found-seven bind
 returns-5 c =
     let c₄ = c .before .before .before in
     let c₃ = c₄ .before .before .before .before in
@@ -93,7 +93,7 @@ returns-5 c =
     rw (field₁ c₁, field₂ c₂, field₃ c₃, field₄ c₄, is-other (a .text .now) (a .at) 24 _ (c .before .before .number5 .ensures) (c .enum-told5 .given .1))
 
 returns-6 : tie.Need-returns-6
-unfolding seven-settings found-seven and-then
+unfolding seven-settings found-seven bind
 returns-6 c =
     let c₅ = c .before .before .before in
     let c₄ = c₅ .before .before .before .before in
@@ -104,7 +104,7 @@ returns-6 c =
     rw (field₁ c₁, field₂ c₂, field₃ c₃, field₄ c₄, field₅ c₅, is-other (a .text .now) (a .at) 30 _ (c .before .before .number6 .ensures) (c .enum-told6 .given .1))
 
 returns-7 : tie.Need-returns-7
-unfolding seven-settings found-seven and-then
+unfolding seven-settings found-seven bind
 returns-7 c =
     let c₆ = c .before .before .before in
     let c₅ = c₆ .before .before .before .before in
@@ -116,7 +116,7 @@ returns-7 c =
     rw (field₁ c₁, field₂ c₂, field₃ c₃, field₄ c₄, field₅ c₅, field₆ c₆, is-other (a .text .now) (a .at) 36 _ (c .before .before .number7 .ensures) (c .enum-told7 .given .1))
 
 returns-8 : tie.Need-returns-8
-unfolding seven-settings found-seven and-then
+unfolding seven-settings found-seven bind
 returns-8 c =
     let c₇ = c in
     let c₆ = c₇ .before .before .before .before in
