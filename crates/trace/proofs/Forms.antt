@@ -3,22 +3,19 @@ use mathlib.Core.Path.{_≡_, refl, ap, sym, _∙_}
 use mathlib.Core.Bool.{false}
 use mathlib.Core.List.{List, [], _∷_}
 use mathlib.Core.Option.{none, some, bind}
-use Prim.Native.Nat.{ℕ, _+_, _-_, _≤_}
+use Prim.Native.Nat.{ℕ, zero, suc, _+_, _-_, _*_, _≤_, _<_}
 use native.Mathlib.Omega.{arith}
 use borrow.Author.Tests.{eqb-true, eq-eqb}
 use lib.Dec.{eqb}
-use lib.ListN.{length, take, drop, take-append-drop, drop-of-length-le}
-use lib.Seq.{take-take, drop-drop, length-take-le}
-use Rattle.device.specs.declared.Settings.{Settings}
+use lib.ListN.{length, getD, take, drop, length-drop, take-append-drop, drop-of-length-le}
+use lib.Seq.{getD-take, take-take, drop-drop, length-take-le}
 use Rattle.trace.specs.declared.Record.{Record}
 use Rattle.trace.specs.declared.Record.the-variants.{Set, Activate}
-use Rattle.trace.specs.Numbers.{number, field, found}
+use Rattle.trace.specs.Numbers.{number, field, fields, found}
 use Rattle.trace.specs.declared.Field.{Field}
 use Rattle.trace.specs.declared.Field.the-variants.{Number, Other}
-use Rattle.trace.specs.declared.Fields.{Fields}
-use Rattle.trace.specs.declared.Fields.the-variants.{Seven, Other as Fewer}
 use Rattle.trace.specs.Lines.{ended}
-use Rattle.trace.specs.Records.{seven-settings, found-seven, settings, activation, refresh}
+use Rattle.trace.specs.Records.{as-settings, settings, activation, refresh}
 use Rattle.trace.proofs.Options.{steps}
 use Rattle.laws.proofs.Cases.{missing, cond-test, cond-some}
 use Rattle.trace.proofs.Ends.{plain-append}
@@ -56,14 +53,6 @@ module _ (text : List ℕ) (at : ℕ) where
   unfolding found field
   first-other r h e = sym h ∙ ap found e
 
-pub found-settings : (bytes : List ℕ) (r : Fields) (s : Settings) → found-seven r ≡ seven-settings bytes → r ≡ Seven s → seven-settings bytes ≡ some s
-unfolding found-seven
-found-settings bytes r s h e = sym h ∙ ap found-seven e
-
-pub found-other : (bytes : List ℕ) (r : Fields) → found-seven r ≡ seven-settings bytes → r ≡ Fewer → seven-settings bytes ≡ none
-unfolding found-seven
-found-other bytes r h e = sym h ∙ ap found-seven e
-
 -- no byte 10 in a field's columns nor behind them
 field-plain : (k n : ℕ) (bytes : List ℕ) → field k bytes ≡ some n → ended (drop (k + 6) bytes) ≡ false → ended (drop k bytes) ≡ false
 unfolding field
@@ -74,6 +63,22 @@ field-plain k n bytes e h =
 none-behind : (k : ℕ) (bytes : List ℕ) → length bytes ≡ k → ended (drop k bytes) ≡ false
 unfolding ended
 none-behind k bytes h = rw (drop-of-length-le bytes {i = k} (omega arith))
+
+fields-plain : (k : ℕ) (bytes ns : List ℕ) → length bytes ≡ 6 * k → fields k bytes ≡ some ns → ended bytes ≡ false
+unfolding fields
+fields-plain zero bytes ns w h = none-behind 0 bytes w
+fields-plain (suc k) bytes ns w h =
+    steps (field 0 bytes) _ ns h λ n e h₀.
+    steps (fields k (drop 6 bytes)) _ ns h₀ λ ms e₁ h₁.
+    field-plain 0 n bytes e (fields-plain k (drop 6 bytes) ms (length-drop 6 bytes ∙ omega arith) e₁)
+
+-- the fields within the first bytes
+fields-take : (k : ℕ) (text : List ℕ) → fields k (take (6 * k) text) ≡ fields k text
+unfolding fields
+fields-take zero text = refl
+fields-take (suc k) text =
+    let first : 6 * suc k ≡ 6 + 6 * k = omega arith in
+    rw (first, field-in 0 (6 + 6 * k) text (omega arith), slice-columns text 6 (6 * k), fields-take k (drop 6 text))
 
 refresh-wide : (bytes : List ℕ) (r : Record) → refresh bytes ≡ some r → length bytes ≡ 0
 unfolding refresh
@@ -105,29 +110,11 @@ settings-wide : (bytes : List ℕ) (r : Record) → settings bytes ≡ some r �
 unfolding settings
 settings-wide bytes r h = eqb-true (length bytes) 42 (cond-test (eqb (length bytes) 42) _ r h)
 
-seven-plain : (bytes : List ℕ) (s : Settings) → length bytes ≡ 42 → seven-settings bytes ≡ some s → ended bytes ≡ false
-unfolding seven-settings
-seven-plain bytes s w h =
-    steps (field 0 bytes) _ s h λ a e₀ h₀.
-    steps (field 6 bytes) _ s h₀ λ b e₁ h₁.
-    steps (field 12 bytes) _ s h₁ λ c e₂ h₂.
-    steps (field 18 bytes) _ s h₂ λ d e₃ h₃.
-    steps (field 24 bytes) _ s h₃ λ e e₄ h₄.
-    steps (field 30 bytes) _ s h₄ λ f e₅ h₅.
-    steps (field 36 bytes) _ s h₅ λ g e₆ h₆.
-    field-plain 0 a bytes e₀
-    (field-plain 6 b bytes e₁
-    (field-plain 12 c bytes e₂
-    (field-plain 18 d bytes e₃
-    (field-plain 24 e bytes e₄
-    (field-plain 30 f bytes e₅
-    (field-plain 36 g bytes e₆ (none-behind 42 bytes w)))))))
-
 settings-plain : (bytes : List ℕ) (r : Record) → settings bytes ≡ some r → ended bytes ≡ false
 unfolding settings
 settings-plain bytes r h =
-    steps (seven-settings bytes) _ r (cond-some (eqb (length bytes) 42) _ r h)
-    (λ s e k. seven-plain bytes s (settings-wide bytes r h) e)
+    steps (fields 7 bytes) _ r (cond-some (eqb (length bytes) 42) _ r h)
+    (λ ns e k. fields-plain 7 bytes ns (settings-wide bytes r h) e)
 
 pub settings-form : Form settings 42
 settings-form = record { wide = settings-wide; plain = settings-plain }
@@ -137,16 +124,21 @@ pub activation-bytes : (text : List ℕ) → 6 ≤ length text → activation (t
 unfolding activation
 activation-bytes text h = rw (eq-eqb _ _ (length-take-le 6 text h), field-in 0 6 text (omega arith))
 
-pub settings-bytes : (text : List ℕ) → 42 ≤ length text → settings (take 42 text) ≡ bind (seven-settings text) λ s. some (Set s)
-unfolding settings seven-settings
-settings-bytes text h =
+pub settings-bytes : (text : List ℕ) → 42 ≤ length text → settings (take 42 text) ≡ bind (fields 7 text) λ ns. some (Set (as-settings ns))
+unfolding settings
+settings-bytes text h = rw (eq-eqb _ _ (length-take-le 42 text h), fields-take 7 text)
+
+-- settings made of an array are those of its first seven numbers
+pub as-settings-take : (values : List ℕ) → as-settings (take 7 values) ≡ as-settings values
+unfolding as-settings
+as-settings-take values =
+    let same : (i : ℕ) → i < 7 → getD (take 7 values) i 0 ≡ getD values i 0 = λ i h. getD-take 7 values i 0 h in
     rw (
-      eq-eqb _ _ (length-take-le 42 text h),
-      field-in 0 42 text (omega arith),
-      field-in 6 42 text (omega arith),
-      field-in 12 42 text (omega arith),
-      field-in 18 42 text (omega arith),
-      field-in 24 42 text (omega arith),
-      field-in 30 42 text (omega arith),
-      field-in 36 42 text (omega arith),
+      same 0 (omega arith),
+      same 1 (omega arith),
+      same 2 (omega arith),
+      same 3 (omega arith),
+      same 4 (omega arith),
+      same 5 (omega arith),
+      same 6 (omega arith),
     )

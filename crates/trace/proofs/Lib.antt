@@ -7,3 +7,4 @@ pub mod Forms
 pub mod Letters
 pub mod Printing
 pub mod Streams
+pub mod Numbers

@@ -4,43 +4,28 @@ use Prim.Native.Nat.{ℕ}
 use mathlib.Core.List.{List, [], _∷_}
 use mathlib.Core.Option.{Option, none, some, bind}
 use lib.Dec.{eqb}
-use lib.ListN.{length}
-use Rattle.trace.specs.Numbers.{field}
+use lib.ListN.{length, getD}
+use Rattle.trace.specs.Numbers.{field, fields}
 use Rattle.device.specs.declared.Settings.{Settings}
-use Rattle.trace.specs.declared.Fields.{Fields}
-use Rattle.trace.specs.declared.Fields.the-variants.{Seven, Other}
 use Rattle.trace.specs.declared.Record.{Record}
 use Rattle.trace.specs.declared.Record.the-variants.{Set, Activate, Refresh, Blank}
 
--- 'the seven settings' in their order, 6 columns each
-unfoldable pub seven-settings : List ℕ → Option Settings
-seven-settings bytes =
-    bind (field 0 bytes) λ rows.
-    bind (field 6 bytes) λ diameter.
-    bind (field 12 bytes) λ volume.
-    bind (field 18 bytes) λ counters.
-    bind (field 24 bytes) λ interval.
-    bind (field 30 bytes) λ window.
-    bind (field 36 bytes) λ block.
-    some
-    (record {
-      rows = rows;
-      «blast_diameter» = diameter;
-      volume = volume;
-      counters = counters;
-      interval = interval;
-      window = window;
-      block = block;
-    })
+-- seven numbers as 'the seven settings', in their order
+unfoldable pub as-settings : List ℕ → Settings
+as-settings numbers =
+    record {
+      rows = getD numbers 0 0;
+      «blast_diameter» = getD numbers 1 0;
+      volume = getD numbers 2 0;
+      counters = getD numbers 3 0;
+      interval = getD numbers 4 0;
+      window = getD numbers 5 0;
+      block = getD numbers 6 0;
+    }
 
--- what the code found in those columns
-unfoldable pub found-seven : Fields → Option Settings
-found-seven (Seven s) = some s
-found-seven Other = none
-
--- the settings behind an `S`
+-- the settings behind an `S`: 7 numbers
 unfoldable pub settings : List ℕ → Option Record
-settings bytes = cond (eqb (length bytes) 42) (bind (seven-settings bytes) λ s. some (Set s)) none
+settings bytes = cond (eqb (length bytes) 42) (bind (fields 7 bytes) λ numbers. some (Set (as-settings numbers))) none
 
 -- 'a bus row' (logical row) behind an `A`
 unfoldable pub activation : List ℕ → Option Record

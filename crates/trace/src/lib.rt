@@ -1,12 +1,12 @@
 // The trace reader, and numbers in columns: read from lent text, printed into a lent buffer.
 use device::Settings;
 ghost use mathlib.Core.Path.{_≡_};
-ghost use Prim.Native.Nat.{_+_, _≤_, _<_};
+ghost use Prim.Native.Nat.{_+_, _*_, _≤_, _<_};
 ghost use lib.ListN.{length, drop};
 ghost use lib.Seq.{slice};
-ghost use Rattle.trace.specs.Numbers.{digits as digits-of, field, found, digit-or-blank as column-of, printed, written};
+ghost use Rattle.trace.specs.Numbers.{digits as digits-of, field, fields, found, found-all, digit-or-blank as column-of, printed, written};
 ghost use Rattle.trace.specs.Lines.{extent, ends-after};
-ghost use Rattle.trace.specs.Records.{seven-settings as seven-of, found-seven, settings as settings-of, activation as activation-of, refresh as refresh-of};
+ghost use Rattle.trace.specs.Records.{as-settings, settings as settings-of, activation as activation-of, refresh as refresh-of};
 ghost use Rattle.trace.specs.Reading.{said, reading, reading-by, Handed-on};
 
 // How wide a number is.
@@ -18,10 +18,10 @@ pub enum Field {
     Other,
 }
 
-// What the columns of the settings hold.
-pub enum Fields {
-    Seven(Settings),
-    Other,
+// What some fields hold: whether each is a number, and these numbers from the front on.
+pub struct Fields {
+    pub all: bool,
+    pub values: [u32; 16],
 }
 
 // What a line says: settings, an activation of a logical row, a refresh event, or nothing.
@@ -108,41 +108,36 @@ fn number(text: &[u8], from: usize) -> Field
     Field::Other
 }
 
-// The seven settings from a place on.
-fn seven_settings(text: &[u8], at: usize) -> Fields
-    requires { ⌜ at + 42 ≤ length (now text) ⌝ }
-    ensures { λ r. ⌜ found-seven r ≡ seven-of (drop at (now (text .entry))) ⌝ }
+// The numbers in so many fields from a place on.
+fn read_fields(text: &[u8], at: usize, count: usize) -> Fields
+    requires { ⌜ (count ≤ 16) × (at + 6 * count ≤ length (now text)) ⌝ }
+    ensures { λ r. ⌜ found-all count r ≡ fields count (drop at (now (text .entry))) ⌝ }
 {
-    let Field::Number(rows) = number(text, at) else {
-        return Fields::Other;
-    };
-    let Field::Number(blast_diameter) = number(text, at + 6) else {
-        return Fields::Other;
-    };
-    let Field::Number(volume) = number(text, at + 12) else {
-        return Fields::Other;
-    };
-    let Field::Number(counters) = number(text, at + 18) else {
-        return Fields::Other;
-    };
-    let Field::Number(interval) = number(text, at + 24) else {
-        return Fields::Other;
-    };
-    let Field::Number(window) = number(text, at + 30) else {
-        return Fields::Other;
-    };
-    let Field::Number(block) = number(text, at + 36) else {
-        return Fields::Other;
-    };
-    Fields::Seven(Settings {
-        rows,
-        blast_diameter,
-        volume,
-        counters,
-        interval,
-        window,
-        block,
-    })
+    let mut values = [0u32; 16];
+    let mut i: usize = 0;
+    while i < count {
+        let Field::Number(n) = number(text, at + COLUMNS * i) else {
+            return Fields { all: false, values };
+        };
+        values[i] = n;
+        i += 1;
+    }
+    Fields { all: true, values }
+}
+
+// The first seven numbers as settings.
+fn as_settings(values: [u32; 16]) -> Settings
+    ensures { λ r. ⌜ r ≡ as-settings values ⌝ }
+{
+    Settings {
+        rows: values[0],
+        blast_diameter: values[1],
+        volume: values[2],
+        counters: values[3],
+        interval: values[4],
+        window: values[5],
+        block: values[6],
+    }
 }
 
 // A line of settings, from behind its letter on.
@@ -153,10 +148,12 @@ fn settings(text: &[u8], at: usize) -> Read
     if !ends_after(text, at, 42) {
         return Read::Refused(line_end(text, at));
     }
-    let Fields::Seven(s) = seven_settings(text, at) else {
+    let found = read_fields(text, at, 7);
+    if !found.all {
         return Read::Refused(line_end(text, at));
-    };
-    Read::Line(Record::Set(s), at + 43)
+    }
+    let values = found.values;
+    Read::Line(Record::Set(as_settings(values)), at + 43)
 }
 
 // An activation's line, from behind its letter on.

@@ -1,4 +1,5 @@
 -- `trace::settings` meets its contract.
+use mathlib.Core.Bool.{true, false}
 use mathlib.Core.Path.{_≡_, sym, _∙_}
 use mathlib.Core.List.{List}
 use mathlib.Core.Option.{none, some, bind}
@@ -7,11 +8,13 @@ use native.Mathlib.Omega.{arith}
 use borrow.Author.Needs.{needs}
 use borrow.Author.Tests.{not-true, not-false}
 use lib.ListN.{length, take, drop, length-drop}
+use Rattle.trace.specs.declared.Fields.{Fields}
+use Rattle.trace.specs.Numbers.{fields, found-all}
 use Rattle.trace.specs.declared.Record.the-variants.{Set}
 use Rattle.device.specs.declared.Settings.{Settings}
-use Rattle.trace.specs.Records.{settings, seven-settings}
+use Rattle.trace.specs.Records.{as-settings, settings}
 use Rattle.trace.proofs.Fixed.{ends-inside, read-accepted, refused-elsewhere, refused-bytes}
-use Rattle.trace.proofs.Forms.{settings-form, settings-bytes, found-settings, found-other}
+use Rattle.trace.proofs.Forms.{settings-form, settings-bytes, as-settings-take}
 use Rattle.trace.proofs.settings.Statement.{statement}
 use Rattle.trace.proofs.settings.Tie as tie
 
@@ -24,33 +27,41 @@ returns c =
 inside : (c : tie.Else1) → 42 < length (drop (c .before .before .before .args .at) (c .before .before .before .args .text .now))
 inside c = ends-inside 42 _ (sym (c .before .ends-after .ensures) ∙ not-false _ (c .if1 .left))
 
-seven-settings-requires : tie.Need-seven-settings-requires
-seven-settings-requires c κs = omega (arith, rw length-drop at (inside c))
+read-fields-requires : tie.Need-read-fields-requires
+read-fields-requires c κs = (omega arith, omega (arith, rw length-drop at (inside c)))
 
-no-settings : (text : List ℕ) → 42 < length text → seven-settings text ≡ none → settings (take 42 text) ≡ none
-unfolding bind
-no-settings text h e = settings-bytes text (omega arith) ∙ rw e
+-- what the numbers found say of the line
+module _ (text : List ℕ) (r : Fields) (long : 42 < length text) (found : found-all 7 r ≡ fields 7 text) where
+  settings-other : r .all ≡ false → settings (take 42 text) ≡ none
+  unfolding found-all bind
+  settings-other e =
+      let there : fields 7 text ≡ none = sym found ∙ rw e in
+      settings-bytes text (omega arith) ∙ rw there
 
-set-up : (text : List ℕ) (s : Settings) → 42 < length text → seven-settings text ≡ some s → settings (take 42 text) ≡ some (Set s)
-unfolding bind
-set-up text s h e = settings-bytes text (omega arith) ∙ rw e
+  settings-numbers : (s : Settings) → s ≡ as-settings (r .values) → r .all ≡ true → settings (take 42 text) ≡ some (Set s)
+  unfolding found-all bind
+  settings-numbers s is e =
+      let there : fields 7 text ≡ some (take 7 (r .values)) = sym found ∙ rw e in
+      settings-bytes text (omega arith) ∙ rw (there, as-settings-take (r .values), is)
 
 returns-2 : tie.Need-returns-2
 returns-2 c =
-    let a = c .before .before .before .before .before .before .before .args in
+    let told = c .before .before .before in
+    let else₁ = told .before in
+    let a = else₁ .before .before .before .args in
     let text = drop (a .at) (a .text .now) in
-    let none-there = found-other text _ (c .before .before .before .seven-settings .ensures) (c .before .enum-told .given .1) in
-    refused-bytes settings-form text (a .at) _ (c .line-end2 .ensures) (no-settings text (inside (c .before .before .before .before)) none-there)
+    let says = settings-other text _ (inside else₁) (told .read-fields .ensures) (not-true _ (c .before .if2 .taken)) in
+    refused-bytes settings-form text (a .at) _ (c .line-end2 .ensures) says
 
 returns-3 : tie.Need-returns-3
 returns-3 c =
-    let a = c .before .before .before .before .before .before .before .args in
+    let told = c .before .before .before .before in
+    let else₁ = told .before in
+    let a = else₁ .before .before .before .args in
     let text = drop (a .at) (a .text .now) in
-    let there = found-settings text _ _ (c .before .before .before .seven-settings .ensures) (c .before .s .given .1) in
-    let else₁ = c .before .before .before .before in
+    let says = settings-numbers text _ (inside else₁) (told .read-fields .ensures) _ (c .as-settings .ensures) (not-false _ (c .before .before .if2 .left)) in
     read-accepted settings-form text (a .at) _ (a .at + 43) (omega arith)
-    (sym (else₁ .before .ends-after .ensures) ∙ not-false _ (else₁ .if1 .left))
-    (set-up text _ (inside else₁) there)
+    (sym (else₁ .before .ends-after .ensures) ∙ not-false _ (else₁ .if1 .left)) says
 
 pub settings-spec : {M : Type 1} → statement M
 settings-spec =
@@ -59,10 +70,9 @@ settings-spec =
     (λ c κs. search needs)
     (λ c κs. search needs)
     returns
-    seven-settings-requires
-    (λ c. search needs)
-    (λ c. search needs)
+    read-fields-requires
     (λ c κs. search needs)
     returns-2
+    (λ c κs. search needs)
     (λ c. search needs)
     returns-3)

@@ -1,0 +1,2 @@
+-- Laws of numbers in columns.
+pub mod Fields
