@@ -1,13 +1,10 @@
 -- Numbers in columns, read and printed.
 use Prim.Native.Nat.{ℕ, zero, suc, _+_, _-_, _*_, _/_, _%_}
-use mathlib.Core.Bool.{Bool, true, false, _&&_, cond}
+use mathlib.Core.Bool.{Bool, _&&_, cond}
 use mathlib.Core.List.{List, [], _∷_, _++_}
 use mathlib.Core.Option.{Option, none, some, bind}
 use lib.Dec.{leb, eqb}
 use lib.ListN.{length, take, drop}
-use Rattle.trace.specs.declared.Field.{Field}
-use Rattle.trace.specs.declared.Field.the-variants.{Number, Other}
-use Rattle.trace.specs.declared.Fields.{Fields}
 
 -- 'digit'
 unfoldable pub is-digit : ℕ → Bool
@@ -31,15 +28,6 @@ field column bytes = number (take 6 (drop column bytes))
 unfoldable pub fields : ℕ → List ℕ → Option (List ℕ)
 fields zero bytes = some []
 fields (suc k) bytes = bind (field 0 bytes) λ n. bind (fields k (drop 6 bytes)) λ ns. some (n ∷ ns)
-
--- what some columns hold: a number, or something else
-unfoldable pub found : Field → Option ℕ
-found (Number n) = some n
-found Other = none
-
--- what so many fields hold: as many numbers, or something else in one of them
-unfoldable pub found-all : ℕ → Fields → Option (List ℕ)
-found-all count r = cond (r .all) (some (take count (r .values))) none
 
 -- a column in front of the last, with what is left of the number there: its last digit, or a blank where nothing is left
 unfoldable pub digit-or-blank : ℕ → ℕ
