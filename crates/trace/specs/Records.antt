@@ -5,12 +5,13 @@ use mathlib.Core.List.{List, [], _∷_}
 use mathlib.Core.Option.{Option, none, some, bind}
 use lib.Dec.{eqb}
 use lib.ListN.{length, getD}
+use Rattle.trace.specs.Bytes.{letter-A, letter-R, letter-S}
 use Rattle.trace.specs.Numbers.{field, fields}
 use Rattle.device.specs.declared.Settings.{Settings}
 use Rattle.trace.specs.declared.Record.{Record}
 use Rattle.trace.specs.declared.Record.the-variants.{Set, Activate, Refresh, Blank}
 
--- seven numbers as 'the seven settings', in their order
+-- numbers as 'the seven settings', in their order
 unfoldable pub as-settings : List ℕ → Settings
 as-settings numbers =
     record {
@@ -23,23 +24,23 @@ as-settings numbers =
       block = getD numbers 6 0;
     }
 
--- the settings behind an `S`: 7 numbers
+-- 'a settings record': the seven settings behind an `S`, 6 columns each
 unfoldable pub settings : List ℕ → Option Record
 settings bytes = cond (eqb (length bytes) 42) (bind (fields 7 bytes) λ numbers. some (Set (as-settings numbers))) none
 
--- 'a bus row' (logical row) behind an `A`
+-- 'an activation record holding its row': a bus row (logical row) behind an `A`, in 6 columns
 unfoldable pub activation : List ℕ → Option Record
 activation bytes = cond (eqb (length bytes) 6) (bind (field 0 bytes) λ row. some (Activate row)) none
 
--- `R` 'alone': nothing behind it
+-- 'an event': `R` 'alone', nothing behind it
 unfoldable pub refresh : List ℕ → Option Record
 refresh [] = some Refresh
 refresh (b ∷ bs) = none
 
--- a line by its first byte: `S`, `A`, `R`, or blank (no bytes)
+-- 'Lines: `S` and the seven settings; `A` and a bus row; `R` alone; or blank (no bytes)'
 unfoldable pub record-of : List ℕ → Option Record
 record-of [] = some Blank
 record-of (b ∷ bs) =
-    cond (eqb b 83) (settings bs)
-    (cond (eqb b 65) (activation bs)
-    (cond (eqb b 82) (refresh bs) none))
+    cond (eqb b letter-S) (settings bs)
+    (cond (eqb b letter-A) (activation bs)
+    (cond (eqb b letter-R) (refresh bs) none))

@@ -250,9 +250,9 @@ fn digit_or_blank(left: u64) -> u8
     ensures { λ r. ⌜ r ≡ digit-or-blank left ⌝ }
 {
     if left == 0 {
-        32
+        b' '
     } else {
-        (48 + left % 10) as u8
+        (b'0' as u64 + left % 10) as u8
     }
 }
 
@@ -265,7 +265,7 @@ pub fn print_number(out: &mut [u8], at: usize, columns: usize, n: u64)
         return;
     }
     let mut i = at + columns - 1;
-    out[i] = (48 + n % 10) as u8;
+    out[i] = (b'0' as u64 + n % 10) as u8;
     let mut left = n / 10;
     while at < i {
         i -= 1;

@@ -66,6 +66,7 @@ print-number-spec =
     (λ c. omega arith)
     (λ c. omega arith)
     (λ c. omega arith)
+    (λ c. omega arith)
     loop-holds
     (λ c. omega arith)
     (λ c κs. search needs)
