@@ -12,6 +12,7 @@ use lib.Seq.{length-take-le, getD-take}
 use Rattle.laws.proofs.Cases.{split, missing, cond-test, cond-some}
 use Rattle.trace.specs.declared.Record.{Record}
 use Rattle.trace.specs.declared.Record.the-variants.{Set, Activate}
+use Rattle.trace.specs.Bytes.{letter-A, letter-R, letter-S}
 use Rattle.trace.specs.Lines.{ended}
 use Rattle.trace.specs.Numbers.{field, fields}
 use Rattle.trace.specs.Records.{as-settings, settings, activation, refresh, record-of}
@@ -86,7 +87,8 @@ as-settings-take values =
       same 6 (omega arith),
     )
 
-length-letter-le : {says : List ℕ → Option Record} {w : ℕ} → Form says w → w ≤ 42 → (bytes : List ℕ) (r : Record) → says bytes ≡ some r → suc (length bytes) ≤ 43
+length-letter-le : {says : List ℕ → Option Record} {w : ℕ} → Form says w → w ≤ 42
+    → (bytes : List ℕ) (r : Record) → says bytes ≡ some r → suc (length bytes) ≤ 43
 length-letter-le form h bytes r e = omega (arith, form .same-length bytes r e)
 
 -- the widest record has 43 bytes before its byte 10
@@ -94,12 +96,12 @@ pub length-record-le : (bytes : List ℕ) (r : Record) → record-of bytes ≡ s
 unfolding record-of
 length-record-le [] r h = omega arith
 length-record-le (b ∷ bytes) r h =
-    split (eqb b 83)
+    split (eqb b letter-S)
     (λ s. length-letter-le settings-form (omega arith) bytes r (rw s at h))
     (λ s.
-    split (eqb b 65)
+    split (eqb b letter-A)
     (λ a. length-letter-le activation-form (omega arith) bytes r (rw (s, a) at h))
     (λ a.
-    split (eqb b 82)
+    split (eqb b letter-R)
     (λ f. length-letter-le refresh-form (omega arith) bytes r (rw (s, a, f) at h))
     (λ f. missing (rw (s, a, f) at h))))

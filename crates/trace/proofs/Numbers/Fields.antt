@@ -27,7 +27,9 @@ unfolding behind bind
 behind-one-more xs n none = refl
 behind-one-more xs n (some ys) = ap some (sym (append-assoc xs (n ∷ []) ys))
 
-pub fields-number : (k n : ℕ) (bytes : List ℕ) → 0 < k → field 0 bytes ≡ some n → fields k bytes ≡ bind (fields (k - 1) (drop 6 bytes)) λ ns. some (n ∷ ns)
+-- by the first field
+pub fields-number : (k n : ℕ) (bytes : List ℕ) → 0 < k → field 0 bytes ≡ some n
+    → fields k bytes ≡ bind (fields (k - 1) (drop 6 bytes)) λ ns. some (n ∷ ns)
 unfolding fields bind
 fields-number zero n bytes h e = absurd (omega arith)
 fields-number (suc k) n bytes h e =
@@ -59,8 +61,10 @@ fields-take (suc k) text =
 pub ended-field : (k n : ℕ) (bytes : List ℕ) → field k bytes ≡ some n → ended (drop (k + 6) bytes) ≡ false → ended (drop k bytes) ≡ false
 unfolding field
 ended-field k n bytes e h =
-    let behind : ended (drop 6 (drop k bytes)) ≡ false = rw drop-drop h in
-    rw (ended-append (take 6 (drop k bytes)) (drop 6 (drop k bytes)) (ended-number n (take 6 (drop k bytes)) e) behind) at (sym (ap ended (take-append-drop 6 (drop k bytes))))
+    let columns = take 6 (drop k bytes) in
+    let others = drop 6 (drop k bytes) in
+    let behind : ended others ≡ false = rw drop-drop h in
+    sym (ap ended (take-append-drop 6 (drop k bytes))) ∙ ended-append columns others (ended-number n columns e) behind
 
 pub ended-fields : (k : ℕ) (bytes ns : List ℕ) → length bytes ≡ 6 * k → fields k bytes ≡ some ns → ended bytes ≡ false
 unfolding fields

@@ -22,7 +22,7 @@ drop-set : (l : List ℕ) (j x : ℕ) → j < length l → drop j (set l j x) �
 drop-set l j x h =
     drop-cons (set l j x) j 0 (rw length-set h) ∙ rw (getD-set-same l j x 0 h, drop-set-lt (suc j) l j x (omega arith))
 
--- a byte is written: it joins the text in with-columns-before of it
+-- a byte is written: it joins the text in front of it
 append-set : (out text : List ℕ) (at j x : ℕ) → at ≤ j → j < length out
     → take at (set out j x) ++ text ++ drop j (set out j x) ≡ take at out ++ (text ++ (x ∷ [])) ++ drop (suc j) out
 append-set out text at j x h k = rw (take-set-le at out j x h, drop-set out j x k) (simp append-assoc)
@@ -31,7 +31,8 @@ append-set out text at j x h k = rw (take-set-le at out j x h, drop-set out j x 
 abbrev pub with-columns-before : List ℕ → ℕ → ℕ → ℕ → List ℕ
 with-columns-before out at i left = take at out ++ columns-before (i - at) left ++ drop i out
 
-pub with-columns-before-set : (out : List ℕ) (at i left : ℕ) → at < i → i ≤ length out → with-columns-before (set out (i - 1) (digit-or-blank left)) at (i - 1) (left / 10) ≡ with-columns-before out at i left
+pub with-columns-before-set : (out : List ℕ) (at i left : ℕ) → at < i → i ≤ length out
+    → with-columns-before (set out (i - 1) (digit-or-blank left)) at (i - 1) (left / 10) ≡ with-columns-before out at i left
 unfolding columns-before
 with-columns-before-set out at i left h k =
     let one-more : i - at ≡ suc (i - 1 - at) = omega arith in

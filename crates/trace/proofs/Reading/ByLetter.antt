@@ -13,6 +13,7 @@ use lib.Seq.{drop-cons}
 use Rattle.trace.specs.declared.Read.the-variants.{Line, Refused}
 use Rattle.trace.specs.declared.Record.{Record}
 use Rattle.trace.specs.declared.Record.the-variants.{Blank}
+use Rattle.trace.specs.Bytes.{letter-A, letter-R, letter-S}
 use Rattle.trace.specs.Lines.{line, ended, extent}
 use Rattle.trace.specs.Reading.{said, or-refused, reading-by, reading}
 use Rattle.trace.specs.Records.{settings, activation, refresh, record-of}
@@ -45,20 +46,21 @@ module _ (text : List ℕ) (place : ℕ) (h : place < length text) where
         → reading text place ≡ reading-by says (drop (place + 1) text) (place + 1)
     reading-letter long says same = reading-letter-by (λ e. long (sym is ∙ e)) says (λ bytes. rw is (same bytes))
 
-  pub reading-activation : getD text place 0 ≡ 65 → reading text place ≡ reading-by activation (drop (place + 1) text) (place + 1)
+  pub reading-activation : getD text place 0 ≡ letter-A → reading text place ≡ reading-by activation (drop (place + 1) text) (place + 1)
   unfolding record-of
-  reading-activation e = reading-letter 65 e (λ w. omega arith) activation (λ bytes. refl)
+  reading-activation e = reading-letter letter-A e (λ w. omega arith) activation (λ bytes. refl)
 
-  pub reading-refresh : getD text place 0 ≡ 82 → reading text place ≡ reading-by refresh (drop (place + 1) text) (place + 1)
+  pub reading-refresh : getD text place 0 ≡ letter-R → reading text place ≡ reading-by refresh (drop (place + 1) text) (place + 1)
   unfolding record-of
-  reading-refresh e = reading-letter 82 e (λ w. omega arith) refresh (λ bytes. refl)
+  reading-refresh e = reading-letter letter-R e (λ w. omega arith) refresh (λ bytes. refl)
 
-  pub reading-settings : getD text place 0 ≡ 83 → reading text place ≡ reading-by settings (drop (place + 1) text) (place + 1)
+  pub reading-settings : getD text place 0 ≡ letter-S → reading text place ≡ reading-by settings (drop (place + 1) text) (place + 1)
   unfolding record-of
-  reading-settings e = reading-letter 83 e (λ w. omega arith) settings (λ bytes. refl)
+  reading-settings e = reading-letter letter-S e (λ w. omega arith) settings (λ bytes. refl)
 
-  pub reading-other : (getD text place 0 ≡ 65 → ⊥) → (getD text place 0 ≡ 82 → ⊥) → (getD text place 0 ≡ 83 → ⊥) → (getD text place 0 ≡ 10 → ⊥)
+  pub reading-other : (getD text place 0 ≡ letter-A → ⊥) → (getD text place 0 ≡ letter-R → ⊥) → (getD text place 0 ≡ letter-S → ⊥) → (getD text place 0 ≡ 10 → ⊥)
       → (next : ℕ) → next ≡ place + 1 + extent (drop (place + 1) text) → said (Refused next) ≡ reading text place
   unfolding record-of said reading-by or-refused
   reading-other a r s long next e =
-      rw (reading-letter-by long (λ bytes. none) (λ bytes. rw (ne-eqb _ _ s, ne-eqb _ _ a, ne-eqb _ _ r)), cond-none (ended (drop (place + 1) text)), e)
+      let says-none = reading-letter-by long (λ bytes. none) (λ bytes. rw (ne-eqb _ _ s, ne-eqb _ _ a, ne-eqb _ _ r)) in
+      rw (says-none, cond-none (ended (drop (place + 1) text)), e)

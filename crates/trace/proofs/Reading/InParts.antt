@@ -17,7 +17,8 @@ use Rattle.trace.proofs.Lines.{line-append-end, ended-append-end, exten
 use Rattle.trace.proofs.Records.{length-record-le}
 
 -- a line that ended, with more text behind it
-reading-by-append : (says : List ℕ → Option Record) (text more : List ℕ) (at : ℕ) → ended text ≡ true → reading-by says (text ++ more) at ≡ reading-by says text at
+reading-by-append : (says : List ℕ → Option Record) (text more : List ℕ) (at : ℕ) → ended text ≡ true
+    → reading-by says (text ++ more) at ≡ reading-by says text at
 unfolding reading-by
 reading-by-append says text more at h =
     let bytes = line text in

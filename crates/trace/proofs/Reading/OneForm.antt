@@ -49,7 +49,8 @@ module _ {says : List ℕ → Option Record} {w : ℕ} (form : Form says w) (tex
       absurd (never r (ends-after-true w text inside byte) (rw is-line s))))
       (λ e. rw e)
 
-  reading-by-refused : (next : ℕ) → next ≡ at + extent text → cond (ended text) (says (line text)) none ≡ none → said (Refused next) ≡ reading-by says text at
+  reading-by-refused : (next : ℕ) → next ≡ at + extent text → cond (ended text) (says (line text)) none ≡ none
+      → said (Refused next) ≡ reading-by says text at
   unfolding said reading-by or-refused
   reading-by-refused next n z = rw (z, n)
 

@@ -1,4 +1,4 @@
--- `trace::print_number` meets its contract. The invariant: with the columns in with-columns-before of i still to be written, the buffer is as it is to be.
+-- `trace::print_number` meets its contract. The invariant: with the columns in front of i still to be written, the buffer is as it is to be.
 use mathlib.Core.Path.{_≡_, refl, sym, _∙_}
 use mathlib.Core.List.{List}
 use Prim.Native.Nat.{ℕ, _-_, _≤_, _<_, _/_}
@@ -12,7 +12,7 @@ use Rattle.trace.proofs.print_number.Tie as tie
 
 record Left (out₀ : List ℕ) (at i₀ left₀ : ℕ) (out : List ℕ) (i left : ℕ) : Type 0 where
   same : with-columns-before out at i left ≡ with-columns-before out₀ at i₀ left₀
-  kept : length out ≡ length out₀
+  same-length : length out ≡ length out₀
   least : at ≤ i
   most : i < length out₀
 
@@ -27,7 +27,7 @@ again : {out₀ out : List ℕ} {at i₀ left₀ i left : ℕ} → Left out₀ a
 again {out₀} {out} {at} {i₀} {left₀} {i} {left} l h =
     record {
       same = with-columns-before-set out at i left h (omega arith) ∙ l .same;
-      kept = rw length-set (l .kept);
+      same-length = rw length-set (l .same-length);
       least = omega arith;
       most = omega arith;
     }
@@ -41,13 +41,13 @@ returns c =
     rw (c .if1 .taken) (written-printed-zero (a .out .now) (a .at) (a .n))
 
 loop-holds : tie.Need-loop-holds Inv-loop μ-loop
-loop-holds c = record { same = refl; kept = refl; least = omega arith; most = rw length-set (omega arith) }
+loop-holds c = record { same = refl; same-length = refl; least = omega arith; most = rw length-set (omega arith) }
 
 loop-again : tie.Need-loop-again Inv-loop μ-loop
 loop-again c = rw (c .digit-or-blank .ensures) (again (c .before .before .loop .inv) (omega arith))
 
 same-length : tie.Need-same-length Inv-loop μ-loop
-same-length c = c .before .loop .inv .kept ∙ simp length-set
+same-length c = c .before .loop .inv .same-length ∙ simp length-set
 
 returns-2 : tie.Need-returns-2 Inv-loop μ-loop
 returns-2 c =

@@ -10,14 +10,14 @@ use native.Mathlib.Omega.{arith}
 use borrow.Author.Needs.{needs}
 use lib.ListN.{length, take, drop, set, length-set}
 use lib.Seq.{drop-drop, take-suc-set}
-use Rattle.trace.specs.Contracts.{found, found-all}
+use Rattle.trace.specs.Contracts.{found-all}
 use Rattle.trace.specs.Numbers.{field, fields}
 use Rattle.trace.proofs.Contracts.{field-found-number, field-found-other}
 use Rattle.trace.proofs.Numbers.Fields.{behind, behind-none-read, behind-one-more, fields-number, fields-other}
 use Rattle.trace.proofs.read_fields.Statement.{statement}
 use Rattle.trace.proofs.read_fields.Tie as tie
 
--- i of the numbers are read into the with-columns-before of the array
+-- i of the numbers are read into the front of the array
 record Filled (text : List ℕ) (at count : ℕ) (values : List ℕ) (i : ℕ) : Type 0 where
   same : behind (take i values) (fields (count - i) (drop (at + 6 * i) text)) ≡ fields count (drop at text)
   long : length values ≡ 16
@@ -29,7 +29,8 @@ filled-zero text at count values h =
     record { same = rw (add-zero, all) (behind-none-read (fields count (drop at text))); long = h; most = omega arith }
 
 module _ {text : List ℕ} {at count : ℕ} {values : List ℕ} {i : ℕ} where
-  filled-number : (n : ℕ) → Filled text at count values i → i < count → count ≤ 16 → field 0 (drop (at + 6 * i) text) ≡ some n → Filled text at count (set values i n) (i + 1)
+  filled-number : (n : ℕ) → Filled text at count values i → i < count → count ≤ 16 → field 0 (drop (at + 6 * i) text) ≡ some n
+      → Filled text at count (set values i n) (i + 1)
   filled-number n f h c e =
       let next : at + 6 * (i + 1) ≡ at + 6 * i + 6 = omega arith in
       let left : count - (i + 1) ≡ count - i - 1 = omega arith in
@@ -42,9 +43,12 @@ module _ {text : List ℕ} {at count : ℕ} {values : List ℕ} {i : ℕ} where
         most = omega arith;
       }
 
-  filled-other : Filled text at count values i → i < count → field 0 (drop (at + 6 * i) text) ≡ none → found-all count (record { all = false; values = values }) ≡ fields count (drop at text)
+  filled-other : Filled text at count values i → i < count → field 0 (drop (at + 6 * i) text) ≡ none
+      → found-all count (record { all = false; values = values }) ≡ fields count (drop at text)
   unfolding behind found-all
-  filled-other f h e = sym (ap (behind (take i values)) (fields-other (count - i) (drop (at + 6 * i) text) (omega arith) e)) ∙ f .same
+  filled-other f h e =
+      let none-left = fields-other (count - i) (drop (at + 6 * i) text) (omega arith) e in
+      sym (ap (behind (take i values)) none-left) ∙ f .same
 
   filled-all : Filled text at count values i → count ≤ i → found-all count (record { all = true; values = values }) ≡ fields count (drop at text)
   unfolding behind found-all fields
@@ -67,7 +71,8 @@ returns c =
     let turn = c .before .before .before .before in
     let l = turn .loop in
     let a = turn .before .before .args in
-    filled-other (l .inv) (omega arith) (field-found-other (a .text .now) (a .at + 6 * l .i) _ (c .before .before .read-field .ensures) (c .enum-told .given .1))
+    let is-other = field-found-other (a .text .now) (a .at + 6 * l .i) _ (c .before .before .read-field .ensures) (c .enum-told .given .1) in
+    filled-other (l .inv) (omega arith) is-other
 
 loop-again : tie.Need-loop-again Inv-loop μ-loop
 loop-again c =

@@ -15,12 +15,14 @@ returns : tie.Need-returns
 unfolding refresh
 returns c =
     let a = c .before .before .before .args in
-    reading-by-accepted refresh-form (drop (a .at) (a .text .now)) (a .at) Refresh (a .at + 1) (omega arith) (sym (c .before .ends-after .ensures) ∙ c .if1 .taken) refl
+    reading-by-accepted refresh-form (drop (a .at) (a .text .now)) (a .at) Refresh (a .at + 1) (omega arith)
+    (sym (c .before .ends-after .ensures) ∙ c .if1 .taken) refl
 
 returns-2 : tie.Need-returns-2
 returns-2 c =
     let a = c .before .before .before .before .args in
-    reading-by-other-width refresh-form (drop (a .at) (a .text .now)) (a .at) _ (c .line-end .ensures) (sym (c .before .before .ends-after .ensures) ∙ c .before .if1 .left)
+    reading-by-other-width refresh-form (drop (a .at) (a .text .now)) (a .at) _ (c .line-end .ensures)
+    (sym (c .before .before .ends-after .ensures) ∙ c .before .if1 .left)
 
 pub read-refresh-spec : {M : Type 1} → statement M
 read-refresh-spec =

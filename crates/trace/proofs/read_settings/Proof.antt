@@ -11,7 +11,7 @@ use lib.ListN.{length, take, drop, length-drop}
 use Rattle.device.specs.declared.Settings.{Settings}
 use Rattle.trace.specs.declared.Fields.{Fields}
 use Rattle.trace.specs.declared.Record.the-variants.{Set}
-use Rattle.trace.specs.Contracts.{found, found-all}
+use Rattle.trace.specs.Contracts.{found-all}
 use Rattle.trace.specs.Numbers.{fields}
 use Rattle.trace.specs.Records.{as-settings, settings}
 use Rattle.trace.proofs.Contracts.{ends-after-lt}
@@ -23,7 +23,8 @@ use Rattle.trace.proofs.read_settings.Tie as tie
 returns : tie.Need-returns
 returns c =
     let a = c .before .before .before .before .args in
-    reading-by-other-width settings-form (drop (a .at) (a .text .now)) (a .at) _ (c .line-end .ensures) (sym (c .before .before .ends-after .ensures) ∙ not-true _ (c .before .if1 .taken))
+    reading-by-other-width settings-form (drop (a .at) (a .text .now)) (a .at) _ (c .line-end .ensures)
+    (sym (c .before .before .ends-after .ensures) ∙ not-true _ (c .before .if1 .taken))
 
 -- the line ends behind 42 columns
 inside : (c : tie.Else1) → 42 < length (drop (c .before .before .before .args .at) (c .before .before .before .args .text .now))
@@ -61,7 +62,8 @@ returns-3 c =
     let else₁ = told .before in
     let a = else₁ .before .before .before .args in
     let text = drop (a .at) (a .text .now) in
-    let says = settings-numbers text _ (inside else₁) (told .read-fields .ensures) _ (c .as-settings .ensures) (not-false _ (c .before .before .if2 .left)) in
+    let all = not-false _ (c .before .before .if2 .left) in
+    let says = settings-numbers text _ (inside else₁) (told .read-fields .ensures) _ (c .as-settings .ensures) all in
     reading-by-accepted settings-form text (a .at) _ (a .at + 43) (omega arith)
     (sym (else₁ .before .ends-after .ensures) ∙ not-false _ (else₁ .if1 .left)) says
 
