@@ -2,6 +2,7 @@
 use mathlib.Core.Path.{_≡_, refl, subst, sym}
 use mathlib.Core.Bool.{Bool, true, false, _&&_, cond}
 use mathlib.Core.Logic.{⊎-elim}
+use mathlib.Core.Option.{bind}
 use mathlib.Core.List.{List, [], _∷_, List·Memᴰ, List·Memᴰ·not-nil, List·Memᴰ·cases-cons}
 use Prim.Native.Nat.{ℕ}
 use lib.Dec.{T, eqb, eqb→eq}
@@ -15,9 +16,9 @@ use Rattle.summary.specs.Steps.{empty, in-rows, disturb, disturb-each, drop-row
 use Rattle.summary.specs.Tables.{table, entries-of, read}
 use Rattle.tracker.specs.State.{summary-of, state-of, zeros, ascending, counts-allowed, valid}
 use Rattle.tracker.specs.Calls.{victims-in, block-rows, ends-window, next-event, tables-long, set-up-tests, activation-tests, refresh-tests, kept-unless, set-up, activate, refresh}
-use Rattle.trace.specs.Numbers.{is-digit, digits, number, field, digit-or-blank, columns-before, printed}
+use Rattle.trace.specs.Numbers.{is-digit, digits, number, field, fields, digit-or-blank, columns-before, printed}
 use Rattle.trace.specs.Lines.{line, ended, extent}
-use Rattle.trace.specs.Records.{and-then, seven-settings, settings, activation as activation-record, refresh as refresh-record, record-of}
+use Rattle.trace.specs.Records.{as-settings, settings, activation as activation-record, refresh as refresh-record, record-of}
 use Rattle.trace.specs.Reading.{or-refused, reading-by, reading}
 use Rattle.listing.specs.Output.{bound-line, row-columns, refresh-line, refusal-line}
 use Rattle.listing.specs.Steps.{start, refused-step, set-up-step, answered, activation-step, refresh-step, record-step, line-step, step, next}
@@ -66,8 +67,8 @@ unfolding
     table entries-of read summary-of state-of zeros ascending counts-allowed valid
     victims-in block-rows ends-window next-event tables-long set-up-tests activation-tests refresh-tests kept-unless set-up activate refresh
     left-by state-after
-    cond is-digit digits number field digit-or-blank columns-before printed line ended extent
-    and-then seven-settings settings activation-record refresh-record record-of or-refused reading-by reading
+    cond is-digit digits number field fields digit-or-blank columns-before printed line ended extent
+    bind as-settings settings activation-record refresh-record record-of or-refused reading-by reading
     bound-line row-columns refresh-line refusal-line
     start refused-step set-up-step answered activation-step refresh-step record-step line-step step next
     in-front lines read-line outcomes listed listing
