@@ -1,4 +1,5 @@
 -- The table of document 01's figures passes its test, by computing.
+use mathlib.Core.Option.{bind}
 use lib.Dec.{T}
 use Rattle.device.specs.Refusal.{first-failed, unless, refuse, tested}
 use Rattle.device.specs.Acceptance.{within, rows-allowed, diameter-allowed, block-allowed, settings-tests-with, settings-tests, settings-tests-but-counters}
@@ -9,9 +10,9 @@ use Rattle.summary.specs.Steps.{empty, in-rows, disturb, disturb-each, drop-row
 use Rattle.summary.specs.Tables.{table, entries-of, read}
 use Rattle.tracker.specs.State.{summary-of, state-of, zeros, ascending, counts-allowed, valid}
 use Rattle.tracker.specs.Calls.{victims-in, block-rows, ends-window, next-event, tables-long, set-up-tests, activation-tests, refresh-tests, kept-unless, set-up, activate, refresh}
-use Rattle.trace.specs.Numbers.{is-digit, digits, number, field, digit-or-blank, columns-before, printed}
+use Rattle.trace.specs.Numbers.{is-digit, digits, number, field, fields, digit-or-blank, columns-before, printed}
 use Rattle.trace.specs.Lines.{line, ended, extent}
-use Rattle.trace.specs.Records.{and-then, seven-settings, settings, activation as activation-record, refresh as refresh-record, record-of}
+use Rattle.trace.specs.Records.{as-settings, settings, activation as activation-record, refresh as refresh-record, record-of}
 use Rattle.trace.specs.Reading.{or-refused, reading-by, reading}
 use Rattle.listing.specs.Output.{bound-line, row-columns, refresh-line, refusal-line}
 use Rattle.listing.specs.Steps.{start, refused-step, set-up-step, answered, activation-step, refresh-step, record-step, line-step, step, next}
@@ -34,8 +35,8 @@ unfolding
     table entries-of read summary-of state-of zeros ascending counts-allowed valid
     victims-in block-rows ends-window next-event tables-long set-up-tests activation-tests refresh-tests kept-unless set-up activate refresh
     left-by state-after
-    is-digit digits number field digit-or-blank columns-before printed line ended extent
-    and-then seven-settings settings activation-record refresh-record record-of or-refused reading-by reading
+    is-digit digits number field fields digit-or-blank columns-before printed line ended extent
+    bind as-settings settings activation-record refresh-record record-of or-refused reading-by reading
     bound-line row-columns refresh-line refusal-line
     start refused-step set-up-step answered activation-step refresh-step record-step line-step step next
     in-front lines read-line outcomes listed listing

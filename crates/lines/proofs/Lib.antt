@@ -1,2 +1,2 @@
 -- Laws of the text that is handed on from line to line.
-pub mod Handed
+pub mod Lines

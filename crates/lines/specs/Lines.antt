@@ -1,10 +1,11 @@
--- How many lines a text has: each byte 10 ends one, and so does the text's last byte.
+-- How many lines a text has.
 use mathlib.Core.Bool.{cond}
 use Prim.Native.Nat.{ℕ, suc}
 use mathlib.Core.List.{List, [], _∷_}
 use lib.Dec.{eqb}
 
-unfoldable pub lines : List ℕ → ℕ
-lines [] = 0
-lines (b ∷ []) = 1
-lines (b ∷ c ∷ bs) = cond (eqb b 10) (suc (lines (c ∷ bs))) (lines (c ∷ bs))
+-- each byte 10 ends a line, and so does the text's end where bytes stand in front of it
+unfoldable pub line-count : List ℕ → ℕ
+line-count [] = 0
+line-count (b ∷ []) = 1
+line-count (b ∷ c ∷ bs) = cond (eqb b 10) (suc (line-count (c ∷ bs))) (line-count (c ∷ bs))

@@ -5,7 +5,7 @@ use trace::Record;
 ghost use mathlib.Core.Path.{_≡_};
 ghost use lib.ListN.{drop};
 ghost use Rattle.trace.specs.Reading.{reading};
-ghost use Rattle.lines.specs.Lines.{lines as lines-of};
+ghost use Rattle.lines.specs.Lines.{line-count};
 
 // Prints a word and a number.
 fn print(word: &[u8], number: u64) {
@@ -50,7 +50,7 @@ fn first_line(text: &[u8]) -> &[u8]
 
 // Prints what each line of a text says; how many lines there are.
 fn all_lines(text: &[u8]) -> usize
-    ensures { λ r. ⌜ r ≡ lines-of (now (text .entry)) ⌝ }
+    ensures { λ r. ⌜ r ≡ line-count (now (text .entry)) ⌝ }
 {
     let mut left = text;
     let mut count: usize = 0;

@@ -13,7 +13,7 @@ use Rattle.laws.proofs.Cases.{split, le-or-lt, clash}
 use Rattle.trace.specs.declared.Record.{Record}
 use Rattle.trace.specs.Lines.{ended, extent}
 use Rattle.trace.specs.Reading.{Reading, reading, reading-by}
-use Rattle.trace.proofs.Streams.{unended-refused}
+use Rattle.trace.proofs.Reading.InParts.{reading-append-unended}
 use Rattle.listing.specs.Steps.{Progress, next}
 use Rattle.listing.specs.Texts.{in-front, lines, whole, read, outcomes, listed, passed, listing, after}
 use Rattle.listing.specs.Parts.{comes, lists, keeps, ends, joined, Parts-joined}
@@ -52,7 +52,7 @@ module _ (g : Progress) (a b : List ℕ) (h : whole a ≡ true) where
 refused-on : (u b : List ℕ) → ended u ≡ false → 64 ≤ length u → outcomes (u ++ b) ≡ refused 11 ∷ outcomes (drop (extent b) b)
 unfolding read reading reading-by
 refused-on u b e h =
-    let says = unended-refused u b 0 (omega arith) e in
+    let says = reading-append-unended u b 0 (omega arith) e in
     let far : extent (u ++ b) ≡ length u + extent b = omega (arith, ap (λ (r : Reading). r .place) says) in
     outcomes-front (u ++ b) (rw length-append (omega arith)) ∙
     rw (ap (λ (r : Reading). r .outcome) says, far, drop-append-add)

@@ -10,7 +10,7 @@ use lib.Seq.{take-all}
 use Rattle.laws.proofs.Cases.{split, clash}
 use Rattle.trace.specs.Lines.{ended, extent}
 use Rattle.trace.specs.Reading.{Reading}
-use Rattle.trace.proofs.Streams.{ended-alike}
+use Rattle.trace.proofs.Reading.InParts.{reading-append-ended}
 use Rattle.listing.specs.Texts.{in-front, lines, read, outcomes}
 
 -- the first line goes as far as the reader goes
@@ -50,7 +50,7 @@ read-front text =
     let rest = drop (extent text) text in
     split (ended text)
     (λ e.
-    sym (ap (λ (r : Reading). r .outcome) (ended-alike front rest 0 (ended-front text e))) ∙ rw take-append-drop)
+    sym (ap (λ (r : Reading). r .outcome) (reading-append-ended front rest 0 (ended-front text e))) ∙ rw take-append-drop)
     (λ e. rw (take-all (extent text) text (omega (arith, extent-most text e))))
 
 -- what the reader says at the front, then what it says behind that line

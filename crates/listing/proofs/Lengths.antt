@@ -21,7 +21,7 @@ use Rattle.trace.specs.declared.Record.the-variants.{Set, Activate, Refresh, Bl
 use Rattle.trace.specs.Lines.{line as line-bytes, ended}
 use Rattle.trace.specs.Records.{record-of}
 use Rattle.trace.specs.Reading.{reading, reading-by, or-refused}
-use Rattle.trace.proofs.Printing.{length-printed}
+use Rattle.trace.proofs.Numbers.Printed.{length-printed}
 use Rattle.laws.proofs.Cases.{split, clash}
 use Rattle.listing.specs.Output.{bound-line, refresh-line, refusal-line}
 use Rattle.listing.specs.Steps.{Standing, refused-step, set-up-step, answered, activation-step, refresh-step, record-step, line-step}

@@ -8,7 +8,7 @@ use native.Mathlib.Omega.{arith}
 use lib.ListN.{length, getD, take, drop, set, length-append, length-drop, take-append-drop}
 use lib.Seq.{take-at, drop-append-add, drop-drop, length-take-le, set-split, take-suc}
 use Rattle.trace.specs.Numbers.{printed, written}
-use Rattle.trace.proofs.Printing.{length-printed}
+use Rattle.trace.proofs.Numbers.Printed.{length-printed}
 use Rattle.listing.specs.Output.{row-columns, Prints}
 
 length-front : (b x : List ℕ) (at : ℕ) → at ≤ length b → length (take at b ++ x) ≡ at + length x

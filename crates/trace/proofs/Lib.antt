@@ -1,9 +1,6 @@
--- Laws of numbers in columns, of lines and of the reader.
-pub mod Options
-pub mod Ends
-pub mod Columns
-pub mod Fixed
-pub mod Forms
-pub mod Letters
-pub mod Printing
-pub mod Streams
+-- Laws of numbers in columns, of lines, their records and the reader; and of what inner contracts say.
+pub mod Numbers
+pub mod Lines
+pub mod Records
+pub mod Reading
+pub mod Contracts

@@ -37,7 +37,8 @@ reading-by says text place =
 unfoldable pub reading : List ℕ → ℕ → Reading
 reading text place = reading-by record-of (drop place text) place
 
--- 'handed on as part of the caller's bytes': the bytes from a place on, at their own address in the caller's text; none, and its end, where the place is behind it
+-- 'handed on as part of the caller's bytes': the bytes from a place on, at their own address in the caller's text;
+-- none, and its end, where the place is behind it
 pub record Handed-on (text : RefT (List ℕ)) (place : ℕ) (rest : RefT (List ℕ)) : Type 0 where
   pub bytes : now rest ≡ drop place (now text)
   pub address : rest .ptr ≡ (text .ptr .0, text .ptr .1 + min place (length (now text)))

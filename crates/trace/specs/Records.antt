@@ -2,64 +2,45 @@
 use mathlib.Core.Bool.{cond}
 use Prim.Native.Nat.{ℕ}
 use mathlib.Core.List.{List, [], _∷_}
-use mathlib.Core.Option.{Option, none, some}
+use mathlib.Core.Option.{Option, none, some, bind}
 use lib.Dec.{eqb}
-use lib.ListN.{length}
-use Rattle.trace.specs.Numbers.{field}
+use lib.ListN.{length, getD}
+use Rattle.trace.specs.Bytes.{letter-A, letter-R, letter-S}
+use Rattle.trace.specs.Numbers.{field, fields}
 use Rattle.device.specs.declared.Settings.{Settings}
-use Rattle.trace.specs.declared.Fields.{Fields}
-use Rattle.trace.specs.declared.Fields.the-variants.{Seven, Other}
 use Rattle.trace.specs.declared.Record.{Record}
 use Rattle.trace.specs.declared.Record.the-variants.{Set, Activate, Refresh, Blank}
 
--- what comes of a value, where there is one
-unfoldable pub and-then : {A B : Type 0} → Option A → (A → Option B) → Option B
-and-then none f = none
-and-then (some a) f = f a
+-- numbers as 'the seven settings', in their order
+unfoldable pub as-settings : List ℕ → Settings
+as-settings numbers =
+    record {
+      rows = getD numbers 0 0;
+      «blast_diameter» = getD numbers 1 0;
+      volume = getD numbers 2 0;
+      counters = getD numbers 3 0;
+      interval = getD numbers 4 0;
+      window = getD numbers 5 0;
+      block = getD numbers 6 0;
+    }
 
--- 'the seven settings' in their order, 6 columns each
-unfoldable pub seven-settings : List ℕ → Option Settings
-seven-settings bytes =
-    and-then (field 0 bytes) λ rows.
-    and-then (field 6 bytes) λ diameter.
-    and-then (field 12 bytes) λ volume.
-    and-then (field 18 bytes) λ counters.
-    and-then (field 24 bytes) λ interval.
-    and-then (field 30 bytes) λ window.
-    and-then (field 36 bytes) λ block.
-    some
-    (record {
-      rows = rows;
-      «blast_diameter» = diameter;
-      volume = volume;
-      counters = counters;
-      interval = interval;
-      window = window;
-      block = block;
-    })
-
--- what the code found in those columns
-unfoldable pub found-seven : Fields → Option Settings
-found-seven (Seven s) = some s
-found-seven Other = none
-
--- the settings behind an `S`
+-- 'a settings record': the seven settings behind an `S`, 6 columns each
 unfoldable pub settings : List ℕ → Option Record
-settings bytes = cond (eqb (length bytes) 42) (and-then (seven-settings bytes) λ s. some (Set s)) none
+settings bytes = cond (eqb (length bytes) 42) (bind (fields 7 bytes) λ numbers. some (Set (as-settings numbers))) none
 
--- 'a bus row' (logical row) behind an `A`
+-- 'an activation record holding its row': a bus row (logical row) behind an `A`, in 6 columns
 unfoldable pub activation : List ℕ → Option Record
-activation bytes = cond (eqb (length bytes) 6) (and-then (field 0 bytes) λ row. some (Activate row)) none
+activation bytes = cond (eqb (length bytes) 6) (bind (field 0 bytes) λ row. some (Activate row)) none
 
--- `R` 'alone': nothing behind it
+-- 'an event': `R` 'alone', nothing behind it
 unfoldable pub refresh : List ℕ → Option Record
 refresh [] = some Refresh
 refresh (b ∷ bs) = none
 
--- a line by its first byte: `S`, `A`, `R`, or blank (no bytes)
+-- 'Lines: `S` and the seven settings; `A` and a bus row; `R` alone; or blank (no bytes)'
 unfoldable pub record-of : List ℕ → Option Record
 record-of [] = some Blank
 record-of (b ∷ bs) =
-    cond (eqb b 83) (settings bs)
-    (cond (eqb b 65) (activation bs)
-    (cond (eqb b 82) (refresh bs) none))
+    cond (eqb b letter-S) (settings bs)
+    (cond (eqb b letter-A) (activation bs)
+    (cond (eqb b letter-R) (refresh bs) none))

@@ -1,12 +1,13 @@
 // The trace reader, and numbers in columns: read from lent text, printed into a lent buffer.
 use device::Settings;
 ghost use mathlib.Core.Path.{_≡_};
-ghost use Prim.Native.Nat.{_+_, _≤_, _<_};
+ghost use Prim.Native.Nat.{_+_, _*_, _≤_, _<_};
 ghost use lib.ListN.{length, drop};
 ghost use lib.Seq.{slice};
-ghost use Rattle.trace.specs.Numbers.{digits as digits-of, field, found, digit-or-blank as column-of, printed, written};
-ghost use Rattle.trace.specs.Lines.{extent, ends-after};
-ghost use Rattle.trace.specs.Records.{seven-settings as seven-of, found-seven, settings as settings-of, activation as activation-of, refresh as refresh-of};
+ghost use Rattle.trace.specs.Numbers.{digits, field, fields, digit-or-blank, printed, written};
+ghost use Rattle.trace.specs.Lines.{extent};
+ghost use Rattle.trace.specs.Records.{as-settings, settings, activation, refresh};
+ghost use Rattle.trace.specs.Contracts.{found, found-all, ends-after};
 ghost use Rattle.trace.specs.Reading.{said, reading, reading-by, Handed-on};
 
 // How wide a number is.
@@ -18,10 +19,10 @@ pub enum Field {
     Other,
 }
 
-// What the columns of the settings hold.
-pub enum Fields {
-    Seven(Settings),
-    Other,
+// What some fields hold: whether each is a number, and these numbers from the front on.
+pub struct Fields {
+    pub all: bool,
+    pub values: [u32; 16],
 }
 
 // What a line says: settings, an activation of a logical row, a refresh event, or nothing.
@@ -72,9 +73,9 @@ fn ends_after(text: &[u8], at: usize, width: usize) -> bool
 }
 
 // The digits from a place to an end.
-fn digits(text: &[u8], from: usize, end: usize) -> Field
+fn read_digits(text: &[u8], from: usize, end: usize) -> Field
     requires { ⌜ (from ≤ end) × (end ≤ from + 6) × (end ≤ length (now text)) ⌝ }
-    ensures { λ r. ⌜ found r ≡ digits-of 0 (slice from end (now (text .entry))) ⌝ }
+    ensures { λ r. ⌜ found r ≡ digits 0 (slice from end (now (text .entry))) ⌝ }
 {
     let mut n: u32 = 0;
     let mut i = from;
@@ -93,7 +94,7 @@ fn digits(text: &[u8], from: usize, end: usize) -> Field
 }
 
 // The number in the 6 columns from a place on: blanks, then digits.
-fn number(text: &[u8], from: usize) -> Field
+fn read_field(text: &[u8], from: usize) -> Field
     requires { ⌜ from + 6 ≤ length (now text) ⌝ }
     ensures { λ r. ⌜ found r ≡ field from (now (text .entry)) ⌝ }
 {
@@ -101,82 +102,79 @@ fn number(text: &[u8], from: usize) -> Field
     let mut i = from;
     while i < end {
         if text[i] != b' ' {
-            return digits(text, i, end);
+            return read_digits(text, i, end);
         }
         i += 1;
     }
     Field::Other
 }
 
-// The seven settings from a place on.
-fn seven_settings(text: &[u8], at: usize) -> Fields
-    requires { ⌜ at + 42 ≤ length (now text) ⌝ }
-    ensures { λ r. ⌜ found-seven r ≡ seven-of (drop at (now (text .entry))) ⌝ }
+// The numbers in so many fields from a place on.
+fn read_fields(text: &[u8], at: usize, count: usize) -> Fields
+    requires { ⌜ (count ≤ 16) × (at + 6 * count ≤ length (now text)) ⌝ }
+    ensures { λ r. ⌜ found-all count r ≡ fields count (drop at (now (text .entry))) ⌝ }
 {
-    let Field::Number(rows) = number(text, at) else {
-        return Fields::Other;
-    };
-    let Field::Number(blast_diameter) = number(text, at + 6) else {
-        return Fields::Other;
-    };
-    let Field::Number(volume) = number(text, at + 12) else {
-        return Fields::Other;
-    };
-    let Field::Number(counters) = number(text, at + 18) else {
-        return Fields::Other;
-    };
-    let Field::Number(interval) = number(text, at + 24) else {
-        return Fields::Other;
-    };
-    let Field::Number(window) = number(text, at + 30) else {
-        return Fields::Other;
-    };
-    let Field::Number(block) = number(text, at + 36) else {
-        return Fields::Other;
-    };
-    Fields::Seven(Settings {
-        rows,
-        blast_diameter,
-        volume,
-        counters,
-        interval,
-        window,
-        block,
-    })
+    let mut values = [0u32; 16];
+    let mut i: usize = 0;
+    while i < count {
+        let Field::Number(n) = read_field(text, at + COLUMNS * i) else {
+            return Fields { all: false, values };
+        };
+        values[i] = n;
+        i += 1;
+    }
+    Fields { all: true, values }
+}
+
+// The first seven numbers as settings.
+fn as_settings(values: [u32; 16]) -> Settings
+    ensures { λ r. ⌜ r ≡ as-settings values ⌝ }
+{
+    Settings {
+        rows: values[0],
+        blast_diameter: values[1],
+        volume: values[2],
+        counters: values[3],
+        interval: values[4],
+        window: values[5],
+        block: values[6],
+    }
 }
 
 // A line of settings, from behind its letter on.
-fn settings(text: &[u8], at: usize) -> Read
+fn read_settings(text: &[u8], at: usize) -> Read
     requires { ⌜ at ≤ length (now text) ⌝ }
-    ensures { λ r. ⌜ said r ≡ reading-by settings-of (drop at (now (text .entry))) at ⌝ }
+    ensures { λ r. ⌜ said r ≡ reading-by settings (drop at (now (text .entry))) at ⌝ }
 {
     if !ends_after(text, at, 42) {
         return Read::Refused(line_end(text, at));
     }
-    let Fields::Seven(s) = seven_settings(text, at) else {
+    let found = read_fields(text, at, 7);
+    if !found.all {
         return Read::Refused(line_end(text, at));
-    };
-    Read::Line(Record::Set(s), at + 43)
+    }
+    let values = found.values;
+    Read::Line(Record::Set(as_settings(values)), at + 43)
 }
 
 // An activation's line, from behind its letter on.
-fn activation(text: &[u8], at: usize) -> Read
+fn read_activation(text: &[u8], at: usize) -> Read
     requires { ⌜ at ≤ length (now text) ⌝ }
-    ensures { λ r. ⌜ said r ≡ reading-by activation-of (drop at (now (text .entry))) at ⌝ }
+    ensures { λ r. ⌜ said r ≡ reading-by activation (drop at (now (text .entry))) at ⌝ }
 {
     if !ends_after(text, at, 6) {
         return Read::Refused(line_end(text, at));
     }
-    let Field::Number(row) = number(text, at) else {
+    let Field::Number(row) = read_field(text, at) else {
         return Read::Refused(line_end(text, at));
     };
     Read::Line(Record::Activate(row), at + 7)
 }
 
 // A refresh event's line, from behind its letter on.
-fn refresh(text: &[u8], at: usize) -> Read
+fn read_refresh(text: &[u8], at: usize) -> Read
     requires { ⌜ at ≤ length (now text) ⌝ }
-    ensures { λ r. ⌜ said r ≡ reading-by refresh-of (drop at (now (text .entry))) at ⌝ }
+    ensures { λ r. ⌜ said r ≡ reading-by refresh (drop at (now (text .entry))) at ⌝ }
 {
     if ends_after(text, at, 0) {
         Read::Line(Record::Refresh, at + 1)
@@ -195,13 +193,13 @@ pub fn read_line(text: &[u8], place: usize) -> Read
     let letter = text[place];
     let at = place + 1;
     if letter == b'A' {
-        return activation(text, at);
+        return read_activation(text, at);
     }
     if letter == b'R' {
-        return refresh(text, at);
+        return read_refresh(text, at);
     }
     if letter == b'S' {
-        return settings(text, at);
+        return read_settings(text, at);
     }
     if letter == b'\n' {
         return Read::Line(Record::Blank, at);
@@ -249,12 +247,12 @@ pub fn next_line<'a>(text: &'a [u8], place: usize) -> Parsed<'a>
 
 // A column in front of the last, with what is left of the number there.
 fn digit_or_blank(left: u64) -> u8
-    ensures { λ r. ⌜ r ≡ column-of left ⌝ }
+    ensures { λ r. ⌜ r ≡ digit-or-blank left ⌝ }
 {
     if left == 0 {
-        32
+        b' '
     } else {
-        (48 + left % 10) as u8
+        (b'0' as u64 + left % 10) as u8
     }
 }
 
@@ -267,7 +265,7 @@ pub fn print_number(out: &mut [u8], at: usize, columns: usize, n: u64)
         return;
     }
     let mut i = at + columns - 1;
-    out[i] = (48 + n % 10) as u8;
+    out[i] = (b'0' as u64 + n % 10) as u8;
     let mut left = n / 10;
     while at < i {
         i -= 1;

@@ -6,15 +6,21 @@ use Rattle.trace.specs.Numbers.{digit-or-blank}
 use Rattle.trace.proofs.digit_or_blank.Statement.{statement}
 use Rattle.trace.proofs.digit_or_blank.Tie as tie
 
-blank : (m : ℕ) → m ≡ 0 → 32 ≡ digit-or-blank m
+equals-blank : (m : ℕ) → m ≡ 0 → 32 ≡ digit-or-blank m
 unfolding digit-or-blank
-blank m e = rw e
+equals-blank m e = rw e
 
-digit : (m : ℕ) → (m ≡ 0 → ⊥) → 48 + m % 10 ≡ digit-or-blank m
+equals-digit : (m : ℕ) → (m ≡ 0 → ⊥) → 48 + m % 10 ≡ digit-or-blank m
 unfolding digit-or-blank
-digit zero h = absurd (h refl)
-digit (suc m) h = refl
+equals-digit zero h = absurd (h refl)
+equals-digit (suc m) h = refl
 
 pub digit-or-blank-spec : {M : Type 1} → statement M
 digit-or-blank-spec =
-    tie.close (tie.spec (λ c. search needs) (λ c. search needs) (λ c. blank _ (c .if1 .taken)) (λ c. digit _ (c .if1 .left)))
+    tie.close
+    (tie.spec
+    (λ c. search needs)
+    (λ c. search needs)
+    (λ c. search needs)
+    (λ c. equals-blank _ (c .if1 .taken))
+    (λ c. equals-digit _ (c .if1 .left)))

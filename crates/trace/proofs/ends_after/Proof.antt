@@ -3,7 +3,7 @@ use borrow.Author.Needs.{needs}
 use borrow.Author.Tests.{lt-ltb, le-ltb}
 use lib.ListN.{length-drop}
 use lib.Seq.{getD-drop}
-use Rattle.trace.specs.Lines.{ends-after}
+use Rattle.trace.specs.Contracts.{ends-after}
 use Rattle.trace.proofs.ends_after.Statement.{statement}
 use Rattle.trace.proofs.ends_after.Tie as tie
 

@@ -5,7 +5,7 @@ use Prim.Native.Nat.{ℕ, _+_, _-_, _≤_}
 use native.Mathlib.Omega.{arith}
 use lib.ListN.{length, drop, drop-of-length-le}
 use Rattle.trace.specs.Lines.{extent}
-use Rattle.trace.proofs.Ends.{extent-here, extent-on}
+use Rattle.trace.proofs.Lines.{extent-end, extent-other}
 use Rattle.trace.proofs.line_end.Statement.{statement}
 use Rattle.trace.proofs.line_end.Tie as tie
 
@@ -31,13 +31,13 @@ loop-holds c = record { same = refl; most = omega arith }
 returns : tie.Need-returns Inv-loop μ-loop
 returns c =
     let l = c .before .before .before .loop in
-    omega (arith, l .inv .same, extent-here (c .before .before .before .before .args .text .now) (l .i) (omega arith) (c .if1 .taken))
+    omega (arith, l .inv .same, extent-end (c .before .before .before .before .args .text .now) (l .i) (omega arith) (c .if1 .taken))
 
 loop-again : tie.Need-loop-again Inv-loop μ-loop
 loop-again c =
     let l = c .before .before .before .loop in
     record {
-      same = omega (arith, l .inv .same, extent-on (c .before .before .before .before .args .text .now) (l .i) (omega arith) (c .if1 .left));
+      same = omega (arith, l .inv .same, extent-other (c .before .before .before .before .args .text .now) (l .i) (omega arith) (c .if1 .left));
       most = omega arith;
     }
 

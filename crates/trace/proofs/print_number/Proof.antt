@@ -1,18 +1,18 @@
 -- `trace::print_number` meets its contract. The invariant: with the columns in front of i still to be written, the buffer is as it is to be.
 use mathlib.Core.Path.{_≡_, refl, sym, _∙_}
 use mathlib.Core.List.{List}
-use Prim.Native.Nat.{ℕ, _-_, _/_, _≤_, _<_}
+use Prim.Native.Nat.{ℕ, _-_, _≤_, _<_, _/_}
 use native.Mathlib.Omega.{arith}
 use borrow.Author.Needs.{needs}
 use lib.ListN.{length, set, length-set}
 use Rattle.trace.specs.Numbers.{digit-or-blank}
-use Rattle.trace.proofs.Printing.{front, front-on, front-done, printed-none, printed-last}
+use Rattle.trace.proofs.Numbers.Printed.{with-columns-before, with-columns-before-set, with-columns-before-none, written-printed-zero, written-printed-last}
 use Rattle.trace.proofs.print_number.Statement.{statement}
 use Rattle.trace.proofs.print_number.Tie as tie
 
 record Left (out₀ : List ℕ) (at i₀ left₀ : ℕ) (out : List ℕ) (i left : ℕ) : Type 0 where
-  same : front out at i left ≡ front out₀ at i₀ left₀
-  kept : length out ≡ length out₀
+  same : with-columns-before out at i left ≡ with-columns-before out₀ at i₀ left₀
+  same-length : length out ≡ length out₀
   least : at ≤ i
   most : i < length out₀
 
@@ -26,33 +26,33 @@ again : {out₀ out : List ℕ} {at i₀ left₀ i left : ℕ} → Left out₀ a
     → Left out₀ at i₀ left₀ (set out (i - 1) (digit-or-blank left)) (i - 1) (left / 10)
 again {out₀} {out} {at} {i₀} {left₀} {i} {left} l h =
     record {
-      same = front-on out at i left h (omega arith) ∙ l .same;
-      kept = rw length-set (l .kept);
+      same = with-columns-before-set out at i left h (omega arith) ∙ l .same;
+      same-length = rw length-set (l .same-length);
       least = omega arith;
       most = omega arith;
     }
 
-done : {out₀ out : List ℕ} {at i₀ left₀ i left : ℕ} → Left out₀ at i₀ left₀ out i left → i ≡ at → out ≡ front out₀ at i₀ left₀
-done {out₀} {out} {at} {i₀} {left₀} {i} {left} l h = sym (front-done out at left) ∙ rw h at (l .same)
+done : {out₀ out : List ℕ} {at i₀ left₀ i left : ℕ} → Left out₀ at i₀ left₀ out i left → i ≡ at → out ≡ with-columns-before out₀ at i₀ left₀
+done {out₀} {out} {at} {i₀} {left₀} {i} {left} l h = sym (with-columns-before-none out at left) ∙ rw h at (l .same)
 
 returns : tie.Need-returns Inv-loop μ-loop
 returns c =
     let a = c .before .before .args in
-    rw (c .if1 .taken) (printed-none (a .out .now) (a .at) (a .n))
+    rw (c .if1 .taken) (written-printed-zero (a .out .now) (a .at) (a .n))
 
 loop-holds : tie.Need-loop-holds Inv-loop μ-loop
-loop-holds c = record { same = refl; kept = refl; least = omega arith; most = rw length-set (omega arith) }
+loop-holds c = record { same = refl; same-length = refl; least = omega arith; most = rw length-set (omega arith) }
 
 loop-again : tie.Need-loop-again Inv-loop μ-loop
 loop-again c = rw (c .digit-or-blank .ensures) (again (c .before .before .loop .inv) (omega arith))
 
 same-length : tie.Need-same-length Inv-loop μ-loop
-same-length c = c .before .loop .inv .kept ∙ simp length-set
+same-length c = c .before .loop .inv .same-length ∙ simp length-set
 
 returns-2 : tie.Need-returns-2 Inv-loop μ-loop
 returns-2 c =
     let a = c .before .before .before .before .args in
-    done (c .before .loop .inv) (omega arith) ∙ printed-last (a .out .now) (a .at) (a .columns) (a .n) (omega arith) (omega arith)
+    done (c .before .loop .inv) (omega arith) ∙ written-printed-last (a .out .now) (a .at) (a .columns) (a .n) (omega arith) (omega arith)
 
 pub print-number-spec : {M : Type 1} → statement M
 print-number-spec =
@@ -61,6 +61,7 @@ print-number-spec =
     Inv-loop
     μ-loop
     returns
+    (λ c. omega arith)
     (λ c. omega arith)
     (λ c. omega arith)
     (λ c. omega arith)

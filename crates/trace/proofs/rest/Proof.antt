@@ -4,7 +4,7 @@ use Prim.Native.Nat.{ℕ, _+_, _-_, min}
 use native.Mathlib.Omega.{arith}
 use borrow.Author.Needs.{needs}
 use lib.ListN.{length, drop, length-drop, drop-of-length-le}
-use lib.Seq.{take-all, take-nil, drop-length}
+use lib.Seq.{take-nil, take-all, drop-length}
 use Rattle.trace.proofs.rest.Statement.{statement}
 use Rattle.trace.proofs.rest.Tie as tie
 

@@ -2,7 +2,7 @@
 use native.Mathlib.Omega.{arith}
 use borrow.Author.Needs.{needs}
 use lib.Seq.{length-take-le}
-use Rattle.trace.proofs.Printing.{length-printed}
+use Rattle.trace.proofs.Numbers.Printed.{length-printed}
 use Rattle.listing.specs.Output.{refresh-line}
 use Rattle.listing.proofs.Writing.{prints-then, length-taken}
 use Rattle.listing.proofs.print.print_refresh.Statement.{statement}

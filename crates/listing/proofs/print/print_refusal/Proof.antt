@@ -2,7 +2,7 @@
 use Prim.Native.Nat.{_%_}
 use native.Mathlib.Omega.{arith}
 use borrow.Author.Needs.{needs}
-use Rattle.trace.proofs.Printing.{length-printed}
+use Rattle.trace.proofs.Numbers.Printed.{length-printed}
 use Rattle.listing.specs.Output.{refusal-line}
 use Rattle.listing.proofs.Writing.{prints-then}
 use Rattle.listing.proofs.print.print_refusal.Statement.{statement}

@@ -1,14 +1,15 @@
--- `trace::number` meets its contract. The invariant: the columns from i on hold the number that all of them hold.
-use mathlib.Core.Path.{_≡_, _∙_, sym, ap}
+-- `trace::read_field` meets its contract. The invariant: the columns from i on hold the number that all of them hold.
+use mathlib.Core.Path.{_≡_, sym, ap, _∙_}
 use mathlib.Core.List.{List}
 use mathlib.Core.Option.{none}
 use Prim.Native.Nat.{ℕ, _+_, _-_, _≤_}
 use native.Mathlib.Omega.{arith}
 use lib.Seq.{slice}
-use Rattle.trace.specs.Numbers.{number, field, found}
-use Rattle.trace.proofs.Columns.{number-blank, number-begins, number-none, slice-columns}
-use Rattle.trace.proofs.number.Statement.{statement}
-use Rattle.trace.proofs.number.Tie as tie
+use Rattle.trace.specs.Contracts.{found}
+use Rattle.trace.specs.Numbers.{number, field}
+use Rattle.trace.proofs.Numbers.Digits.{number-blank, number-not-blank, number-empty, slice-take-drop}
+use Rattle.trace.proofs.read_field.Statement.{statement}
+use Rattle.trace.proofs.read_field.Tie as tie
 
 record Left (text : List ℕ) (from i : ℕ) : Type 0 where
   same : number (slice i (from + 6) text) ≡ field from text
@@ -22,17 +23,17 @@ abbrev μ-loop : tie.MeasureT-loop
 μ-loop text from end i₀ i = from + 6 - i
 
 done : {text : List ℕ} {from i : ℕ} → Left text from i → i ≡ from + 6 → none ≡ field from text
-done {text} {from} {i} l h = sym (number-none (from + 6) text) ∙ rw h at (l .same)
+done {text} {from} {i} l h = sym (number-empty (from + 6) text) ∙ rw h at (l .same)
 
 loop-holds : tie.Need-loop-holds Inv-loop μ-loop
 unfolding field
-loop-holds c = record { same = ap number (slice-columns (c .before .args .text .now) (c .before .args .from) 6); least = omega arith; most = omega arith }
+loop-holds c = record { same = ap number (slice-take-drop (c .before .args .text .now) (c .before .args .from) 6); least = omega arith; most = omega arith }
 
 returns : tie.Need-returns Inv-loop μ-loop
 returns c =
     let l = c .before .before .before .before .loop in
     let a = c .before .before .before .before .before .before .args in
-    c .digits .ensures ∙ sym (number-begins (a .text .now) (l .i) (a .from + 6) (omega arith) (omega arith) (c .before .if1 .taken)) ∙ l .inv .same
+    c .read-digits .ensures ∙ sym (number-not-blank (a .text .now) (l .i) (a .from + 6) (omega arith) (omega arith) (c .before .if1 .taken)) ∙ l .inv .same
 
 loop-again : tie.Need-loop-again Inv-loop μ-loop
 loop-again c =
@@ -48,8 +49,8 @@ returns-2 : tie.Need-returns-2 Inv-loop μ-loop
 unfolding found
 returns-2 c = done (c .before .loop .inv) (omega arith)
 
-pub number-spec : {M : Type 1} → statement M
-number-spec =
+pub read-field-spec : {M : Type 1} → statement M
+read-field-spec =
     tie.close
     (tie.spec
     Inv-loop

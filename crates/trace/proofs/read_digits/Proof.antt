@@ -1,15 +1,16 @@
--- `trace::digits` meets its contract. The invariant: the digits from i on, behind n, make what all of them make; and n leaves room for them.
-use mathlib.Core.Path.{_≡_, refl, _∙_, sym}
+-- `trace::read_digits` meets its contract. The invariant: the digits from i on, behind n, make what all of them make; and n leaves room for them.
+use mathlib.Core.Path.{_≡_, refl, sym, _∙_}
 use mathlib.Core.List.{List}
 use mathlib.Core.Option.{some}
 use Prim.Native.Nat.{ℕ, suc, _+_, _-_, _*_, _≤_, _<_}
 use native.Mathlib.Omega.{arith}
 use lib.ListN.{length, getD}
 use lib.Seq.{slice}
-use Rattle.trace.specs.Numbers.{digits, found}
-use Rattle.trace.proofs.Columns.{digit-low, digit-high, digit-within, digits-stop, digits-on, digits-none, Room, room-first, room-small, room-less}
-use Rattle.trace.proofs.digits.Statement.{statement}
-use Rattle.trace.proofs.digits.Tie as tie
+use Rattle.trace.specs.Contracts.{found}
+use Rattle.trace.specs.Numbers.{digits}
+use Rattle.trace.proofs.Numbers.Digits.{is-digit-below, is-digit-above, is-digit-within, digits-other, digits-digit, digits-empty, Room, room-zero, room-lt, room-digit}
+use Rattle.trace.proofs.read_digits.Statement.{statement}
+use Rattle.trace.proofs.read_digits.Tie as tie
 
 record Left (text : List ℕ) (from end n i : ℕ) : Type 0 where
   same : digits n (slice i end text) ≡ digits 0 (slice from end text)
@@ -23,37 +24,37 @@ abbrev μ-loop : tie.MeasureT-loop
 μ-loop text from end n₀ i₀ n i = end - i
 
 small : {text : List ℕ} {from end n i : ℕ} → Left text from end n i → n < 1000000
-small {text} {from} {end} {n} {i} l = room-small n (end - i) (l .room)
+small {text} {from} {end} {n} {i} l = room-lt n (end - i) (l .room)
 
 again : {text : List ℕ} {from end n i : ℕ} → Left text from end n i → i < end → end ≤ length text → 48 ≤ getD text i 0 → getD text i 0 ≤ 57
     → Left text from end (n * 10 + (getD text i 0 - 48)) (i + 1)
 again {text} {from} {end} {n} {i} l h fits low high =
     let one-more : end - i ≡ suc (end - (i + 1)) = omega arith in
     record {
-      same = sym (digits-on text i end h fits n (digit-within _ low high)) ∙ l .same;
+      same = sym (digits-digit text i end h fits n (is-digit-within _ low high)) ∙ l .same;
       most = omega arith;
-      room = room-less n (getD text i 0 - 48) (end - (i + 1)) (rw one-more at (l .room)) (omega arith);
+      room = room-digit n (getD text i 0 - 48) (end - (i + 1)) (rw one-more at (l .room)) (omega arith);
     }
 
 done : {text : List ℕ} {from end n i : ℕ} → Left text from end n i → i ≡ end → some n ≡ digits 0 (slice from end text)
-done {text} {from} {end} {n} {i} l h = sym (digits-none n end text) ∙ rw h at (l .same)
+done {text} {from} {end} {n} {i} l h = sym (digits-empty n end text) ∙ rw h at (l .same)
 
 loop-holds : tie.Need-loop-holds Inv-loop μ-loop
-loop-holds c = record { same = refl; most = omega arith; room = room-first _ (omega arith) }
+loop-holds c = record { same = refl; most = omega arith; room = room-zero _ (omega arith) }
 
 returns : tie.Need-returns Inv-loop μ-loop
 unfolding found
 returns c =
     let l = c .before .before .before .loop in
     let a = c .before .before .before .before .args in
-    sym (digits-stop (a .text .now) (l .i) (a .end) (omega arith) (omega arith) (l .n) (digit-low _ (c .if1 .taken))) ∙ l .inv .same
+    sym (digits-other (a .text .now) (l .i) (a .end) (omega arith) (omega arith) (l .n) (is-digit-below _ (c .if1 .taken))) ∙ l .inv .same
 
 returns-2 : tie.Need-returns-2 Inv-loop μ-loop
 unfolding found
 returns-2 c =
     let l = c .before .before .before .before .loop in
     let a = c .before .before .before .before .before .args in
-    sym (digits-stop (a .text .now) (l .i) (a .end) (omega arith) (omega arith) (l .n) (digit-high _ (c .if2 .taken))) ∙ l .inv .same
+    sym (digits-other (a .text .now) (l .i) (a .end) (omega arith) (omega arith) (l .n) (is-digit-above _ (c .if2 .taken))) ∙ l .inv .same
 
 fits-more : tie.Need-mul-n Inv-loop μ-loop
 fits-more c = omega (arith, small (c .before .before .before .before .loop .inv))
@@ -68,8 +69,8 @@ returns-3 : tie.Need-returns-3 Inv-loop μ-loop
 unfolding found
 returns-3 c = done (c .before .loop .inv) (omega arith)
 
-pub digits-spec : {M : Type 1} → statement M
-digits-spec =
+pub read-digits-spec : {M : Type 1} → statement M
+read-digits-spec =
     tie.close
     (tie.spec
     Inv-loop

@@ -1,0 +1,99 @@
+-- Digits in columns: a number column by column, how large it gets, and that it holds no byte 10.
+use mathlib.Core.Path.{_≡_, refl, sym}
+use mathlib.Core.Bool.{true, false}
+use mathlib.Core.List.{List, [], _∷_}
+use mathlib.Core.Option.{none, some}
+use Prim.Native.Nat.{ℕ, zero, suc, _+_, _-_, _*_, _^_, _≤_, _<_}
+use native.Mathlib.Nat.{zero-add, suc-add, pow-suc, pow-le-pow-right, one-le-pow, mul-le-mul-left, mul-le-mul-right}
+use native.Mathlib.Numerals.{add-one}
+use native.Mathlib.Omega.{arith}
+use borrow.Author.Tests.{eqb-true, eq-eqb, ne-eqb, leb-true, le-leb, lt-leb}
+use lib.Dec.{eqb, leb}
+use lib.ListN.{length, getD, take, drop}
+use lib.Seq.{slice, slice-cons, slice-empty, take-nil}
+use Rattle.laws.proofs.Cases.{split, clash, missing, cond-test, cond-some}
+use Rattle.trace.specs.Lines.{ended}
+use Rattle.trace.specs.Numbers.{is-digit, digits, number}
+
+pub is-digit-below : (b : ℕ) → b < 48 → is-digit b ≡ false
+unfolding is-digit
+is-digit-below b h = rw (lt-leb _ _ h)
+
+pub is-digit-above : (b : ℕ) → 57 < b → is-digit b ≡ false
+unfolding is-digit
+is-digit-above b h = split (leb 48 b) (λ e. rw (e, lt-leb _ _ h)) (λ e. rw e)
+
+pub is-digit-within : (b : ℕ) → 48 ≤ b → b ≤ 57 → is-digit b ≡ true
+unfolding is-digit
+is-digit-within b h k = rw (le-leb _ _ h, le-leb _ _ k)
+
+module _ (text : List ℕ) (i end : ℕ) (h : i < end) (fits : end ≤ length text) where
+  pub digits-other : (n : ℕ) → is-digit (getD text i 0) ≡ false → digits n (slice i end text) ≡ none
+  unfolding digits
+  digits-other n e = rw (slice-cons i end text 0 h fits, e)
+
+  pub digits-digit : (n : ℕ) → is-digit (getD text i 0) ≡ true → digits n (slice i end text) ≡ digits (n * 10 + (getD text i 0 - 48)) (slice (i + 1) end text)
+  unfolding digits
+  digits-digit n e = rw (slice-cons i end text 0 h fits, e, add-one i)
+
+  pub number-blank : getD text i 0 ≡ 32 → number (slice i end text) ≡ number (slice (i + 1) end text)
+  unfolding number
+  number-blank e = rw (slice-cons i end text 0 h fits, eq-eqb _ _ e, add-one i)
+
+  pub number-not-blank : (getD text i 0 ≡ 32 → ⊥) → number (slice i end text) ≡ digits 0 (slice i end text)
+  unfolding number
+  number-not-blank e = rw (slice-cons i end text 0 h fits, ne-eqb _ _ e)
+
+pub digits-empty : (n end : ℕ) (text : List ℕ) → digits n (slice end end text) ≡ some n
+unfolding digits
+digits-empty n end text = rw (slice-empty end text)
+
+pub number-empty : (end : ℕ) (text : List ℕ) → number (slice end end text) ≡ none
+unfolding number
+number-empty end text = rw (slice-empty end text)
+
+-- columns from a place on
+pub slice-take-drop : (text : List ℕ) (from k : ℕ) → slice from (from + k) text ≡ take k (drop from text)
+slice-take-drop text zero k = rw zero-add
+slice-take-drop [] (suc from) k = rw (suc-add, take-nil)
+slice-take-drop (b ∷ text) (suc from) k = rw suc-add (slice-take-drop text from k)
+
+-- n leaves room for k digits more in a number of 6 digits
+pub record Room (n k : ℕ) : Type 0 where
+  pub room : (n + 1) * 10 ^ k ≤ 1000000
+
+pub room-zero : (k : ℕ) → k ≤ 6 → Room 0 k
+room-zero k h = record { room = omega (arith, pow-le-pow-right {n = 10} (omega arith) {i = k} {j = 6} h) }
+
+pub room-lt : (n k : ℕ) → Room n k → n < 1000000
+room-lt n k r = omega (arith, r .room, mul-le-mul-left (n + 1) (one-le-pow k 10 (omega arith)))
+
+pub room-digit : (n d k : ℕ) → Room n (suc k) → d ≤ 9 → Room (n * 10 + d) k
+room-digit n d k r h =
+    let one-more : 10 ^ suc k ≡ 10 ^ k * 10 = pow-suc 10 k in
+    let le : (n * 10 + d + 1) * 10 ^ k ≤ (n * 10 + 10) * 10 ^ k = mul-le-mul-right (10 ^ k) (omega arith) in
+    record { room = omega (arith, le, rw one-more at (r .room)) }
+
+-- a number's columns hold no byte 10
+is-digit-not-end : (b : ℕ) → is-digit b ≡ true → eqb b 10 ≡ false
+unfolding is-digit
+is-digit-not-end b h =
+    split (leb 48 b)
+    (λ e. let least = leb-true 48 b e in ne-eqb b 10 (λ w. absurd (omega arith)))
+    (λ e. clash (sym (rw e at h)))
+
+ended-digits : (m n : ℕ) (bytes : List ℕ) → digits n bytes ≡ some m → ended bytes ≡ false
+unfolding digits ended
+ended-digits m n [] h = refl
+ended-digits m n (b ∷ bytes) h =
+    let rest = digits (n * 10 + (b - 48)) bytes in
+    rw (is-digit-not-end b (cond-test (is-digit b) rest m h))
+    (ended-digits m (n * 10 + (b - 48)) bytes (cond-some (is-digit b) rest m h))
+
+pub ended-number : (m : ℕ) (bytes : List ℕ) → number bytes ≡ some m → ended bytes ≡ false
+unfolding number ended
+ended-number m [] h = missing h
+ended-number m (b ∷ bytes) h =
+    split (eqb b 32)
+    (λ e. let blank = eqb-true b 32 e in rw (ne-eqb b 10 (λ w. absurd (omega arith))) (ended-number m bytes (rw e at h)))
+    (λ e. ended-digits m 0 (b ∷ bytes) (rw e at h))

@@ -1,0 +1,4 @@
+-- Laws of the reader: lines of one form, a line by its letter, a text that comes in parts.
+pub mod OneForm
+pub mod ByLetter
+pub mod InParts

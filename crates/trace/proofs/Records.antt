@@ -1,0 +1,107 @@
+-- Records behind their letters: each has one width and no byte 10, what the first bytes of a text say, and the widest line.
+use mathlib.Core.Path.{_≡_, refl}
+use mathlib.Core.Bool.{false}
+use mathlib.Core.List.{List, [], _∷_}
+use mathlib.Core.Option.{some, Option, bind, bind-eq-some-iff}
+use Prim.Native.Nat.{ℕ, suc, _≤_, _<_}
+use native.Mathlib.Omega.{arith}
+use borrow.Author.Tests.{eqb-true, eq-eqb}
+use lib.Dec.{eqb}
+use lib.ListN.{length, getD, take}
+use lib.Seq.{length-take-le, getD-take}
+use Rattle.laws.proofs.Cases.{split, missing, cond-test, cond-some}
+use Rattle.trace.specs.declared.Record.{Record}
+use Rattle.trace.specs.declared.Record.the-variants.{Set, Activate}
+use Rattle.trace.specs.Bytes.{letter-A, letter-R, letter-S}
+use Rattle.trace.specs.Lines.{ended}
+use Rattle.trace.specs.Numbers.{field, fields}
+use Rattle.trace.specs.Records.{as-settings, settings, activation, refresh, record-of}
+use Rattle.trace.proofs.Lines.{ended-drop-length}
+use Rattle.trace.proofs.Numbers.Fields.{field-take, fields-take, ended-field, ended-fields}
+
+-- every record of this form has so many bytes, none of them byte 10
+pub record Form (says : List ℕ → Option Record) (width : ℕ) : Type 0 where
+  pub same-length : (bytes : List ℕ) (r : Record) → says bytes ≡ some r → length bytes ≡ width
+  pub unended : (bytes : List ℕ) (r : Record) → says bytes ≡ some r → ended bytes ≡ false
+
+length-refresh : (bytes : List ℕ) (r : Record) → refresh bytes ≡ some r → length bytes ≡ 0
+unfolding refresh
+length-refresh [] r h = refl
+length-refresh (b ∷ bytes) r h = missing h
+
+ended-refresh : (bytes : List ℕ) (r : Record) → refresh bytes ≡ some r → ended bytes ≡ false
+unfolding refresh ended
+ended-refresh [] r h = refl
+ended-refresh (b ∷ bytes) r h = missing h
+
+pub refresh-form : Form refresh 0
+refresh-form = record { same-length = length-refresh; unended = ended-refresh }
+
+length-activation : (bytes : List ℕ) (r : Record) → activation bytes ≡ some r → length bytes ≡ 6
+unfolding activation
+length-activation bytes r h = eqb-true (length bytes) 6 (cond-test (eqb (length bytes) 6) _ r h)
+
+ended-activation : (bytes : List ℕ) (r : Record) → activation bytes ≡ some r → ended bytes ≡ false
+unfolding activation
+ended-activation bytes r h =
+    let row = bind-eq-some-iff (field 0 bytes) _ .0 (cond-some (eqb (length bytes) 6) _ r h) in
+    ended-field 0 (row .0) bytes (row .1) (ended-drop-length 6 bytes (length-activation bytes r h))
+
+pub activation-form : Form activation 6
+activation-form = record { same-length = length-activation; unended = ended-activation }
+
+length-settings : (bytes : List ℕ) (r : Record) → settings bytes ≡ some r → length bytes ≡ 42
+unfolding settings
+length-settings bytes r h = eqb-true (length bytes) 42 (cond-test (eqb (length bytes) 42) _ r h)
+
+ended-settings : (bytes : List ℕ) (r : Record) → settings bytes ≡ some r → ended bytes ≡ false
+unfolding settings
+ended-settings bytes r h =
+    let numbers = bind-eq-some-iff (fields 7 bytes) _ .0 (cond-some (eqb (length bytes) 42) _ r h) in
+    ended-fields 7 bytes (numbers .0) (length-settings bytes r h) (numbers .1)
+
+pub settings-form : Form settings 42
+settings-form = record { same-length = length-settings; unended = ended-settings }
+
+-- what the first bytes of a text say
+pub activation-take : (text : List ℕ) → 6 ≤ length text → activation (take 6 text) ≡ bind (field 0 text) λ row. some (Activate row)
+unfolding activation
+activation-take text h = rw (eq-eqb _ _ (length-take-le 6 text h), field-take 0 6 text (omega arith))
+
+pub settings-take : (text : List ℕ) → 42 ≤ length text → settings (take 42 text) ≡ bind (fields 7 text) λ ns. some (Set (as-settings ns))
+unfolding settings
+settings-take text h = rw (eq-eqb _ _ (length-take-le 42 text h), fields-take 7 text)
+
+-- settings made of an array are those of its first seven numbers
+pub as-settings-take : (values : List ℕ) → as-settings (take 7 values) ≡ as-settings values
+unfolding as-settings
+as-settings-take values =
+    let same : (i : ℕ) → i < 7 → getD (take 7 values) i 0 ≡ getD values i 0 = λ i h. getD-take 7 values i 0 h in
+    rw (
+      same 0 (omega arith),
+      same 1 (omega arith),
+      same 2 (omega arith),
+      same 3 (omega arith),
+      same 4 (omega arith),
+      same 5 (omega arith),
+      same 6 (omega arith),
+    )
+
+length-letter-le : {says : List ℕ → Option Record} {w : ℕ} → Form says w → w ≤ 42
+    → (bytes : List ℕ) (r : Record) → says bytes ≡ some r → suc (length bytes) ≤ 43
+length-letter-le form h bytes r e = omega (arith, form .same-length bytes r e)
+
+-- the widest record has 43 bytes before its byte 10
+pub length-record-le : (bytes : List ℕ) (r : Record) → record-of bytes ≡ some r → length bytes ≤ 43
+unfolding record-of
+length-record-le [] r h = omega arith
+length-record-le (b ∷ bytes) r h =
+    split (eqb b letter-S)
+    (λ s. length-letter-le settings-form (omega arith) bytes r (rw s at h))
+    (λ s.
+    split (eqb b letter-A)
+    (λ a. length-letter-le activation-form (omega arith) bytes r (rw (s, a) at h))
+    (λ a.
+    split (eqb b letter-R)
+    (λ f. length-letter-le refresh-form (omega arith) bytes r (rw (s, a, f) at h))
+    (λ f. missing (rw (s, a, f) at h))))

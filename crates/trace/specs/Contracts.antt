@@ -1,0 +1,23 @@
+-- Relations that only the contracts of inner functions use: what the columns of a field were found to hold, and where a byte 10 stands.
+use Prim.Native.Nat.{ℕ}
+use mathlib.Core.Bool.{Bool, _&&_, cond}
+use mathlib.Core.List.{List}
+use mathlib.Core.Option.{Option, none, some}
+use lib.Dec.{eqb, ltb}
+use lib.ListN.{length, getD, take}
+use Rattle.trace.specs.declared.Field.{Field}
+use Rattle.trace.specs.declared.Field.the-variants.{Number, Other}
+use Rattle.trace.specs.declared.Fields.{Fields}
+
+-- what some columns hold: a number, or something else
+unfoldable pub found : Field → Option ℕ
+found (Number n) = some n
+found Other = none
+
+-- what so many fields hold: as many numbers, or something else in one of them
+unfoldable pub found-all : ℕ → Fields → Option (List ℕ)
+found-all count r = cond (r .all) (some (take count (r .values))) none
+
+-- whether a byte 10 stands behind so many bytes
+unfoldable pub ends-after : ℕ → List ℕ → Bool
+ends-after width text = ltb width (length text) && eqb (getD text width 0) 10
