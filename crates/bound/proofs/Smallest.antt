@@ -54,3 +54,9 @@ module _ (passes : ℕ → Bool) where
       (λ yes′. absurd (let e′ = rw yes′ at e in let z : _≡_ {A = ℕ} 0 1 = cc in omega arith))
       (λ no′.
       ⊎-elim (λ same. rw (← same) no′) (λ later. none-found k (suc low) (rw no′ at e) d later (omega arith)) (eq-or-lt-of-le l))
+
+  pub found-none : (k low : ℕ) → ((d : ℕ) → low ≤ d → d < low + k → passes d ≡ false) → first-from passes k low ≡ refused 12
+  unfolding first-from or-else
+  found-none zero low none = refl
+  found-none (suc k) low none =
+      rw (none low (omega arith) (omega arith)) (found-none k (suc low) (λ d l h. none d (omega arith) (omega arith)))

@@ -4,3 +4,4 @@ pub mod Permutation
 pub mod Accepted
 pub mod Neighbours
 pub mod Times
+pub mod Claims

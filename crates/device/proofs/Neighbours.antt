@@ -6,9 +6,10 @@ use Prim.Native.Nat.{ℕ, zero, suc, _+_, _-_, _*_, _/_, _≤_, _<_, min}
 use native.Mathlib.Nat.{eq-or-lt-of-le}
 use native.Mathlib.Numerals.{add-one}
 use native.Mathlib.Omega.{arith}
-use lib.ListN.{length, length-append}
+use lib.ListN.{length, getD, length-append}
 use Rattle.laws.proofs.Cases.{le-or-lt}
 use Rattle.device.specs.Victims.{rows-from, rows-between, victims}
+use Rattle.device.specs.Claims.{distance}
 
 -- rows from low on and below high, each above the one before
 pub data Ascends : ℕ → ℕ → List ℕ → Type 0 where
@@ -24,6 +25,18 @@ pub join : {low middle high : ℕ} {front back : List ℕ} → Ascends low middl
 join none back l h = widen back l (omega arith)
 join {low} {high} (more {row} later from below) back l h =
     more {low = low} {high = high} {row = row} (join later back (omega arith) h) from (omega arith)
+
+-- a number of ascending ones is from low on, and below those behind it
+from-low : {low high : ℕ} {rows : List ℕ} → Ascends low high rows → (i : ℕ) → i < length rows → low ≤ getD rows i 0
+from-low none i h = absurd (omega arith)
+from-low (more later from below) zero h = from
+from-low (more later from below) (suc i) h = omega (arith, from-low later i (omega arith))
+
+pub ascends-at : {low high : ℕ} {rows : List ℕ} → Ascends low high rows → (i j : ℕ) → i < j → j < length rows → getD rows i 0 < getD rows j 0
+ascends-at none i j h l = absurd (omega arith)
+ascends-at (more later from below) i zero h l = absurd (omega arith)
+ascends-at (more later from below) zero (suc j) h l = from-low later j (omega arith)
+ascends-at (more later from below) (suc i) (suc j) h l = ascends-at later i j (omega arith) (omega arith)
 
 from-ascends : (k low high : ℕ) → low + k ≤ high → Ascends low high (rows-from k low)
 unfolding rows-from
@@ -61,10 +74,6 @@ from-in zero low v l h = absurd (omega arith)
 from-in (suc k) low v l h =
     ⊎-elim (λ e. List·Memᴰ·head (sym e)) (λ below. List·Memᴰ·tail (from-in k (suc low) v below (omega arith))) (eq-or-lt-of-le l)
 
--- the distance of two rows
-abbrev pub distance : ℕ → ℕ → ℕ
-distance a b = (a - b) + (b - a)
-
 module _ (rows diameter row : ℕ) where
   -- 'neighbours at distance 1 to B/2 that exist'
   pub victim-near : row < rows → (v : ℕ) → List·Memᴰ v (victims rows diameter row) → (v < rows) × (1 ≤ distance v row) × (distance v row ≤ diameter / 2)
@@ -88,10 +97,6 @@ module _ (rows diameter row : ℕ) where
       above l =
           Memᴰ·append-right (rows-between (row - diameter / 2) row)
           (from-in (min (row + 1 + diameter / 2) rows - (row + 1)) (row + 1) v (omega arith) (omega arith))
-
-  -- none is the row itself
-  pub victim-other : row < rows → (v : ℕ) → List·Memᴰ v (victims rows diameter row) → v ≡ row → ⊥
-  victim-other h v m e = let r = victim-near h v m in omega arith
 
   -- ascending and below the bank's end, so none twice
   pub victims-ascend : row < rows → Ascends 0 rows (victims rows diameter row)

@@ -38,14 +38,14 @@ has-dropped row (ordered-more low x o l b) =
     (λ on. let same = eqb-true (x .row) row on in rw on (has-below row o (omega arith)))
     (λ off. rw (off, off) (has-dropped row o))
 
-has-without : (row v : ℕ) (es : List Entry) → has row es ≡ false → has row (without v es) ≡ false
+pub has-without : (row v : ℕ) (es : List Entry) → has row es ≡ false → has row (without v es) ≡ false
 unfolding has without
 has-without row v [] e = e
 has-without row v (x ∷ xs) e =
     let parts = neither (eqb (x .row) row) (has row xs) e in
     split (eqb (x .row) v) (λ on. rw on (parts .1)) (λ off. rw (off, parts .0) (has-without row v xs (parts .1)))
 
-has-member : (x : Entry) (es : List Entry) → List·Memᴰ x es → has (x .row) es ≡ true
+pub has-member : (x : Entry) (es : List Entry) → List·Memᴰ x es → has (x .row) es ≡ true
 unfolding has
 has-member x [] m = absurd (List·Memᴰ·not-nil m)
 has-member x (y ∷ ys) m =

@@ -84,7 +84,7 @@ module _ (other row : ℕ) where
       (λ on. rw on (omega (arith, hit-other v row (λ q. eqb-false (x .row) v (parts .0) (eqb-true (x .row) row on ∙ sym q)))))
       (λ off. rw off (count-spilt v xs (parts .1)))
 
-  count-without : (v : ℕ) (es : List Entry) → (v ≡ row → ⊥) → count-or other row (without v es) ≡ count-or other row es
+  pub count-without : (v : ℕ) (es : List Entry) → (v ≡ row → ⊥) → count-or other row (without v es) ≡ count-or other row es
   unfolding count-or without
   count-without v [] h = refl
   count-without v (x ∷ xs) h =

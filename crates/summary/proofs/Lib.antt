@@ -12,3 +12,5 @@ pub mod Columns
 pub mod Stored
 pub mod Moves
 pub mod Walks
+pub mod Entries
+pub mod Claims

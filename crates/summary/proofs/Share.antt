@@ -57,7 +57,7 @@ raise size high {es} c (suc fuel) t h =
     (le-or-lt (above t es) size)
 
 -- no count is higher than that of the first entry of the highest count, which is among the entries
-top-best : (best : Entry) (xs : List Entry) → best .count ≤ top best xs .count
+pub top-best : (best : Entry) (xs : List Entry) → best .count ≤ top best xs .count
 unfolding top
 top-best best [] = omega arith
 top-best best (x ∷ xs) =

@@ -1,0 +1,2 @@
+-- Laws of specs/Entries.antt.
+pub mod Highest
