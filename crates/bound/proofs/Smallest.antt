@@ -7,7 +7,7 @@ use native.Mathlib.Nat.{eq-or-lt-of-le}
 use native.Mathlib.Numerals.{add-one, sub-one}
 use native.Mathlib.Omega.{arith}
 use Rattle.device.specs.Refusal.{Outcome, accepted, refused}
-use Rattle.laws.proofs.Cases.{split}
+use Rattle.laws.proofs.Cases.{split, zero-one}
 use Rattle.bound.specs.Least.{or-else, first-from}
 
 -- a number of a range that passes, none before it in the range does
@@ -31,7 +31,7 @@ module _ (passes : ℕ → Bool) where
 
   pub first-found : (k low c : ℕ) → first-from passes k low ≡ accepted c → First passes low (low + k) c
   unfolding first-from or-else
-  first-found zero low c e = absurd (let z : _≡_ {A = ℕ} 0 1 = cc in omega arith)
+  first-found zero low c e = zero-one (cc)
   first-found (suc k) low c e =
       split (passes low)
       (λ yes′.
@@ -51,7 +51,7 @@ module _ (passes : ℕ → Bool) where
   none-found zero low e d l h = absurd (omega arith)
   none-found (suc k) low e d l h =
       split (passes low)
-      (λ yes′. absurd (let e′ = rw yes′ at e in let z : _≡_ {A = ℕ} 0 1 = cc in omega arith))
+      (λ yes′. let e′ = rw yes′ at e in zero-one (cc))
       (λ no′.
       ⊎-elim (λ same. rw (← same) no′) (λ later. none-found k (suc low) (rw no′ at e) d later (omega arith)) (eq-or-lt-of-le l))
 

@@ -7,6 +7,7 @@ use Prim.Native.Nat.{ℕ, zero, suc, _*_, _%_, _≤_}
 use native.Mathlib.Omega.{arith}
 use borrow.Author.Tests.{leb-true, eqb-true}
 use lib.Dec.{leb, eqb, lit≤}
+use Rattle.laws.proofs.Cases.{zero-one}
 use Rattle.device.specs.declared.Settings.{Settings}
 use Rattle.device.specs.Refusal.{Test, refuse, first-failed, unless}
 use Rattle.device.specs.Acceptance.{within, rows-allowed, diameter-allowed, block-allowed, settings-tests-with, settings-tests, settings-tests-but-counters}
@@ -34,7 +35,7 @@ pub record Accepted (s : Settings) : Type 0 where
 
 pub both : (a b : Bool) → (a && b) ≡ true → (a ≡ true) × (b ≡ true)
 both true b e = (refl, e)
-both false b e = absurd (let z : _≡_ {A = ℕ} 0 1 = cc in omega arith)
+both false b e = zero-one (cc)
 
 either : (a b : Bool) → (a || b) ≡ true → (a ≡ true) ⊎ (b ≡ true)
 either true b e = inl refl

@@ -1,23 +1,22 @@
 -- A disturbance by its four cases: what holds of the summary that each case makes holds of the disturbed one.
 use mathlib.Core.Path.{_≡_}
 use mathlib.Core.Bool.{true, false}
-use Prim.Native.Nat.{ℕ, _+_, _≤_, _<_}
+use Prim.Native.Nat.{ℕ, _≤_, _<_}
 use borrow.Author.Tests.{ltb-true, ltb-false}
 use lib.Dec.{ltb}
 use lib.ListN.{length}
 use Rattle.laws.proofs.Cases.{split}
-use Rattle.summary.specs.Entries.{has, has-count, raised, without-count}
-use Rattle.summary.specs.Steps.{Summary, disturb}
-use Rattle.summary.specs.Tables.{entered-in}
+use Rattle.summary.specs.Entries.{has, has-count}
+use Rattle.summary.specs.Steps.{Summary, raise, enter, make-room, spill, disturb}
 
 module _ (P : Summary → Type 0) (counters row : ℕ) (s : Summary) where
   pub by-cases :
-      (has row (s .entries) ≡ true → P (record { entries = raised row (s .entries); spillover = s .spillover })) →
-      (has row (s .entries) ≡ false → length (s .entries) < counters → P (entered-in row s)) →
-      (has row (s .entries) ≡ false → counters ≤ length (s .entries) → has-count (s .spillover) (s .entries) ≡ true → P (entered-in row (record { entries = without-count (s .spillover) (s .entries); spillover = s .spillover }))) →
-      (has row (s .entries) ≡ false → counters ≤ length (s .entries) → has-count (s .spillover) (s .entries) ≡ false → P (record { entries = s .entries; spillover = s .spillover + 1 })) →
+      (has row (s .entries) ≡ true → P (raise row s)) →
+      (has row (s .entries) ≡ false → length (s .entries) < counters → P (enter row s)) →
+      (has row (s .entries) ≡ false → counters ≤ length (s .entries) → has-count (s .spillover) (s .entries) ≡ true → P (enter row (make-room s))) →
+      (has row (s .entries) ≡ false → counters ≤ length (s .entries) → has-count (s .spillover) (s .entries) ≡ false → P (spill s)) →
       P (disturb counters row s)
-  unfolding disturb entered-in
+  unfolding disturb
   by-cases tracked free low high =
       split (has row (s .entries))
       (λ e. rw e (tracked e))

@@ -7,11 +7,12 @@ use native.Mathlib.Omega.{arith}
 use borrow.Author.Tests.{eqb-true, eqb-false, ne-eqb}
 use lib.Dec.{eqb, ltb}
 use lib.ListN.{length}
-use Rattle.laws.proofs.Cases.{split}
+use Rattle.laws.proofs.Cases.{split, zero-one}
 use Rattle.device.proofs.Times.{hit, times, hit-most, hit-other}
 use Rattle.summary.specs.Entries.{Entry, has, count-or, without, without-all, raised, entered, has-count, without-count}
 use Rattle.summary.specs.Steps.{Summary, estimate, disturb, disturb-each, drop-rows}
 use Rattle.summary.specs.Rules.{Floor, floor-none, floor-more}
+use Rattle.summary.proofs.DisturbCases.{by-cases}
 use Rattle.summary.proofs.Rules.Floor.{neither}
 use Rattle.summary.proofs.Rules.Order.{untracked-without-count}
 
@@ -30,7 +31,7 @@ module _ (other row : ℕ) where
 
   count-raised : (v : ℕ) (es : List Entry) → has v es ≡ true → count-or other row es + hit v row ≤ count-or other row (raised v es)
   unfolding has count-or raised
-  count-raised v [] e = absurd (let z : _≡_ {A = ℕ} 0 1 = cc in omega arith)
+  count-raised v [] e = zero-one (cc)
   count-raised v (x ∷ xs) e =
       split (eqb (x .row) v)
       (λ this.
@@ -62,10 +63,10 @@ module _ (other row : ℕ) where
       rw (behind, on, off) (omega arith))
       (λ off. rw (behind, off) (count-entered v xs (parts .1))))
 
-  count-exchanged : {es : List Entry} → Floor other es → count-or other row es ≤ count-or other row (without-count other es)
+  count-without-count : {es : List Entry} → Floor other es → count-or other row es ≤ count-or other row (without-count other es)
   unfolding count-or without-count
-  count-exchanged floor-none = omega arith
-  count-exchanged (floor-more x {xs} f l) =
+  count-without-count floor-none = omega arith
+  count-without-count (floor-more x {xs} f l) =
       split (eqb (x .count) other)
       (λ low.
       let same = eqb-true (x .count) other low in
@@ -73,16 +74,16 @@ module _ (other row : ℕ) where
       (λ on. rw (low, on) (omega (arith, count-floor f)))
       (λ off. rw (low, off) (omega arith)))
       (λ high.
-      split (eqb (x .row) row) (λ on. rw (high, on) (omega arith)) (λ off. rw (high, off) (count-exchanged f)))
+      split (eqb (x .row) row) (λ on. rw (high, on) (omega arith)) (λ off. rw (high, off) (count-without-count f)))
 
-  count-spilt : (v : ℕ) (es : List Entry) → has v es ≡ false → count-or other row es + hit v row ≤ count-or (other + 1) row es
+  count-spill : (v : ℕ) (es : List Entry) → has v es ≡ false → count-or other row es + hit v row ≤ count-or (other + 1) row es
   unfolding has count-or
-  count-spilt v [] e = omega (arith, hit-most v row)
-  count-spilt v (x ∷ xs) e =
+  count-spill v [] e = omega (arith, hit-most v row)
+  count-spill v (x ∷ xs) e =
       let parts = neither (eqb (x .row) v) (has v xs) e in
       split (eqb (x .row) row)
       (λ on. rw on (omega (arith, hit-other v row (λ q. eqb-false (x .row) v (parts .0) (eqb-true (x .row) row on ∙ sym q)))))
-      (λ off. rw off (count-spilt v xs (parts .1)))
+      (λ off. rw off (count-spill v xs (parts .1)))
 
   pub count-without : (v : ℕ) (es : List Entry) → (v ≡ row → ⊥) → count-or other row (without v es) ≡ count-or other row es
   unfolding count-or without
@@ -104,25 +105,20 @@ module _ (other row : ℕ) where
 
 -- a disturbance raises the row's estimate by at least 1, and lowers none
 pub estimate-disturb : (counters v row : ℕ) (s : Summary) → Floor (s .spillover) (s .entries) → estimate s row + hit v row ≤ estimate (disturb counters v s) row
-unfolding estimate disturb
+unfolding estimate
 estimate-disturb counters v row s f =
-    let spill : ℕ = s .spillover in
+    let other : ℕ = s .spillover in
     let es : List Entry = s .entries in
-    split (has v es)
-    (λ tracked. rw tracked (count-raised spill row v es tracked))
-    (λ untracked.
-    split (ltb (length es) counters)
-    (λ free. rw (untracked, free) (count-entered spill row v es untracked))
-    (λ full.
-    split (has-count spill es)
-    (λ low.
-    rw (untracked, full, low)
-    (omega (
+    by-cases (λ made. estimate s row + hit v row ≤ estimate made row) counters v s
+    (λ tracked. count-raised other row v es tracked)
+    (λ untracked free. count-entered other row v es untracked)
+    (λ untracked full low.
+    omega (
       arith,
-      count-exchanged spill row f,
-      count-entered spill row v (without-count spill es) (untracked-without-count v spill es untracked),
-    )))
-    (λ high. rw (untracked, full, high) (count-spilt spill row v es untracked))))
+      count-without-count other row f,
+      count-entered other row v (without-count other es) (untracked-without-count v other es untracked),
+    ))
+    (λ untracked full high. count-spill other row v es untracked)
 
 -- a drop leaves the estimates of the rows that are not dropped
 pub estimate-drop : (row : ℕ) (rows : List ℕ) (s : Summary) → times row rows ≡ 0 → estimate (drop-rows rows s) row ≡ estimate s row

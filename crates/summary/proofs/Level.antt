@@ -11,9 +11,10 @@ use lib.Dec.{eqb, ltb}
 use lib.ListN.{length}
 use Rattle.laws.proofs.Cases.{split, le-or-lt}
 use Rattle.summary.specs.Entries.{Entry, has, without, without-all, raised, entered, has-count, without-count}
-use Rattle.summary.specs.Steps.{Summary, disturb, disturb-each, drop-rows}
+use Rattle.summary.specs.Steps.{Summary, spill, disturb}
 use Rattle.summary.specs.Rules.{Floor, floor-none, floor-more}
 use Rattle.summary.proofs.Rules.Floor.{floor-rises}
+use Rattle.summary.proofs.DisturbCases.{by-cases}
 
 -- the sum of the counts' excess over a level
 unfoldable pub excess : ℕ → List Entry → ℕ
@@ -60,37 +61,31 @@ level-more l h = record { level = l .level; above = l .above; small = omega arit
 module _ {size most : ℕ} where
   -- a disturbance raises the sum by at most 1
   pub level-disturb : (counters row : ℕ) (s : Summary) → size ≤ counters + 1 → Floor (s .spillover) (s .entries) → Level size most s → Level size (most + 1) (disturb counters row s)
-  unfolding disturb
   level-disturb counters row s few floor l =
-      split (has row (s .entries))
-      (λ tracked. rw tracked (record { level = t; above = l .above; small = omega (arith, excess-raised t row es) }))
-      (λ untracked.
-      split (ltb (length es) counters)
-      (λ free. rw (untracked, free) (record { level = t; above = l .above; small = rw excess-entered (omega arith) }))
-      (λ full.
-      split (has-count spill es)
-      (λ low.
-      rw (untracked, full, low)
-      (record {
+      by-cases (λ made. Level size (most + 1) made) counters row s
+      (λ tracked. record { level = t; above = l .above; small = omega (arith, excess-raised t row es) })
+      (λ untracked free. record { level = t; above = l .above; small = rw excess-entered (omega arith) })
+      (λ untracked full low.
+      record {
         level = t;
         above = l .above;
-        small = rw excess-entered (omega (arith, excess-without-count t spill es));
-      }))
-      (λ high. rw (untracked, full, high) (⊎-elim (risen (floor-rises floor high) (ltb-false (length es) counters full)) stays (le-or-lt t spill)))))
+        small = rw excess-entered (omega (arith, excess-without-count t spillover es));
+      })
+      (λ untracked full high. ⊎-elim (rises (floor-rises floor high) full) stays (le-or-lt t spillover))
     where
       t : ℕ
       t = l .level
 
-      spill : ℕ
-      spill = s .spillover
+      spillover : ℕ
+      spillover = s .spillover
 
       es : List Entry
       es = s .entries
 
-      stays : spill < t → Level size (most + 1) (record { entries = es; spillover = spill + 1 })
+      stays : spillover < t → Level size (most + 1) (spill s)
       stays h = record { level = t; above = omega arith; small = omega arith }
 
-      risen : Floor (suc spill) es → counters ≤ length es → t ≤ spill → Level size (most + 1) (record { entries = es; spillover = spill + 1 })
-      risen above full h =
-          let same : t ≡ spill = omega arith in
+      rises : Floor (suc spillover) es → counters ≤ length es → t ≤ spillover → Level size (most + 1) (spill s)
+      rises above full h =
+          let same : t ≡ spillover = omega arith in
           record { level = suc t; above = omega arith; small = omega (arith, excess-above t (rw (← same) at above)) }

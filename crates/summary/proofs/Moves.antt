@@ -9,16 +9,16 @@ use lib.Dec.{ltb}
 use lib.ListN.{length, getD, take, drop, set}
 use Rattle.tables.specs.Places.{lower-place, equal-place, highest-place, put-in, taken-at}
 use Rattle.summary.specs.Entries.{Entry, rows-of, counts-of, has, without, without-all, raised, entered, has-count, without-count, top, picks}
-use Rattle.summary.specs.Steps.{Summary, disturb, drop-rows}
+use Rattle.summary.specs.Steps.{Summary, disturb, drop-rows, enter, raise, make-room, spill}
 use Rattle.summary.specs.Rules.{Sound}
-use Rattle.summary.specs.Tables.{read, Holds, Held, entered-in}
+use Rattle.summary.specs.Tables.{read, Holds, Held}
 use Rattle.summary.proofs.Laid.{length-rows, held-read}
 use Rattle.summary.proofs.Rules.Order.{untracked-without-count}
 use Rattle.summary.proofs.Places.{has-place, rows-without, counts-without, without-untracked, rows-raised, counts-raised, has-count-place, rows-without-count, counts-without-count, rows-entered, counts-entered, lower-place-most, equal-place-at, highest-place-top}
-use Rattle.summary.proofs.Rules.Sound.{sound-drop, sound-entered, sound-exchanged, sound-raised, sound-spilt}
+use Rattle.summary.proofs.Rules.Sound.{sound-drop, sound-enter, sound-without-count, sound-raise, sound-spill}
 use Rattle.summary.proofs.Stored.{tracked-few, long-rows, used-rows, used-counts, row-at-place, count-at-place, holds-taken, holds-put, holds-set}
 
-module _ {places high : ℕ} {sum : Summary} {rows counts : List ℕ} {k spill : ℕ} (h : Holds places high sum rows counts k spill) where
+module _ {places high : ℕ} {sum : Summary} {rows counts : List ℕ} {k spillover : ℕ} (h : Holds places high sum rows counts k spillover) where
   -- whether a row, or a count, is there, by the place that was found
   pub has-found : (row p : ℕ) → p ≡ equal-place row (take k rows) → p < k → has row (sum .entries) ≡ true
   has-found row p e less =
@@ -44,105 +44,106 @@ module _ {places high : ℕ} {sum : Summary} {rows counts : List ℕ} {k spill :
   place-few row p e =
       omega (arith, rw (used-rows h) at e, lower-place-most row (rows-of (sum .entries)), length-rows (sum .entries), h .tracked-is)
 
-  -- a tracked row is dropped
-  pub dropped : (row p : ℕ) → p ≡ equal-place row (take k rows) → p < k → Holds places high (drop-rows (row ∷ []) sum) (taken-at rows k p) (taken-at counts k p) (k - 1) spill
+  -- a tracked row is holds-drop
+  pub holds-drop : (row p : ℕ) → p ≡ equal-place row (take k rows) → p < k → Holds places high (drop-rows (row ∷ []) sum) (taken-at rows k p) (taken-at counts k p) (k - 1) spillover
   unfolding drop-rows without-all
-  dropped row p e less =
+  holds-drop row p e less =
       let at = rw (used-rows h) at e in
       let tracked = has-found row p e less in
       holds-taken h (drop-rows (row ∷ []) sum) (sound-drop (row ∷ []) (h .sound)) refl p less
       (rw at (rows-without row (sum .entries) tracked))
       (rw at (counts-without row (sum .entries) tracked))
 
-  pub kept : (row p : ℕ) → p ≡ equal-place row (take k rows) → k ≤ p → Holds places high (drop-rows (row ∷ []) sum) rows counts k spill
+  pub holds-drop-untracked : (row p : ℕ) → p ≡ equal-place row (take k rows) → k ≤ p → Holds places high (drop-rows (row ∷ []) sum) rows counts k spillover
   unfolding drop-rows without-all
-  kept row p e past = rw (without-untracked row (sum .entries) (has-missed row p e past)) h
+  holds-drop-untracked row p e past = rw (without-untracked row (sum .entries) (has-missed row p e past)) h
 
   -- a row is entered
-  pub put : (row p : ℕ) → p ≡ lower-place row (take k rows) → has row (sum .entries) ≡ false → k < places → row < high → Holds places high (entered-in row sum) (put-in rows k p row) (put-in counts k p (spill + 1)) (k + 1) spill
-  unfolding entered-in
-  put row p e untracked room less =
+  pub holds-enter : (row p : ℕ) → p ≡ lower-place row (take k rows) → has row (sum .entries) ≡ false → k < places → row < high → Holds places high (enter row sum) (put-in rows k p row) (put-in counts k p (spillover + 1)) (k + 1) spillover
+  holds-enter row p e untracked room less =
       let at = rw (used-rows h) at e in
-      holds-put h (entered-in row sum) (sound-entered row sum less untracked (omega (arith, h .tracked-is)) (h .sound)) refl p row (spill + 1)
+      holds-put h (enter row sum) (sound-enter row sum less untracked (omega (arith, h .tracked-is)) (h .sound)) refl p row (spillover + 1)
       (place-few row p e)
       room
       (rw at (rows-entered row (sum .spillover + 1) (h .sound .ordered) untracked))
       (rw (at, h .spilt-is) (counts-entered row (sum .spillover + 1) (h .sound .ordered) untracked))
 
   -- a count rises
-  pub risen : (row p : ℕ) → p ≡ equal-place row (take k rows) → p < k → Holds places high (record { entries = raised row (sum .entries); spillover = sum .spillover }) rows (set counts p (getD counts p 0 + 1)) k spill
-  risen row p e less =
+  pub holds-raise : (row p : ℕ) → p ≡ equal-place row (take k rows) → p < k → Holds places high (raise row sum) rows (set counts p (getD counts p 0 + 1)) k spillover
+  holds-raise row p e less =
       let at = rw (used-rows h) at e in
-      holds-set h (record { entries = raised row (sum .entries); spillover = sum .spillover }) (sound-raised row sum (h .sound)) refl p (getD counts p 0 + 1) less
+      holds-set h (raise row sum) (sound-raise row sum (h .sound)) refl p (getD counts p 0 + 1) less
       (rows-raised row (sum .entries))
       (rw (count-at-place h p less, at) (counts-raised row (sum .entries)))
 
   -- the first row of a count makes room
-  pub exchanged : (count q : ℕ) → q ≡ equal-place count (take k counts) → q < k → Holds places high (record { entries = without-count count (sum .entries); spillover = sum .spillover }) (taken-at rows k q) (taken-at counts k q) (k - 1) spill
-  exchanged count q e less =
+  pub holds-without-count : (count q : ℕ) → q ≡ equal-place count (take k counts) → q < k → Holds places high (record { entries = without-count count (sum .entries); spillover = sum .spillover }) (taken-at rows k q) (taken-at counts k q) (k - 1) spillover
+  holds-without-count count q e less =
       let at = rw (used-counts h) at e in
       let low = count-found count q e less in
-      holds-taken h (record { entries = without-count count (sum .entries); spillover = sum .spillover }) (sound-exchanged count sum low (h .sound)) refl q less
+      holds-taken h (record { entries = without-count count (sum .entries); spillover = sum .spillover }) (sound-without-count count sum low (h .sound)) refl q less
       (rw at (rows-without-count count (sum .entries) low))
       (rw at (counts-without-count count (sum .entries) low))
 
   -- the spillover rises
-  pub spilt : has-count (sum .spillover) (sum .entries) ≡ false → Holds places high (record { entries = sum .entries; spillover = sum .spillover + 1 }) rows counts k (spill + 1)
-  spilt up =
+  pub holds-spill : has-count (sum .spillover) (sum .entries) ≡ false → Holds places high (spill sum) rows counts k (spillover + 1)
+  holds-spill up =
       record {
         rows-laid = h .rows-laid;
         counts-laid = h .counts-laid;
         tracked-is = h .tracked-is;
         spilt-is = omega (arith, h .spilt-is);
-        sound = sound-spilt sum up (h .sound);
+        sound = sound-spill sum up (h .sound);
       }
 
 -- tables that hold a summary are as the functions want them
-pub held-again : {places : ℕ} {sum : Summary} {rows counts : List ℕ} {k spill : ℕ} → Holds places 4294967296 sum rows counts k spill → Held rows counts k spill
+pub held-again : {places : ℕ} {sum : Summary} {rows counts : List ℕ} {k spillover : ℕ} → Holds places 4294967296 sum rows counts k spillover → Held rows counts k spillover
 held-again h = rw (held-read h, long-rows h) h
 
 -- the four cases of a disturbance
 module _ (counters row : ℕ) (sum : Summary) where
-  pub disturb-tracked : has row (sum .entries) ≡ true → disturb counters row sum ≡ record { entries = raised row (sum .entries); spillover = sum .spillover }
+  pub disturb-raise : has row (sum .entries) ≡ true → disturb counters row sum ≡ raise row sum
   unfolding disturb
-  disturb-tracked e = rw e
+  disturb-raise e = rw e
 
-  pub disturb-free : has row (sum .entries) ≡ false → length (sum .entries) < counters → disturb counters row sum ≡ entered-in row sum
-  unfolding disturb entered-in
-  disturb-free e free = rw (e, lt-ltb (length (sum .entries)) counters free)
+  pub disturb-enter : has row (sum .entries) ≡ false → length (sum .entries) < counters → disturb counters row sum ≡ enter row sum
+  unfolding disturb
+  disturb-enter e free = rw (e, lt-ltb (length (sum .entries)) counters free)
 
-  pub disturb-exchange : has row (sum .entries) ≡ false → counters ≤ length (sum .entries) → has-count (sum .spillover) (sum .entries) ≡ true → disturb counters row sum ≡ entered-in row (record { entries = without-count (sum .spillover) (sum .entries); spillover = sum .spillover })
-  unfolding disturb entered-in
+  pub disturb-exchange : has row (sum .entries) ≡ false → counters ≤ length (sum .entries) → has-count (sum .spillover) (sum .entries) ≡ true → disturb counters row sum ≡ enter row (make-room sum)
+  unfolding disturb
   disturb-exchange e full low = rw (e, le-ltb (length (sum .entries)) counters full, low)
 
-  pub disturb-spilt : has row (sum .entries) ≡ false → counters ≤ length (sum .entries) → has-count (sum .spillover) (sum .entries) ≡ false → disturb counters row sum ≡ record { entries = sum .entries; spillover = sum .spillover + 1 }
+  pub disturb-spill : has row (sum .entries) ≡ false → counters ≤ length (sum .entries) → has-count (sum .spillover) (sum .entries) ≡ false → disturb counters row sum ≡ spill sum
   unfolding disturb
-  disturb-spilt e full up = rw (e, le-ltb (length (sum .entries)) counters full, up)
+  disturb-spill e full up = rw (e, le-ltb (length (sum .entries)) counters full, up)
 
 -- the exchange: what stands between taking out the first row at the spillover and entering the new one
 module _
-    {places : ℕ} {sum : Summary} {rows counts : List ℕ} {k spill : ℕ} (h : Holds places 4294967296 sum rows counts k spill)
-    (row q : ℕ) (at : q ≡ equal-place spill (take k counts)) (less : q < k) (untracked : has row (sum .entries) ≡ false) (full : k ≡ places)
-    {rows′ counts′ : List ℕ} {k′ spill′ : ℕ} (er : rows′ ≡ taken-at rows k q) (ec : counts′ ≡ taken-at counts k q) (ek : k′ ≡ k - 1) (es : spill′ ≡ spill)
+    {places : ℕ} {sum : Summary} {rows counts : List ℕ} {k spillover : ℕ} (h : Holds places 4294967296 sum rows counts k spillover)
+    (row q : ℕ) (at : q ≡ equal-place spillover (take k counts)) (less : q < k) (untracked : has row (sum .entries) ≡ false) (full : k ≡ places)
+    {rows′ counts′ : List ℕ} {k′ spillover′ : ℕ} (er : rows′ ≡ taken-at rows k q) (ec : counts′ ≡ taken-at counts k q) (ek : k′ ≡ k - 1) (es : spillover′ ≡ spillover)
   where
     fewer : Summary
-    fewer = record { entries = without-count spill (sum .entries); spillover = sum .spillover }
+    fewer = record { entries = without-count spillover (sum .entries); spillover = sum .spillover }
 
-    between : Holds places 4294967296 fewer rows′ counts′ k′ spill′
+    between : Holds places 4294967296 fewer rows′ counts′ k′ spillover′
     unfolding fewer
-    between = rw (er, ec, ek, es) (exchanged h spill q at less)
+    between = rw (er, ec, ek, es) (holds-without-count h spillover q at less)
 
-    pub exchange-ready : spill ≤ 4000000000 → Held rows′ counts′ k′ spill′ × (((k′ < length rows′) × (spill′ ≤ 4000000000)) × (has row (read rows′ counts′ k′ spill′ .entries) ≡ false))
+    pub exchange-ready : spillover ≤ 4000000000 → Held rows′ counts′ k′ spillover′ × (((k′ < length rows′) × (spillover′ ≤ 4000000000)) × (has row (read rows′ counts′ k′ spillover′ .entries) ≡ false))
     unfolding fewer
     exchange-ready small = (
       held-again between,
-      ((omega (arith, long-rows between), omega arith), rw (held-read between) (untracked-without-count row spill (sum .entries) untracked)),
+      ((omega (arith, long-rows between), omega arith), rw (held-read between) (untracked-without-count row spillover (sum .entries) untracked)),
     )
 
-    pub exchange-done : {rows″ counts″ : List ℕ} {k″ spill″ : ℕ} → Holds (length rows′) 4294967296 (entered-in row (read rows′ counts′ k′ spill′)) rows″ counts″ k″ spill″ → Holds places 4294967296 (disturb places row sum) rows″ counts″ k″ spill″
+    pub exchange-done : {rows″ counts″ : List ℕ} {k″ spillover″ : ℕ} → Holds (length rows′) 4294967296 (enter row (read rows′ counts′ k′ spillover′)) rows″ counts″ k″ spillover″ → Holds places 4294967296 (disturb places row sum) rows″ counts″ k″ spillover″
     unfolding fewer
     exchange-done x =
-        let low : has-count (sum .spillover) (sum .entries) ≡ true = rw (h .spilt-is) at (count-found h spill q at less) in
-        let same : disturb places row sum ≡ entered-in row (read rows′ counts′ k′ spill′) =
-        rw (held-read between) (rw (h .spilt-is) (disturb-exchange places row sum untracked (omega (arith, h .tracked-is)) low)) in
+        let low : has-count (sum .spillover) (sum .entries) ≡ true = rw (h .spilt-is) at (count-found h spillover q at less) in
+        let made : disturb places row sum ≡ enter row (make-room sum) = disturb-exchange places row sum untracked (omega (arith, h .tracked-is)) low in
+        let room : make-room sum ≡ fewer = ap (λ (n : ℕ). record { entries = without-count n (sum .entries); spillover = sum .spillover }) (sym (h .spilt-is)) in
+        let same : disturb places row sum ≡ enter row (read rows′ counts′ k′ spillover′) =
+        made ∙ ap (λ (s : Summary). enter row s) (room ∙ sym (held-read between)) in
         rw (same, ← long-rows between) x

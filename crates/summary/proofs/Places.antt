@@ -9,7 +9,7 @@ use borrow.Author.Tests.{eqb-true, eqb-false, eq-eqb, ne-eqb, ltb-true, ltb-fals
 use lib.Dec.{eqb, ltb, leb·suc-suc}
 use lib.Arith.{lt-of-le-ne}
 use lib.ListN.{length, getD, take, drop, set}
-use Rattle.laws.proofs.Cases.{split, le-or-lt}
+use Rattle.laws.proofs.Cases.{split, le-or-lt, zero-one}
 use Rattle.tables.specs.Places.{Rising, lower-place, equal-place, highest-from, highest-place}
 use Rattle.summary.specs.Entries.{Entry, rows-of, counts-of, has, without, raised, entered, has-count, without-count, top}
 use Rattle.summary.specs.Steps.{in-rows}
@@ -42,7 +42,7 @@ has-place row (x ∷ xs) =
 
 pub rows-without : (row : ℕ) (es : List Entry) → has row es ≡ true → rows-of (without row es) ≡ out (equal-place row (rows-of es)) (rows-of es)
 unfolding has without equal-place rows-of
-rows-without row [] e = absurd (let z : _≡_ {A = ℕ} 0 1 = cc in omega arith)
+rows-without row [] e = zero-one (cc)
 rows-without row (x ∷ xs) e =
     split (eqb (x .row) row)
     (λ on. rw on)
@@ -50,7 +50,7 @@ rows-without row (x ∷ xs) e =
 
 pub counts-without : (row : ℕ) (es : List Entry) → has row es ≡ true → counts-of (without row es) ≡ out (equal-place row (rows-of es)) (counts-of es)
 unfolding has without equal-place rows-of counts-of
-counts-without row [] e = absurd (let z : _≡_ {A = ℕ} 0 1 = cc in omega arith)
+counts-without row [] e = zero-one (cc)
 counts-without row (x ∷ xs) e =
     split (eqb (x .row) row)
     (λ on. rw on)
@@ -91,7 +91,7 @@ has-count-place count (x ∷ xs) =
 
 pub rows-without-count : (count : ℕ) (es : List Entry) → has-count count es ≡ true → rows-of (without-count count es) ≡ out (equal-place count (counts-of es)) (rows-of es)
 unfolding has-count without-count equal-place rows-of counts-of
-rows-without-count count [] e = absurd (let z : _≡_ {A = ℕ} 0 1 = cc in omega arith)
+rows-without-count count [] e = zero-one (cc)
 rows-without-count count (x ∷ xs) e =
     split (eqb (x .count) count)
     (λ on. rw on)
@@ -99,7 +99,7 @@ rows-without-count count (x ∷ xs) e =
 
 pub counts-without-count : (count : ℕ) (es : List Entry) → has-count count es ≡ true → counts-of (without-count count es) ≡ out (equal-place count (counts-of es)) (counts-of es)
 unfolding has-count without-count equal-place counts-of
-counts-without-count count [] e = absurd (let z : _≡_ {A = ℕ} 0 1 = cc in omega arith)
+counts-without-count count [] e = zero-one (cc)
 counts-without-count count (x ∷ xs) e =
     split (eqb (x .count) count)
     (λ on. rw on)
@@ -206,12 +206,12 @@ equal-place-at (ordered-more low x {xs} o l b) (suc i) h =
 -- the first place of the highest count is the picked entry's
 drop-step : (i : ℕ) (all : List Entry) (x : Entry) (xs : List Entry) → drop i all ≡ x ∷ xs → (i < length all) × (drop (suc i) all ≡ xs) × (getD (rows-of all) i 0 ≡ x .row)
 unfolding rows-of
-drop-step zero [] x xs e = absurd (let z : _≡_ {A = ℕ} 0 1 = cc in omega arith)
+drop-step zero [] x xs e = zero-one (cc)
 drop-step zero (y ∷ ys) x xs e = (omega arith, cc, ap (λ (z : Entry). z .row) same)
   where
     same : y ≡ x
     same = cc
-drop-step (suc i) [] x xs e = absurd (let z : _≡_ {A = ℕ} 0 1 = cc in omega arith)
+drop-step (suc i) [] x xs e = zero-one (cc)
 drop-step (suc i) (y ∷ ys) x xs e = let r = drop-step i ys x xs e in (omega (arith, r .0), r .1, r .2)
 
 highest-row : (all : List Entry) (place at : ℕ) (best : Entry) (rest : List Entry) → drop at all ≡ rest → place < length all → getD (rows-of all) place 0 ≡ best .row → (highest-from place (best .count) at (counts-of rest) < length all) × (getD (rows-of all) (highest-from place (best .count) at (counts-of rest)) 0 ≡ top best rest .row)

@@ -102,9 +102,9 @@ record Share (from size most : ℕ) (s : Summary) : Type 0 where
   above-spill : s .spillover ≤ level
   small : from * (size * level + excess level (s .entries)) ≤ size * most
 
--- one pick's arithmetic: S before and S′ after, x taken away
-taken : (E D t S S′ x M : ℕ) → S′ + x ≡ S → S ≤ suc D * x → E * (suc D * t + S) ≤ suc D * M → E * (D * t + S′) ≤ D * M
-taken E D t S S′ x M e few h =
+-- one pick's arithmetic: S before and S′ after, x share-taken away
+share-taken : (E D t S S′ x M : ℕ) → S′ + x ≡ S → S ≤ suc D * x → E * (suc D * t + S) ≤ suc D * M → E * (D * t + S′) ≤ D * M
+share-taken E D t S S′ x M e few h =
     let part : suc D * S′ ≤ D * S = omega (arith, mul-le-mul-left (suc D) (le-of-eq e)) in
     let lifted : E * (D * (suc D * t) + suc D * S′) ≤ E * (D * (suc D * t) + D * S) = mul-le-mul-left E (omega arith) in
     let scaled : D * (E * (suc D * t + S)) ≤ D * (suc D * M) = mul-le-mul-left D h in
@@ -130,7 +130,7 @@ module _ {from most : ℕ} where
         level = r .level;
         above-spill = omega arith;
         small =
-            taken from size (r .level) (excess (r .level) (x ∷ xs)) (excess (r .level) (without (best .row) (x ∷ xs))) (best .count - r .level) most
+            share-taken from size (r .level) (excess (r .level) (x ∷ xs)) (excess (r .level) (without (best .row) (x ∷ xs))) (best .count - r .level) most
             (excess-taken (r .level) best o (top-in x xs))
             (r .few)
             lower;

@@ -108,11 +108,11 @@ picks-step m r (x ∷ xs) h e =
     let same : r ≡ top x xs .row = cc in
     rw same
 
-no-picks : (m : ℕ) (es : List Entry) → length es ≤ 0 → picks m es ≡ []
+picks-none : (m : ℕ) (es : List Entry) → length es ≤ 0 → picks m es ≡ []
 unfolding picks
-no-picks zero es h = refl
-no-picks (suc m) [] h = refl
-no-picks (suc m) (x ∷ xs) h = absurd (omega arith)
+picks-none zero es h = refl
+picks-none (suc m) [] h = refl
+picks-none (suc m) (x ∷ xs) h = absurd (omega arith)
 
 module _ {places volume : ℕ} {start : Summary} {list₀ rows counts list : List ℕ} {k spill i : ℕ} (l : Picking places volume start list₀ rows counts list k spill i) where
   pub picking-long : i ≤ length list₀ → length list ≡ length list₀
@@ -139,9 +139,9 @@ module _ {places volume : ℕ} {start : Summary} {list₀ rows counts list : Lis
       }
 
   -- none is left to pick, or as many as wanted are
-  finished : picks (volume - i) (l .sum .entries) ≡ [] → PickedFrom volume start list₀ list i × Holds places 4294967296 (drop-rows (picks volume (start .entries)) start) rows counts k spill
+  picking-done : picks (volume - i) (l .sum .entries) ≡ [] → PickedFrom volume start list₀ list i × Holds places 4294967296 (drop-rows (picks volume (start .entries)) start) rows counts k spill
   unfolding drop-rows without-all
-  finished none =
+  picking-done none =
       let all : l .names ≡ picks volume (start .entries) = sym (append-nil (l .names)) ∙ rw none at (l .same) in (
         record {
           named = rw (← all, l .counted) (l .written);
@@ -152,7 +152,7 @@ module _ {places volume : ℕ} {start : Summary} {list₀ rows counts list : Lis
 
   pub picking-full : volume ≤ i → PickedFrom volume start list₀ list i × Holds places 4294967296 (drop-rows (picks volume (start .entries)) start) rows counts k spill
   unfolding picks
-  picking-full full = let nothing : volume - i ≡ 0 = omega arith in finished (rw nothing)
+  picking-full full = let nothing : volume - i ≡ 0 = omega arith in picking-done (rw nothing)
 
   pub picking-empty : k ≤ 0 → PickedFrom volume start list₀ list i × Holds places 4294967296 (drop-rows (picks volume (start .entries)) start) rows counts k spill
-  picking-empty none = finished (no-picks (volume - i) (l .sum .entries) (omega (arith, l .holds .tracked-is)))
+  picking-empty none = picking-done (picks-none (volume - i) (l .sum .entries) (omega (arith, l .holds .tracked-is)))

@@ -1,9 +1,9 @@
 -- Two lent tables, rows and counts, that hold a summary.
-use Prim.Native.Nat.{ℕ, zero, suc, _+_, _-_}
+use Prim.Native.Nat.{ℕ, zero, suc, _-_}
 use mathlib.Core.Path.{_≡_}
 use mathlib.Core.List.{List, [], _∷_, _++_}
 use lib.ListN.{length, drop, replicate}
-use Rattle.summary.specs.Entries.{Entry, rows-of, counts-of, entered, picks}
+use Rattle.summary.specs.Entries.{Entry, rows-of, counts-of, picks}
 use Rattle.summary.specs.Steps.{Summary, drop-rows}
 use Rattle.summary.specs.Rules.{Sound}
 use Rattle.summary.specs.declared.Tally.{Tally}
@@ -60,10 +60,6 @@ places rows = length (now (rows .entry))
 abbrev pub Turns : Both Slice Slice → Both Slice Slice → Tally → (Summary → Summary) → Tally → Type 0
 Turns rows counts t step t′ =
     Left (now (rows .entry)) (step (summary (rows .entry) (counts .entry) t)) (now (rows .exit)) (now (counts .exit)) (t′ .tracked) (t′ .spillover)
-
--- a row entered with one more than the spillover
-unfoldable pub entered-in : ℕ → Summary → Summary
-entered-in row sum = record { entries = entered row (sum .spillover + 1) (sum .entries); spillover = sum .spillover }
 
 -- the picked rows at the front of a list, whose other places keep what they had, and their number
 pub record PickedFrom (volume : ℕ) (sum : Summary) (list₀ list : List ℕ) (count : ℕ) : Type 0 where

@@ -4,11 +4,10 @@ use Prim.Native.Nat.{ℕ, zero, suc, _+_, _-_, _*_, _≤_, _<_}
 use native.Mathlib.Omega.{arith}
 use lib.Dec.{eqb, ltb}
 use lib.ListN.{length, getD}
-use Rattle.summary.specs.Tables.{entered-in}
 use Rattle.summary.proofs.DisturbCases.{by-cases}
 use Rattle.laws.proofs.Cases.{split}
 use Rattle.summary.specs.Entries.{Entry, counts-of, has, count-or, without, without-all, raised, entered, has-count, without-count}
-use Rattle.summary.specs.Steps.{Summary, estimate, disturb, disturb-each, drop-rows}
+use Rattle.summary.specs.Steps.{Summary, estimate, disturb, disturb-each, drop-rows, enter}
 use Rattle.summary.specs.Rules.{Ceiling, bare, under, Room}
 use Rattle.summary.proofs.Level.{Level, excess}
 
@@ -86,7 +85,6 @@ unfolding drop-rows
 room-drop rows r = record { counts = ceiling-without-all rows (r .counts); spilt = r .spilt }
 
 pub room-disturb : {most : ℕ} (counters row : ℕ) (s : Summary) → Room most s → Room (most + 1) (disturb counters row s)
-unfolding entered-in
 room-disturb {most} counters row s r =
     by-cases (λ made. Room (most + 1) made) counters row s
     (λ tracked. record { counts = ceiling-raised row (r .counts); spilt = more })

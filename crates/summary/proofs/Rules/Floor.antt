@@ -6,7 +6,7 @@ use Prim.Native.Nat.{ℕ, suc, _+_, _≤_, _<_}
 use native.Mathlib.Omega.{arith}
 use borrow.Author.Tests.{eqb-false}
 use lib.Dec.{eqb, ltb}
-use Rattle.laws.proofs.Cases.{split}
+use Rattle.laws.proofs.Cases.{split, zero-one}
 use Rattle.summary.specs.Rules.{Floor, floor-none, floor-more}
 use Rattle.summary.specs.Entries.{Entry, has, without, without-all, raised, entered, has-count, without-count}
 
@@ -19,7 +19,7 @@ floor-lower h (floor-more x f l) = floor-more x (floor-lower h f) (omega arith)
 
 -- of a test and a later one, neither holds
 pub neither : (a b : Bool) → (a || b) ≡ false → (a ≡ false) × (b ≡ false)
-neither true b e = absurd (let z : _≡_ {A = ℕ} 0 1 = cc in omega arith)
+neither true b e = zero-one (cc)
 neither false b e = (refl, e)
 
 module _ {low : ℕ} where

@@ -9,10 +9,9 @@ use borrow.Author.Tests.{ltb-true}
 use lib.Dec.{eqb, ltb}
 use lib.ListN.{length}
 use Rattle.summary.proofs.DisturbCases.{by-cases}
-use Rattle.laws.proofs.Cases.{split}
+use Rattle.laws.proofs.Cases.{split, zero-one}
 use Rattle.summary.specs.Entries.{Entry, has, without, without-all, raised, entered, has-count, without-count}
-use Rattle.summary.specs.Steps.{Summary, empty, disturb, disturb-each, drop-rows}
-use Rattle.summary.specs.Tables.{entered-in}
+use Rattle.summary.specs.Steps.{Summary, empty, disturb, disturb-each, drop-rows, enter, raise, make-room, spill}
 use Rattle.summary.specs.Rules.{Floor, floor-none, Ordered, ordered-none, Below, below-none, below-more, Sound}
 use Rattle.summary.proofs.Rules.Floor.{floor-lower, floor-without-all, floor-raised, floor-entered, floor-without-count, floor-rises}
 use Rattle.summary.proofs.Rules.Order.{ordered-without-all, ordered-raised, ordered-entered, ordered-without-count, untracked-without-count}
@@ -27,11 +26,11 @@ unfolding entered
 length-entered row count [] = refl
 length-entered row count (x ∷ xs) = split (ltb row (x .row)) (λ e. rw e) (λ e. rw e (ap suc (length-entered row count xs)))
 
-pub length-exchanged : (count : ℕ) (es : List Entry) → has-count count es ≡ true → suc (length (without-count count es)) ≡ length es
+pub length-without-count : (count : ℕ) (es : List Entry) → has-count count es ≡ true → suc (length (without-count count es)) ≡ length es
 unfolding has-count without-count
-length-exchanged count [] e = absurd (let z : _≡_ {A = ℕ} 0 1 = cc in omega arith)
-length-exchanged count (x ∷ xs) e =
-    split (eqb (x .count) count) (λ on. rw on) (λ off. rw off (ap suc (length-exchanged count xs (rw off at e))))
+length-without-count count [] e = zero-one (cc)
+length-without-count count (x ∷ xs) e =
+    split (eqb (x .count) count) (λ on. rw on) (λ off. rw off (ap suc (length-without-count count xs (rw off at e))))
 
 length-without : (row : ℕ) (es : List Entry) → length (without row es) ≤ length es
 unfolding without
@@ -59,9 +58,8 @@ module _ {high counters : ℕ} where
       }
 
   -- a row that is not tracked is entered; a place is free
-  pub sound-entered : (row : ℕ) (s : Summary) → row < high → has row (s .entries) ≡ false → length (s .entries) < counters → Sound high counters s → Sound high counters (entered-in row s)
-  unfolding entered-in
-  sound-entered row s h untracked free k =
+  pub sound-enter : (row : ℕ) (s : Summary) → row < high → has row (s .entries) ≡ false → length (s .entries) < counters → Sound high counters s → Sound high counters (enter row s)
+  sound-enter row s h untracked free k =
       record {
         floor = floor-entered row (s .spillover + 1) (k .floor) (omega arith);
         positive = floor-entered row (s .spillover + 1) (k .positive) (omega arith);
@@ -70,17 +68,17 @@ module _ {high counters : ℕ} where
       }
 
   -- the first row of a count is dropped
-  pub sound-exchanged : (count : ℕ) (s : Summary) → has-count count (s .entries) ≡ true → Sound high counters s → Sound high counters (record { entries = without-count count (s .entries); spillover = s .spillover })
-  sound-exchanged count s low k =
+  pub sound-without-count : (count : ℕ) (s : Summary) → has-count count (s .entries) ≡ true → Sound high counters s → Sound high counters (record { entries = without-count count (s .entries); spillover = s .spillover })
+  sound-without-count count s low k =
       record {
         floor = floor-without-count count (k .floor);
         positive = floor-without-count count (k .positive);
         ordered = ordered-without-count count (k .ordered);
-        fits = omega (arith, length-exchanged count (s .entries) low, k .fits);
+        fits = omega (arith, length-without-count count (s .entries) low, k .fits);
       }
 
-  pub sound-raised : (row : ℕ) (s : Summary) → Sound high counters s → Sound high counters (record { entries = raised row (s .entries); spillover = s .spillover })
-  sound-raised row s k =
+  pub sound-raise : (row : ℕ) (s : Summary) → Sound high counters s → Sound high counters (raise row s)
+  sound-raise row s k =
       record {
         floor = floor-raised row (k .floor);
         positive = floor-raised row (k .positive);
@@ -89,21 +87,20 @@ module _ {high counters : ℕ} where
       }
 
   -- no row is at the spillover, which rises
-  pub sound-spilt : (s : Summary) → has-count (s .spillover) (s .entries) ≡ false → Sound high counters s → Sound high counters (record { entries = s .entries; spillover = s .spillover + 1 })
-  sound-spilt s up k =
+  pub sound-spill : (s : Summary) → has-count (s .spillover) (s .entries) ≡ false → Sound high counters s → Sound high counters (spill s)
+  sound-spill s up k =
       record { floor = floor-lower (omega arith) (floor-rises (k .floor) up); positive = k .positive; ordered = k .ordered; fits = k .fits }
 
   pub sound-disturb : (row : ℕ) (s : Summary) → row < high → Sound high counters s → Sound high counters (disturb counters row s)
   sound-disturb row s h k =
-      let fewer : Summary = record { entries = without-count (s .spillover) (s .entries); spillover = s .spillover } in
       by-cases (λ made. Sound high counters made) counters row s
-      (λ tracked. sound-raised row s k)
-      (λ untracked free. sound-entered row s h untracked free k)
+      (λ tracked. sound-raise row s k)
+      (λ untracked free. sound-enter row s h untracked free k)
       (λ untracked full low.
-      sound-entered row fewer h (untracked-without-count row (s .spillover) (s .entries) untracked)
-      (omega (arith, length-exchanged (s .spillover) (s .entries) low, k .fits))
-      (sound-exchanged (s .spillover) s low k))
-      (λ untracked full high. sound-spilt s high k)
+      sound-enter row (make-room s) h (untracked-without-count row (s .spillover) (s .entries) untracked)
+      (omega (arith, length-without-count (s .spillover) (s .entries) low, k .fits))
+      (sound-without-count (s .spillover) s low k))
+      (λ untracked full high. sound-spill s high k)
 
   pub sound-each : {rows : List ℕ} → Below high rows → {s : Summary} → Sound high counters s → Sound high counters (disturb-each counters rows s)
   unfolding disturb-each

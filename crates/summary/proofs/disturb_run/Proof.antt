@@ -20,8 +20,8 @@ abbrev μ-loop : tie.MeasureT-loop
 loop-holds : tie.Need-loop-holds Inv-loop μ-loop
 loop-holds c = let a = c .before .before in record { sum = read (a .args .rows .now) (a .args .counts .now) (a .args .t .tracked) (a .args .t .spillover); holds = a .pre .0; same = refl; room = room-more (a .pre .1 .1) (omega arith); behind = omega arith }
 
-disturb-requires : tie.Need-disturb-requires Inv-loop μ-loop
-disturb-requires c κs = disturbing-ready (c .before .before .before .loop .inv) (c .before .before .loop-test .taken) (c .before .before .before .before .before .before .pre .1 .0)
+disturb-row-requires : tie.Need-disturb-row-requires Inv-loop μ-loop
+disturb-row-requires c κs = disturbing-ready (c .before .before .before .loop .inv) (c .before .before .loop-test .taken) (c .before .before .before .before .before .before .pre .1 .0)
 
 add-row : tie.Need-add-row Inv-loop μ-loop
 add-row c = omega (arith, c .before .before .before .before .before .before .before .loop-test .taken, c .before .before .before .before .before .before .before .before .before .before .before .fits .high)
@@ -30,7 +30,7 @@ loop-less : tie.Need-loop-less Inv-loop μ-loop
 loop-less c = omega (arith, c .before .before .before .before .before .before .before .loop-test .taken)
 
 loop-again : tie.Need-loop-again Inv-loop μ-loop
-loop-again c = disturbing-again (c .before .before .before .before .before .before .before .before .loop .inv) (c .before .before .before .before .before .before .before .loop-test .taken) (c .before .before .before .before .disturb .ensures)
+loop-again c = disturbing-again (c .before .before .before .before .before .before .before .before .loop .inv) (c .before .before .before .before .before .before .before .loop-test .taken) (c .before .before .before .before .disturb-row .ensures)
 
 same-length : tie.Need-same-length Inv-loop μ-loop
 same-length c = long-rows (c .before .loop .inv .holds)
@@ -48,7 +48,7 @@ disturb-run-spec =
     Inv-loop
     μ-loop
     loop-holds
-    disturb-requires
+    disturb-row-requires
     add-row
     loop-less
     loop-again

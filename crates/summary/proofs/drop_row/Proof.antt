@@ -4,7 +4,7 @@ use Prim.Native.Nat.{_≤_, _<_}
 use native.Mathlib.Omega.{arith}
 use borrow.Author.Needs.{needs}
 use Rattle.summary.proofs.Stored.{tracked-few, long-counts, used-rising}
-use Rattle.summary.proofs.Moves.{dropped, kept}
+use Rattle.summary.proofs.Moves.{holds-drop, holds-drop-untracked}
 use Rattle.summary.proofs.drop_row.Statement.{statement}
 use Rattle.summary.proofs.drop_row.Tie as tie
 
@@ -20,12 +20,12 @@ returns : tie.Need-returns
 returns c =
     let a = c .before .before .before .before .before .before .before .before .before .before .before .before .before in
     let e = c .before .before .before .before .remove-entry .ensures in
-    rw (e .0, e .1, e .2, e .3) (dropped (a .pre) (a .args .row) (c .before .before .before .before .before .before .before .before .before .lookup .result) (c .before .before .before .before .before .before .before .before .before .lookup .ensures) (c .before .before .before .before .before .before .before .if1 .taken))
+    rw (e .0, e .1, e .2, e .3) (holds-drop (a .pre) (a .args .row) (c .before .before .before .before .before .before .before .before .before .lookup .result) (c .before .before .before .before .before .before .before .before .before .lookup .ensures) (c .before .before .before .before .before .before .before .if1 .taken))
 
 returns-2 : tie.Need-returns-2
 returns-2 c =
     let a = c .before .before .before .before .before .before in
-    kept (a .pre) (a .args .row) (c .before .before .lookup .result) (c .before .before .lookup .ensures) (c .if1 .left)
+    holds-drop-untracked (a .pre) (a .args .row) (c .before .before .lookup .result) (c .before .before .lookup .ensures) (c .if1 .left)
 
 pub drop-row-spec : {M : Type 1} → statement M
 drop-row-spec =

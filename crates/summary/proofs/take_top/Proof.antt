@@ -4,7 +4,7 @@ use Prim.Native.Nat.{_≤_, _<_}
 use native.Mathlib.Omega.{arith}
 use borrow.Author.Needs.{needs}
 use Rattle.summary.proofs.Stored.{tracked-few, long-counts}
-use Rattle.summary.proofs.Moves.{dropped}
+use Rattle.summary.proofs.Moves.{holds-drop}
 use Rattle.summary.proofs.Walks.{top-inside, top-named, top-place}
 use Rattle.summary.proofs.take_top.Statement.{statement}
 use Rattle.summary.proofs.take_top.Tie as tie
@@ -38,7 +38,7 @@ returns c =
     let f = c .before .before .before .before .before .before .before .before .first-highest in
     let e = c .before .before .before .before .remove-entry .ensures in (
       top-named h (a .pre .1) (f .result) (f .ensures),
-      rw (e .0, e .1, e .2, e .3) (dropped h _ (f .result) (top-place h (a .pre .1) (f .result) (f .ensures)) (top-inside h (a .pre .1) (f .result) (f .ensures))),
+      rw (e .0, e .1, e .2, e .3) (holds-drop h _ (f .result) (top-place h (a .pre .1) (f .result) (f .ensures)) (top-inside h (a .pre .1) (f .result) (f .ensures))),
     )
 
 pub take-top-spec : {M : Type 1} → statement M

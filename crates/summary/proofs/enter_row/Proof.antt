@@ -1,12 +1,12 @@
--- `summary::enter` meets its contract: the row goes where it belongs, its count beside it.
+-- `summary::enter_row` meets its contract: the row goes where it belongs, its count beside it.
 use mathlib.Core.Path.{_≡_}
 use Prim.Native.Nat.{_≤_, _<_}
 use native.Mathlib.Omega.{arith}
 use borrow.Author.Needs.{needs}
 use Rattle.summary.proofs.Stored.{tracked-few, long-counts, used-rising}
-use Rattle.summary.proofs.Moves.{place-few, put}
-use Rattle.summary.proofs.enter.Statement.{statement}
-use Rattle.summary.proofs.enter.Tie as tie
+use Rattle.summary.proofs.Moves.{place-few, holds-enter}
+use Rattle.summary.proofs.enter_row.Statement.{statement}
+use Rattle.summary.proofs.enter_row.Tie as tie
 
 lower-bound-requires : tie.Need-lower-bound-requires
 lower-bound-requires c κs = (tracked-few (c .before .before .before .pre .0), used-rising (c .before .before .before .pre .0))
@@ -25,10 +25,10 @@ returns : tie.Need-returns
 returns c =
     let a = c .before .before .before .before .before .before .before .before .before .before .before .before .before in
     rw (c .before .before .insert-at2 .ensures, c .before .before .before .before .before .before .before .insert-at .ensures)
-    (put (a .pre .0) (a .args .row) (c .before .before .before .before .before .before .before .before .before .lower-bound .result) (c .before .before .before .before .before .before .before .before .before .lower-bound .ensures) (a .pre .1 .1) (a .pre .1 .0 .0) (a .fits .row .fits))
+    (holds-enter (a .pre .0) (a .args .row) (c .before .before .before .before .before .before .before .before .before .lower-bound .result) (c .before .before .before .before .before .before .before .before .before .lower-bound .ensures) (a .pre .1 .1) (a .pre .1 .0 .0) (a .fits .row .fits))
 
-pub enter-spec : {M : Type 1} → statement M
-enter-spec =
+pub enter-row-spec : {M : Type 1} → statement M
+enter-row-spec =
     tie.close
     (tie.spec
     lower-bound-requires

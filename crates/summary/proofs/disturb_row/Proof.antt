@@ -1,4 +1,4 @@
--- `summary::disturb` meets its contract, by its four cases.
+-- `summary::disturb_row` meets its contract, by its four cases.
 use mathlib.Core.Path.{_≡_}
 use Prim.Native.Nat.{ℕ, _+_, _≤_, _<_}
 use native.Mathlib.Omega.{arith}
@@ -7,9 +7,9 @@ use lib.ListN.{length, getD}
 use Rattle.summary.specs.Tables.{read}
 use Rattle.summary.proofs.Rules.Ceiling.{count-most}
 use Rattle.summary.proofs.Stored.{tracked-few, long-counts, used-rising, count-at-place}
-use Rattle.summary.proofs.Moves.{has-found, has-missed, risen, disturb-tracked, disturb-free}
-use Rattle.summary.proofs.disturb.Statement.{statement}
-use Rattle.summary.proofs.disturb.Tie as tie
+use Rattle.summary.proofs.Moves.{has-found, has-missed, holds-raise, disturb-raise, disturb-enter}
+use Rattle.summary.proofs.disturb_row.Statement.{statement}
+use Rattle.summary.proofs.disturb_row.Tie as tie
 
 lookup-requires : tie.Need-lookup-requires
 lookup-requires c κs = (tracked-few (c .before .before .before .pre .0), used-rising (c .before .before .before .pre .0))
@@ -32,12 +32,12 @@ returns c =
     let a = c .before .before .before .before .before .before in
     let h = a .pre .0 in
     let p = c .before .before .lookup in
-    rw (disturb-tracked (length (a .args .rows .now)) (a .args .row) (read (a .args .rows .now) (a .args .counts .now) (a .args .t .tracked) (a .args .t .spillover)) (has-found h (a .args .row) (p .result) (p .ensures) (c .before .if1 .taken)))
-    (risen h (a .args .row) (p .result) (p .ensures) (c .before .if1 .taken))
+    rw (disturb-raise (length (a .args .rows .now)) (a .args .row) (read (a .args .rows .now) (a .args .counts .now) (a .args .t .tracked) (a .args .t .spillover)) (has-found h (a .args .row) (p .result) (p .ensures) (c .before .if1 .taken)))
+    (holds-raise h (a .args .row) (p .result) (p .ensures) (c .before .if1 .taken))
 
-enter-requires : tie.Need-enter-requires
+enter-row-requires : tie.Need-enter-row-requires
 unfolding read
-enter-requires c κs =
+enter-row-requires c κs =
     let a = c .before .before .before .before .before .before .before .before in
     let p = c .before .before .before .before .lookup in
     (a .pre .0, ((c .before .before .if2 .taken, a .pre .1 .spilt), has-missed (a .pre .0) (a .args .row) (p .result) (p .ensures) (c .before .before .before .if1 .left)))
@@ -59,11 +59,11 @@ returns-2 c =
     let a = c .before .before .before .before .before .before .before .before .before .before .before .before .before in
     let h = a .pre .0 in
     let p = c .before .before .before .before .before .before .before .before .before .lookup in
-    rw (disturb-free (length (a .args .rows .now)) (a .args .row) (read (a .args .rows .now) (a .args .counts .now) (a .args .t .tracked) (a .args .t .spillover)) (has-missed h (a .args .row) (p .result) (p .ensures) (c .before .before .before .before .before .before .before .before .if1 .left)) (omega (arith, h .tracked-is, c .before .before .before .before .before .before .before .if2 .taken)))
-    (c .before .before .before .before .enter .ensures)
+    rw (disturb-enter (length (a .args .rows .now)) (a .args .row) (read (a .args .rows .now) (a .args .counts .now) (a .args .t .tracked) (a .args .t .spillover)) (has-missed h (a .args .row) (p .result) (p .ensures) (c .before .before .before .before .before .before .before .before .if1 .left)) (omega (arith, h .tracked-is, c .before .before .before .before .before .before .before .if2 .taken)))
+    (c .before .before .before .before .enter-row .ensures)
 
-pub disturb-spec : {M : Type 1} → statement M
-disturb-spec =
+pub disturb-row-spec : {M : Type 1} → statement M
+disturb-row-spec =
     tie.close
     (tie.spec
     lookup-requires
@@ -75,7 +75,7 @@ disturb-spec =
     (λ c. search needs)
     (λ c. search needs)
     returns
-    enter-requires
+    enter-row-requires
     disturb-full-requires
     (λ c. search needs)
     (λ c. search needs)
