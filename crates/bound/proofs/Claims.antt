@@ -1,11 +1,11 @@
 -- The claims of specs/Claims.antt, each under its own name.
 use Prim.Native.Nat.{_-_}
 use native.Mathlib.Omega.{arith}
-use Rattle.device.proofs.Accepted.{accepted-skipping, accepted-but-counters}
+use Rattle.device.proofs.Acceptance.{accepted-skipping, accepted-but-counters}
 use Rattle.bound.specs.Least.{with-counters, meets, least-of}
-use Rattle.bound.specs.Claims.{Bound-grows-with-window, Bound-falls-with-counters, Least-is-least, Twelve, Twelve-is-none, Bound-is-small}
-use Rattle.bound.proofs.Growth.{bound-grows, bound-counters, bound-small}
-use Rattle.bound.proofs.Smallest.{first-found, none-found, found-none}
+use Rattle.bound.specs.Claims.{Bound-grows-with-window, Bound-falls-with-counters, Least-is-least, Twelve-is-none, Bound-is-small}
+use Rattle.bound.proofs.Totals.Bound.{bound-grows, bound-counters, bound-small}
+use Rattle.bound.proofs.Least.{first-found, none-found, found-none}
 
 pub bound-grows-with-window : Bound-grows-with-window
 unfolding Bound-grows-with-window

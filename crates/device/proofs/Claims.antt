@@ -1,8 +1,7 @@
 -- The claims of specs/Claims.antt, each under its own name.
-use Rattle.device.specs.Victims.{victims}
-use Rattle.device.specs.Claims.{Neighbours, Victims-are-neighbours, Permutation, Remap-is-permutation}
-use Rattle.device.proofs.Neighbours.{victim-near, near-victim, victims-ascend, ascends-at}
-use Rattle.device.proofs.Permutation.{physical-below, physical-distinct}
+use Rattle.device.specs.Claims.{Victims-are-neighbours, Remap-is-permutation}
+use Rattle.device.proofs.Victims.{victim-near, near-victim, victims-ascend, ascends-at}
+use Rattle.device.proofs.Remap.{physical-below, physical-distinct}
 
 pub victims-are-neighbours : Victims-are-neighbours
 unfolding Victims-are-neighbours

@@ -1,6 +1,6 @@
 -- The claims of specs/Claims.antt, each under its own name.
 use Rattle.summary.specs.Steps.{estimate, picked}
-use Rattle.summary.specs.Claims.{Beats, Highest, Picks-are-highest}
+use Rattle.summary.specs.Claims.{Beats, Picks-are-highest}
 use Rattle.summary.proofs.Entries.Highest.{picks-are-tracked, picks-above-others, picks-in-order, length-picks}
 
 pub picks-are-highest : Picks-are-highest

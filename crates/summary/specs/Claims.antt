@@ -1,5 +1,5 @@
 -- What is claimed of the summary, besides the functions' contracts. proofs/Claims.antt proves each under the same name.
-use Prim.Native.Nat.{ℕ, _≤_, _<_, min}
+use Prim.Native.Nat.{ℕ, _<_, min}
 use mathlib.Core.Path.{_≡_}
 use mathlib.Core.Bool.{true, false}
 use mathlib.Core.Logic.{_⊎_}

@@ -6,11 +6,11 @@ ghost use mathlib.Core.List.{_∷_, []};
 ghost use Prim.Native.Nat.{_-_, _≤_, _<_};
 ghost use lib.ListN.{length, take};
 ghost use Rattle.device.specs.Victims.{rows-between};
-ghost use Rattle.tables.specs.Places.{Rising, equal-place, taken-at};
+ghost use Rattle.tables.specs.Contracts.{Rising, equal-place, taken-at};
 ghost use Rattle.summary.specs.Entries.{has, picks};
 ghost use Rattle.summary.specs.Steps.{disturb, disturb-each, drop-rows, enter, in-rows};
 ghost use Rattle.summary.specs.Rules.{Room};
-ghost use Rattle.summary.specs.Tables.{summary, places, Tracks, Turns, Names, picked-out};
+ghost use Rattle.summary.specs.Contracts.{summary, places, Tracks, Turns, Names, picked-out};
 
 // The number of tracked rows and the spillover, which go with the tables.
 pub struct Tally {

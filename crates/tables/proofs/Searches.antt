@@ -1,5 +1,5 @@
--- The searches: what one place more says of the place that is looked for.
-use mathlib.Core.Path.{_≡_, refl}
+-- The searches: what one place more says of the place that is looked for, and where a number of ascending ones stands.
+use mathlib.Core.Path.{_≡_, refl, ap, sym}
 use mathlib.Core.Bool.{cond}
 use mathlib.Core.List.{List, [], _∷_}
 use Prim.Native.Nat.{ℕ, zero, suc, _+_, _≤_, _<_}
@@ -9,8 +9,9 @@ use borrow.Author.Tests.{ltb-true, ltb-false, eq-eqb, ne-eqb}
 use lib.Dec.{ltb}
 use lib.ListN.{length, getD, drop}
 use lib.Seq.{drop-cons}
+use lib.Arith.{lt-of-le-ne}
 use Rattle.laws.proofs.Cases.{split}
-use Rattle.tables.specs.Places.{lower-place, equal-place, highest-from, highest-place}
+use Rattle.tables.specs.Contracts.{lower-place, equal-place, highest-from, highest-place, Rising}
 
 pub equal-here : (x : ℕ) (xs : List ℕ) (i : ℕ) → i < length xs → getD xs i 0 ≡ x → equal-place x (drop i xs) ≡ 0
 unfolding equal-place
@@ -50,3 +51,39 @@ pub highest-on : (xs : List ℕ) (place best i : ℕ) → i < length xs →
     cond (ltb best (getD xs i 0)) (highest-from i (getD xs i 0) (i + 1) (drop (i + 1) xs)) (highest-from place best (i + 1) (drop (i + 1) xs))
 unfolding highest-from
 highest-on xs place best i h = rw (drop-cons xs i 0 h, add-one) refl
+
+-- among ascending numbers, a number stands where it belongs, or above-all-place
+rising-tail : {x : ℕ} {xs : List ℕ} → Rising (x ∷ xs) → Rising xs
+rising-tail r = record { rise = λ i j h l. r .rise (suc i) (suc j) (omega arith) (omega arith) }
+
+pub found-place : (row : ℕ) (xs : List ℕ) → lower-place row xs < length xs → getD xs (lower-place row xs) 0 ≡ row → equal-place row xs ≡ lower-place row xs
+unfolding lower-place equal-place
+found-place row [] h e = refl
+found-place row (x ∷ xs) h e =
+    split (ltb x row)
+    (λ on.
+    let less = ltb-true x row on in
+    rw (on, ne-eqb x row (λ q. omega arith)) (ap suc (found-place row xs (omega (arith, rw on at h)) (rw on at e))))
+    (λ off. rw (off, eq-eqb x row (rw off at e)))
+
+above-all-place : (row : ℕ) (xs : List ℕ) → ((i : ℕ) → i < length xs → row < getD xs i 0) → equal-place row xs ≡ length xs
+unfolding equal-place
+above-all-place row [] above = refl
+above-all-place row (x ∷ xs) above =
+    let first : row < x = above 0 (omega arith) in
+    rw (ne-eqb x row (λ q. omega arith)) (ap suc (above-all-place row xs (λ i h. above (suc i) (omega arith))))
+
+pub missing-place : (row : ℕ) (xs : List ℕ) → Rising xs → (lower-place row xs < length xs → getD xs (lower-place row xs) 0 ≡ row → ⊥) → equal-place row xs ≡ length xs
+unfolding lower-place equal-place
+missing-place row [] r no-match = refl
+missing-place row (x ∷ xs) r no-match =
+    split (ltb x row)
+    (λ on.
+    let less = ltb-true x row on in
+    rw (ne-eqb x row (λ q. omega arith))
+    (ap suc (missing-place row xs (rising-tail r) (λ h e. (rw on at no-match) (omega arith) e))))
+    (λ off.
+    let more = ltb-false x row off in
+    let other : x ≡ row → ⊥ = (rw off at no-match) (omega arith) in
+    let above : row < x = lt-of-le-ne more (λ q. other (sym q)) in
+    rw (ne-eqb x row other) (ap suc (above-all-place row xs (λ i h. omega (arith, r .rise 0 (suc i) (omega arith) (omega arith))))))

@@ -6,7 +6,7 @@ use native.Mathlib.Numerals.{add-one}
 use native.Mathlib.Omega.{arith}
 use lib.ListN.{length, getD, take, drop, set, length-drop, length-set}
 use lib.Seq.{take-set-le, drop-set-lt, drop-set-add, set-split, take-suc, drop-cons, take-suc-set, getD-drop, getD-set-same}
-use Rattle.tables.specs.Places.{put-in, taken-at}
+use Rattle.tables.specs.Contracts.{put-in, taken-at}
 
 pub put-in-last : (t : List ℕ) (n x : ℕ) → n < length t → set t n x ≡ put-in t n n x
 unfolding put-in

@@ -3,10 +3,10 @@ use Prim.Native.Nat.{ℕ, _+_, _*_, _≤_}
 use native.Mathlib.Nat.{mul-le-mul}
 use native.Mathlib.Omega.{arith}
 use borrow.Author.Needs.{needs}
-use Rattle.device.proofs.Accepted.{accepted-but-counters}
+use Rattle.device.proofs.Acceptance.{accepted-but-counters}
 use Rattle.bound.specs.Totals.{bound-of, bound-at, disturbers}
 use Rattle.bound.specs.Least.{with-counters}
-use Rattle.bound.proofs.Growth.{diameter-most, bound-small}
+use Rattle.bound.proofs.Totals.Bound.{diameter-most, bound-small}
 use Rattle.bound.proofs.bound_with.Statement.{statement}
 use Rattle.bound.proofs.bound_with.Tie as tie
 

@@ -4,7 +4,7 @@ use mir.Syntax.{w64}
 use mir.ValLaws.{toZ-ofZ}
 use borrow.Author.Needs.{needs}
 use Rattle.bound.specs.Answers.{signed, settings-of}
-use Rattle.bound.proofs.Narrow.{least-answer-small}
+use Rattle.bound.proofs.Answers.{least-answer-small}
 use Rattle.bound.proofs.row_tracker_least_counters.Statement.{statement}
 use Rattle.bound.proofs.row_tracker_least_counters.Tie as tie
 

@@ -1,16 +1,16 @@
 -- `bound::search` meets its contract. The invariant: the search from c on finds what the whole search finds.
 use mathlib.Core.Path.{_≡_, refl, _∙_, sym}
 use mathlib.Core.Bool.{true, false}
-use Prim.Native.Nat.{ℕ, _+_, _-_, _*_, _≤_, _<_}
+use Prim.Native.Nat.{ℕ, _+_, _-_, _≤_, _<_}
 use native.Mathlib.Omega.{arith}
 use borrow.Author.Tests.{lt-ltb, le-ltb}
 use Rattle.device.specs.declared.Settings.{Settings}
 use Rattle.device.specs.Refusal.{refused}
-use Rattle.device.proofs.Accepted.{accepted-but-counters}
+use Rattle.device.proofs.Acceptance.{accepted-but-counters}
 use Rattle.bound.specs.Least.{meets, first-from, least-of}
 use Rattle.bound.specs.Answers.{outcome}
-use Rattle.bound.proofs.Growth.{bound-small}
-use Rattle.bound.proofs.Smallest.{found-here, not-here}
+use Rattle.bound.proofs.Totals.Bound.{bound-small}
+use Rattle.bound.proofs.Least.{found-here, not-here}
 use Rattle.bound.proofs.search.Statement.{statement}
 use Rattle.bound.proofs.search.Tie as tie
 

@@ -6,8 +6,8 @@ use native.Mathlib.Nat.{mul-le-mul}
 use native.Mathlib.Numerals.{sub-one}
 use native.Mathlib.Omega.{arith}
 use Rattle.bound.specs.Totals.{size, total}
-use Rattle.bound.proofs.Sizes.{size-positive, size-most, size-grows}
-use Rattle.bound.proofs.Growth.{total-step, step-small}
+use Rattle.bound.proofs.Totals.Size.{size-positive, size-most, size-grows}
+use Rattle.bound.proofs.Totals.Total.{total-step, step-small}
 use Rattle.bound.proofs.total.Statement.{statement}
 use Rattle.bound.proofs.total.Tie as tie
 

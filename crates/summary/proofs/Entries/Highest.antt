@@ -1,9 +1,9 @@
 -- The picks are the highest: each picked row is tracked and beats, by count and then by lower row, those picked later and those not picked.
 use mathlib.Core.Path.{_≡_, refl, _∙_, sym, ap, subst}
-use mathlib.Core.Bool.{Bool, true, false, _||_}
+use mathlib.Core.Bool.{true, false}
 use mathlib.Core.Logic.{_⊎_, inl, inr, ⊎-elim}
 use mathlib.Core.List.{List, [], _∷_, List·Memᴰ, List·Memᴰ·head, List·Memᴰ·tail, List·Memᴰ·not-nil, List·Memᴰ·cases-cons}
-use Prim.Native.Nat.{ℕ, zero, suc, _+_, _-_, _≤_, _<_, min}
+use Prim.Native.Nat.{ℕ, zero, suc, _≤_, _<_, min}
 use native.Mathlib.Nat.{eq-or-lt-of-le}
 use native.Mathlib.Omega.{arith}
 use borrow.Author.Tests.{eqb-true, eqb-false, eq-eqb, ne-eqb, ltb-true, ltb-false}
@@ -13,11 +13,11 @@ use Rattle.laws.proofs.Cases.{split, clash}
 use Rattle.summary.specs.Entries.{Entry, has, count-or, without, top, picks}
 use Rattle.summary.specs.Steps.{in-rows}
 use Rattle.summary.specs.Rules.{Ordered, ordered-none, ordered-more}
-use Rattle.summary.proofs.Rules.Floor.{neither}
-use Rattle.summary.proofs.Rules.Order.{ordered-from, ordered-without, ordered-member}
-use Rattle.summary.proofs.Share.{top-in, top-best}
-use Rattle.summary.proofs.Estimates.{count-without}
-use Rattle.summary.proofs.Distinct.{has-member, has-without, has-dropped}
+use Rattle.summary.proofs.Entries.Tracked.{tracked, has-kept, has-back, neither, has-member, has-dropped}
+use Rattle.summary.proofs.Entries.Lengths.{length-without-tracked}
+use Rattle.summary.proofs.Entries.Picks.{top-or, top-in, top-best}
+use Rattle.summary.proofs.Rules.Order.{ordered-parts, ordered-from, ordered-without, ordered-member}
+use Rattle.summary.proofs.Steps.Estimate.{count-without}
 
 -- an entry's row is tracked with the entry's count, and a tracked row has its entry
 count-member : (other : ℕ) (x : Entry) {high low : ℕ} {es : List Entry} → Ordered high low es → List·Memᴰ x es → count-or other (x .row) es ≡ x .count
@@ -31,58 +31,9 @@ count-member other x (ordered-more low y o l b) m =
     rw (ne-eqb (y .row) (x .row) (λ e. omega arith)) (count-member other x o later))
     (List·Memᴰ·cases-cons m)
 
-record Tracked (row : ℕ) (es : List Entry) : Type 0 where
-  entry : Entry
-  inside : List·Memᴰ entry es
-  is-row : entry .row ≡ row
-
-tracked : (row : ℕ) (es : List Entry) → has row es ≡ true → Tracked row es
-unfolding has
-tracked row [] e = clash (sym e)
-tracked row (x ∷ xs) e =
-    split (eqb (x .row) row)
-    (λ on. record { entry = x; inside = List·Memᴰ·head refl; is-row = eqb-true (x .row) row on })
-    (λ off.
-    let t = tracked row xs (rw off at e) in
-    record { entry = t .entry; inside = List·Memᴰ·tail (t .inside); is-row = t .is-row })
-
--- a tracked row is still tracked when another is dropped
-has-kept : (row v : ℕ) (es : List Entry) → (v ≡ row → ⊥) → has row es ≡ true → has row (without v es) ≡ true
-unfolding has without
-has-kept row v [] h e = e
-has-kept row v (x ∷ xs) h e =
-    split (eqb (x .row) v)
-    (λ this.
-    let off : eqb (x .row) row ≡ false = ne-eqb (x .row) row (λ q. h (sym (eqb-true (x .row) v this) ∙ q)) in
-    rw this (rw off at e))
-    (λ another.
-    rw another
-    (split (eqb (x .row) row) (λ on. rw on) (λ off. rw off (has-kept row v xs h (rw off at e)))))
-
-has-back : (row v : ℕ) (es : List Entry) → has row (without v es) ≡ true → has row es ≡ true
-has-back row v es e = split (has row es) (λ on. on) (λ off. clash (sym e ∙ has-without row v es off))
-
-length-without-tracked : (row : ℕ) (es : List Entry) → has row es ≡ true → suc (length (without row es)) ≡ length es
-unfolding has without
-length-without-tracked row [] e = clash (sym e)
-length-without-tracked row (x ∷ xs) e =
-    split (eqb (x .row) row) (λ on. rw on) (λ off. rw off (ap suc (length-without-tracked row xs (rw off at e))))
-
--- the top is the first entry, or one of a higher count
-top-or : (best : Entry) (xs : List Entry) → (top best xs ≡ best) ⊎ (best .count < top best xs .count)
-unfolding top
-top-or best [] = inl refl
-top-or best (x ∷ xs) =
-    split (ltb (best .count) (x .count))
-    (λ on. let less = ltb-true (best .count) (x .count) on in rw on (inr (omega (arith, top-best x xs))))
-    (λ off. rw off (top-or best xs))
-
 -- one entry beats another
 abbrev Above : Entry → Entry → Type 0
 Above x y = (y .count < x .count) ⊎ ((x .count ≡ y .count) × (x .row < y .row))
-
-ordered-parts : {high low : ℕ} {x : Entry} {xs : List Entry} → Ordered high low (x ∷ xs) → Ordered high (suc (x .row)) xs × (low ≤ x .row)
-ordered-parts (ordered-more low x o l b) = (o, l)
 
 -- the top beats every other entry
 top-above : {high : ℕ} (best : Entry) (xs : List Entry) → Ordered high (suc (best .row)) xs → (y : Entry) → List·Memᴰ y (best ∷ xs) → (y ≡ top best xs) ⊎ Above (top best xs) y
@@ -125,7 +76,7 @@ top-above {high} best (x ∷ xs) ordered y m =
         (top-or best xs)
 
 -- one row beats another
-abbrev pub Over : ℕ → List Entry → ℕ → ℕ → Type 0
+abbrev Over : ℕ → List Entry → ℕ → ℕ → Type 0
 Over spill es row other = (count-or spill other es < count-or spill row es) ⊎ ((count-or spill row es ≡ count-or spill other es) × (row < other))
 
 in-rows-at : (rows : List ℕ) (i : ℕ) → i < length rows → in-rows (getD rows i 0) rows ≡ true
@@ -165,7 +116,7 @@ module _ (spill : ℕ) {high : ℕ} where
   over-top x xs o row e other =
       let t = tracked row (x ∷ xs) e in
       subst (λ (r : ℕ). Over spill (x ∷ xs) (top x xs .row) r) (t .is-row)
-      (over-entry x xs o (t .entry) (t .inside) (λ q. other (q ∙ t .is-row)))
+      (over-entry x xs o (t .entry) (t .member) (λ q. other (q ∙ t .is-row)))
 
   -- a row that is left when another is dropped is another
   left-other : {low : ℕ} {es : List Entry} (v row : ℕ) → Ordered high low es → has row (without v es) ≡ true → v ≡ row → ⊥

@@ -1,46 +1,18 @@
--- The rules of a summary's own: counts at least the spillover and at least 1, rows ascending below the bank's end, no more than
--- there are places. Every step keeps them.
-use mathlib.Core.Path.{_≡_, refl, ap}
-use mathlib.Core.Bool.{Bool, true, false, _||_}
-use mathlib.Core.List.{List, [], _∷_}
-use Prim.Native.Nat.{ℕ, zero, suc, _+_, _≤_, _<_}
+-- A summary that breaks no rule breaks none after any step.
+use mathlib.Core.Path.{_≡_}
+use mathlib.Core.Bool.{true, false}
+use mathlib.Core.List.{List}
+use Prim.Native.Nat.{ℕ, _+_, _<_}
 use native.Mathlib.Omega.{arith}
-use borrow.Author.Tests.{ltb-true}
-use lib.Dec.{eqb, ltb}
 use lib.ListN.{length}
-use Rattle.summary.proofs.DisturbCases.{by-cases}
-use Rattle.laws.proofs.Cases.{split, zero-one}
-use Rattle.summary.specs.Entries.{Entry, has, without, without-all, raised, entered, has-count, without-count}
+use Rattle.summary.specs.Entries.{has, has-count, without-count}
 use Rattle.summary.specs.Steps.{Summary, empty, disturb, disturb-each, drop-rows, enter, raise, make-room, spill}
-use Rattle.summary.specs.Rules.{Floor, floor-none, Ordered, ordered-none, Below, below-none, below-more, Sound}
+use Rattle.summary.specs.Rules.{floor-none, ordered-none, Below, below-none, below-more, Sound}
+use Rattle.summary.proofs.Entries.Lengths.{length-raised, length-entered, length-without-count, length-without-all}
+use Rattle.summary.proofs.Steps.Disturb.{by-cases}
 use Rattle.summary.proofs.Rules.Floor.{floor-lower, floor-without-all, floor-raised, floor-entered, floor-without-count, floor-rises}
-use Rattle.summary.proofs.Rules.Order.{ordered-without-all, ordered-raised, ordered-entered, ordered-without-count, untracked-without-count}
-
-length-raised : (row : ℕ) (es : List Entry) → length (raised row es) ≡ length es
-unfolding raised
-length-raised row [] = refl
-length-raised row (x ∷ xs) = split (eqb (x .row) row) (λ e. rw e) (λ e. rw e (ap suc (length-raised row xs)))
-
-length-entered : (row count : ℕ) (es : List Entry) → length (entered row count es) ≡ suc (length es)
-unfolding entered
-length-entered row count [] = refl
-length-entered row count (x ∷ xs) = split (ltb row (x .row)) (λ e. rw e) (λ e. rw e (ap suc (length-entered row count xs)))
-
-pub length-without-count : (count : ℕ) (es : List Entry) → has-count count es ≡ true → suc (length (without-count count es)) ≡ length es
-unfolding has-count without-count
-length-without-count count [] e = zero-one (cc)
-length-without-count count (x ∷ xs) e =
-    split (eqb (x .count) count) (λ on. rw on) (λ off. rw off (ap suc (length-without-count count xs (rw off at e))))
-
-length-without : (row : ℕ) (es : List Entry) → length (without row es) ≤ length es
-unfolding without
-length-without row [] = omega arith
-length-without row (x ∷ xs) = split (eqb (x .row) row) (λ e. rw e (omega arith)) (λ e. rw e (omega (arith, length-without row xs)))
-
-length-without-all : (rows : List ℕ) (es : List Entry) → length (without-all rows es) ≤ length es
-unfolding without-all
-length-without-all [] es = omega arith
-length-without-all (row ∷ rows) es = omega (arith, length-without row es, length-without-all rows (without row es))
+use Rattle.summary.proofs.Rules.Order.{ordered-without-all, ordered-raised, ordered-entered, ordered-without-count}
+use Rattle.summary.proofs.Entries.Tracked.{untracked-without-count}
 
 pub sound-empty : {high counters : ℕ} → Sound high counters empty
 unfolding empty

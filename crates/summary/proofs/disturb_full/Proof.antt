@@ -1,18 +1,12 @@
 -- `summary::disturb_full` meets its contract: the exchange, or a higher spillover.
-use mathlib.Core.Path.{_≡_, sym, _∙_}
-use mathlib.Core.List.{List}
-use Prim.Native.Nat.{ℕ, _-_, _≤_, _<_}
 use native.Mathlib.Omega.{arith}
 use borrow.Author.Needs.{needs}
 use lib.ListN.{length}
-use Rattle.tables.specs.Places.{taken-at}
-use Rattle.summary.specs.Entries.{without-count}
-use Rattle.summary.specs.Steps.{Summary}
-use Rattle.summary.specs.Tables.{read, Holds}
-use Rattle.summary.proofs.Laid.{held-read}
-use Rattle.summary.proofs.Rules.Order.{untracked-without-count}
-use Rattle.summary.proofs.Stored.{tracked-few, long-rows, long-counts}
-use Rattle.summary.proofs.Moves.{count-missed, exchange-ready, exchange-done, holds-spill, disturb-spill}
+use Rattle.summary.specs.Tables.{read}
+use Rattle.summary.specs.Contracts.{Holds}
+use Rattle.summary.proofs.Contracts.Holds.{tracked-few, long-counts}
+use Rattle.summary.proofs.Contracts.Changes.{count-missed, exchange-ready, exchange-done, holds-spill}
+use Rattle.summary.proofs.Steps.Disturb.{disturb-spill}
 use Rattle.summary.proofs.disturb_full.Statement.{statement}
 use Rattle.summary.proofs.disturb_full.Tie as tie
 

@@ -1,13 +1,12 @@
 -- `summary::disturb_row` meets its contract, by its four cases.
-use mathlib.Core.Path.{_≡_}
-use Prim.Native.Nat.{ℕ, _+_, _≤_, _<_}
 use native.Mathlib.Omega.{arith}
 use borrow.Author.Needs.{needs}
-use lib.ListN.{length, getD}
+use lib.ListN.{length}
 use Rattle.summary.specs.Tables.{read}
 use Rattle.summary.proofs.Rules.Ceiling.{count-most}
-use Rattle.summary.proofs.Stored.{tracked-few, long-counts, used-rising, count-at-place}
-use Rattle.summary.proofs.Moves.{has-found, has-missed, holds-raise, disturb-raise, disturb-enter}
+use Rattle.summary.proofs.Contracts.Holds.{tracked-few, long-counts, used-rising, count-at-place}
+use Rattle.summary.proofs.Contracts.Changes.{has-found, has-missed, holds-raise}
+use Rattle.summary.proofs.Steps.Disturb.{disturb-raise, disturb-enter}
 use Rattle.summary.proofs.disturb_row.Statement.{statement}
 use Rattle.summary.proofs.disturb_row.Tie as tie
 

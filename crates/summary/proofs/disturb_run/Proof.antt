@@ -1,12 +1,12 @@
 -- `summary::disturb_run` meets its contract, by the loop's laws.
-use mathlib.Core.Path.{_≡_, refl, sym, _∙_}
+use mathlib.Core.Path.{refl, sym, _∙_}
 use Prim.Native.Nat.{_-_}
 use native.Mathlib.Omega.{arith}
 use lib.ListN.{length}
 use Rattle.summary.specs.Tables.{read}
-use Rattle.summary.proofs.Rules.Ceiling.{room-more}
-use Rattle.summary.proofs.Stored.{long-rows, long-counts}
-use Rattle.summary.proofs.Walks.{Disturbing, disturbing-ready, disturbing-again, disturbing-done}
+use Rattle.summary.proofs.Rules.Room.{room-more}
+use Rattle.summary.proofs.Contracts.Holds.{long-rows, long-counts}
+use Rattle.summary.proofs.Contracts.Runs.{Disturbing, disturbing-ready, disturbing-again, disturbing-done}
 use Rattle.summary.proofs.disturb_run.Statement.{statement}
 use Rattle.summary.proofs.disturb_run.Tie as tie
 

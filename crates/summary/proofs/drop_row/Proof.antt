@@ -1,10 +1,8 @@
 -- `summary::drop_row` meets its contract.
-use mathlib.Core.Path.{_≡_}
-use Prim.Native.Nat.{_≤_, _<_}
 use native.Mathlib.Omega.{arith}
 use borrow.Author.Needs.{needs}
-use Rattle.summary.proofs.Stored.{tracked-few, long-counts, used-rising}
-use Rattle.summary.proofs.Moves.{holds-drop, holds-drop-untracked}
+use Rattle.summary.proofs.Contracts.Holds.{tracked-few, long-counts, used-rising}
+use Rattle.summary.proofs.Contracts.Changes.{holds-drop, holds-drop-untracked}
 use Rattle.summary.proofs.drop_row.Statement.{statement}
 use Rattle.summary.proofs.drop_row.Tie as tie
 

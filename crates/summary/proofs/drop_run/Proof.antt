@@ -1,11 +1,11 @@
 -- `summary::drop_run` meets its contract, by the loop's laws.
-use mathlib.Core.Path.{_≡_, refl, sym, _∙_}
+use mathlib.Core.Path.{refl, sym, _∙_}
 use Prim.Native.Nat.{_-_}
 use native.Mathlib.Omega.{arith}
 use lib.ListN.{length}
 use Rattle.summary.specs.Tables.{read}
-use Rattle.summary.proofs.Stored.{long-rows, long-counts}
-use Rattle.summary.proofs.Walks.{Dropping, dropping-ready, dropping-again, dropping-done}
+use Rattle.summary.proofs.Contracts.Holds.{long-rows, long-counts}
+use Rattle.summary.proofs.Contracts.Runs.{Dropping, dropping-ready, dropping-again, dropping-done}
 use Rattle.summary.proofs.drop_run.Statement.{statement}
 use Rattle.summary.proofs.drop_run.Tie as tie
 

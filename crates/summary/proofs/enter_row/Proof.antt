@@ -1,10 +1,8 @@
 -- `summary::enter_row` meets its contract: the row goes where it belongs, its count beside it.
-use mathlib.Core.Path.{_≡_}
-use Prim.Native.Nat.{_≤_, _<_}
 use native.Mathlib.Omega.{arith}
 use borrow.Author.Needs.{needs}
-use Rattle.summary.proofs.Stored.{tracked-few, long-counts, used-rising}
-use Rattle.summary.proofs.Moves.{place-few, holds-enter}
+use Rattle.summary.proofs.Contracts.Holds.{tracked-few, long-counts, used-rising}
+use Rattle.summary.proofs.Contracts.Changes.{place-few, holds-enter}
 use Rattle.summary.proofs.enter_row.Statement.{statement}
 use Rattle.summary.proofs.enter_row.Tie as tie
 

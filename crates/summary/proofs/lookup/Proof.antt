@@ -8,8 +8,8 @@ use borrow.Author.Needs.{needs}
 use borrow.Author.Tests.{eqb-true, eqb-false}
 use lib.ListN.{length, getD, take}
 use lib.Seq.{getD-take, length-take-le}
-use Rattle.tables.specs.Places.{Rising, lower-place, equal-place}
-use Rattle.summary.proofs.Places.{found-place, missing-place}
+use Rattle.tables.specs.Contracts.{Rising, lower-place, equal-place}
+use Rattle.tables.proofs.Searches.{found-place, missing-place}
 use Rattle.summary.proofs.lookup.Statement.{statement}
 use Rattle.summary.proofs.lookup.Tie as tie
 

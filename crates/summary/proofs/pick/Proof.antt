@@ -1,15 +1,14 @@
 -- `summary::pick` meets its contract, by the loop's laws.
-use mathlib.Core.Path.{_≡_, refl, sym, _∙_}
+use mathlib.Core.Path.{refl, sym, _∙_}
 use mathlib.Core.List.{[]}
-use Prim.Native.Nat.{_-_, _≤_, _<_}
+use Prim.Native.Nat.{_-_}
 use native.Mathlib.Nat.{sub-zero}
 use native.Mathlib.Omega.{arith}
 use borrow.Author.Tests.{ltb-true, ltb-false}
-use lib.ListN.{length, length-set}
+use lib.ListN.{length}
 use Rattle.summary.specs.Tables.{read}
-use Rattle.summary.proofs.Stored.{long-rows, long-counts}
-use Rattle.summary.proofs.Moves.{held-again}
-use Rattle.summary.proofs.Walks.{Picking, picking-long, picking-again, picking-full, picking-empty}
+use Rattle.summary.proofs.Contracts.Holds.{long-rows, long-counts, held-again}
+use Rattle.summary.proofs.Contracts.Picking.{Picking, picking-long, picking-again, picking-full, picking-empty}
 use Rattle.summary.proofs.pick.Statement.{statement}
 use Rattle.summary.proofs.pick.Tie as tie
 

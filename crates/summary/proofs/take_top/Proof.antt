@@ -1,11 +1,9 @@
 -- `summary::take_top` meets its contract: the first place of the highest count is the picked entry's.
-use mathlib.Core.Path.{_≡_}
-use Prim.Native.Nat.{_≤_, _<_}
 use native.Mathlib.Omega.{arith}
 use borrow.Author.Needs.{needs}
-use Rattle.summary.proofs.Stored.{tracked-few, long-counts}
-use Rattle.summary.proofs.Moves.{holds-drop}
-use Rattle.summary.proofs.Walks.{top-inside, top-named, top-place}
+use Rattle.summary.proofs.Contracts.Holds.{tracked-few, long-counts}
+use Rattle.summary.proofs.Contracts.Changes.{holds-drop}
+use Rattle.summary.proofs.Contracts.Picking.{top-inside, top-named, top-place}
 use Rattle.summary.proofs.take_top.Statement.{statement}
 use Rattle.summary.proofs.take_top.Tie as tie
 

@@ -5,7 +5,7 @@ use Prim.Native.Nat.{ℕ, _+_, _-_, _≤_, _<_}
 use native.Mathlib.Omega.{arith}
 use lib.ListN.{length, getD, take, drop, drop-of-length-le}
 use lib.Seq.{getD-take, length-take-le}
-use Rattle.tables.specs.Places.{equal-place}
+use Rattle.tables.specs.Contracts.{equal-place}
 use Rattle.tables.proofs.Searches.{equal-here, equal-on}
 use Rattle.tables.proofs.first_equal.Statement.{statement}
 use Rattle.tables.proofs.first_equal.Tie as tie

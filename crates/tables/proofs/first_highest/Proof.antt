@@ -7,7 +7,7 @@ use native.Mathlib.Omega.{arith}
 use borrow.Author.Tests.{lt-ltb, le-ltb}
 use lib.ListN.{length, getD, take, drop, drop-of-length-le}
 use lib.Seq.{getD-take, length-take-le}
-use Rattle.tables.specs.Places.{highest-from, highest-place}
+use Rattle.tables.specs.Contracts.{highest-from, highest-place}
 use Rattle.tables.proofs.Searches.{highest-start, highest-on}
 use Rattle.tables.proofs.first_highest.Statement.{statement}
 use Rattle.tables.proofs.first_highest.Tie as tie

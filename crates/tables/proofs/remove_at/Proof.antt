@@ -4,7 +4,7 @@ use mathlib.Core.List.{List}
 use Prim.Native.Nat.{ℕ, _+_, _-_, _≤_, _<_}
 use native.Mathlib.Omega.{arith}
 use lib.ListN.{length, getD, set, length-set}
-use Rattle.tables.specs.Places.{taken-at}
+use Rattle.tables.specs.Contracts.{taken-at}
 use Rattle.tables.proofs.Shifts.{taken-last, taken-again}
 use Rattle.tables.proofs.remove_at.Statement.{statement}
 use Rattle.tables.proofs.remove_at.Tie as tie

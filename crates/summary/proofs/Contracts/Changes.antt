@@ -1,22 +1,23 @@
--- What each function does to two tables that hold a summary, on lists: the place that was found, the columns after it, the summary they hold.
+-- What each function does to two tables that hold a summary: the place that was found, and the summary that they hold then.
 use mathlib.Core.Path.{_≡_, refl, ap, sym, _∙_}
-use mathlib.Core.Bool.{Bool, true, false}
-use mathlib.Core.List.{List, [], _∷_, _++_}
-use Prim.Native.Nat.{ℕ, zero, suc, _+_, _-_, _≤_, _<_}
+use mathlib.Core.Bool.{true, false}
+use mathlib.Core.List.{List, [], _∷_}
+use Prim.Native.Nat.{ℕ, _+_, _-_, _≤_, _<_}
 use native.Mathlib.Omega.{arith}
 use borrow.Author.Tests.{lt-ltb, le-ltb}
-use lib.Dec.{ltb}
-use lib.ListN.{length, getD, take, drop, set}
-use Rattle.tables.specs.Places.{lower-place, equal-place, highest-place, put-in, taken-at}
-use Rattle.summary.specs.Entries.{Entry, rows-of, counts-of, has, without, without-all, raised, entered, has-count, without-count, top, picks}
+use lib.ListN.{length, getD, take, set}
+use Rattle.tables.specs.Contracts.{lower-place, equal-place, put-in, taken-at}
+use Rattle.tables.proofs.Searches.{lower-most}
+use Rattle.summary.specs.Entries.{rows-of, counts-of, has, without-all, has-count, without-count}
 use Rattle.summary.specs.Steps.{Summary, disturb, drop-rows, enter, raise, make-room, spill}
-use Rattle.summary.specs.Rules.{Sound}
-use Rattle.summary.specs.Tables.{read, Holds, Held}
-use Rattle.summary.proofs.Laid.{length-rows, held-read}
-use Rattle.summary.proofs.Rules.Order.{untracked-without-count}
-use Rattle.summary.proofs.Places.{has-place, rows-without, counts-without, without-untracked, rows-raised, counts-raised, has-count-place, rows-without-count, counts-without-count, rows-entered, counts-entered, lower-place-most, equal-place-at, highest-place-top}
+use Rattle.summary.specs.Tables.{read}
+use Rattle.summary.specs.Contracts.{Holds, Held}
+use Rattle.summary.proofs.Contracts.Holds.{held-again, held-read, long-rows, used-rows, used-counts, count-at-place, holds-taken, holds-put, holds-set}
+use Rattle.summary.proofs.Steps.Disturb.{disturb-exchange}
+use Rattle.summary.proofs.Entries.Lengths.{length-rows}
+use Rattle.summary.proofs.Entries.Tracked.{untracked-without-count, without-untracked}
+use Rattle.summary.proofs.Entries.Columns.{has-place, rows-without, counts-without, rows-raised, counts-raised, has-count-place, rows-without-count, counts-without-count, rows-entered, counts-entered}
 use Rattle.summary.proofs.Rules.Sound.{sound-drop, sound-enter, sound-without-count, sound-raise, sound-spill}
-use Rattle.summary.proofs.Stored.{tracked-few, long-rows, used-rows, used-counts, row-at-place, count-at-place, holds-taken, holds-put, holds-set}
 
 module _ {places high : ℕ} {sum : Summary} {rows counts : List ℕ} {k spillover : ℕ} (h : Holds places high sum rows counts k spillover) where
   -- whether a row, or a count, is there, by the place that was found
@@ -30,7 +31,7 @@ module _ {places high : ℕ} {sum : Summary} {rows counts : List ℕ} {k spillov
       has-place row (sum .entries) ∙
       le-ltb (equal-place row (rows-of (sum .entries))) (length (sum .entries)) (omega (arith, rw (used-rows h) at e, h .tracked-is))
 
-  pub count-found : (count q : ℕ) → q ≡ equal-place count (take k counts) → q < k → has-count count (sum .entries) ≡ true
+  count-found : (count q : ℕ) → q ≡ equal-place count (take k counts) → q < k → has-count count (sum .entries) ≡ true
   count-found count q e less =
       has-count-place count (sum .entries) ∙
       lt-ltb (equal-place count (counts-of (sum .entries))) (length (sum .entries)) (omega (arith, rw (used-counts h) at e, h .tracked-is))
@@ -42,7 +43,7 @@ module _ {places high : ℕ} {sum : Summary} {rows counts : List ℕ} {k spillov
 
   pub place-few : (row p : ℕ) → p ≡ lower-place row (take k rows) → p ≤ k
   place-few row p e =
-      omega (arith, rw (used-rows h) at e, lower-place-most row (rows-of (sum .entries)), length-rows (sum .entries), h .tracked-is)
+      omega (arith, rw (used-rows h) at e, lower-most row (rows-of (sum .entries)), length-rows (sum .entries), h .tracked-is)
 
   -- a tracked row is holds-drop
   pub holds-drop : (row p : ℕ) → p ≡ equal-place row (take k rows) → p < k → Holds places high (drop-rows (row ∷ []) sum) (taken-at rows k p) (taken-at counts k p) (k - 1) spillover
@@ -77,7 +78,7 @@ module _ {places high : ℕ} {sum : Summary} {rows counts : List ℕ} {k spillov
       (rw (count-at-place h p less, at) (counts-raised row (sum .entries)))
 
   -- the first row of a count makes room
-  pub holds-without-count : (count q : ℕ) → q ≡ equal-place count (take k counts) → q < k → Holds places high (record { entries = without-count count (sum .entries); spillover = sum .spillover }) (taken-at rows k q) (taken-at counts k q) (k - 1) spillover
+  holds-without-count : (count q : ℕ) → q ≡ equal-place count (take k counts) → q < k → Holds places high (record { entries = without-count count (sum .entries); spillover = sum .spillover }) (taken-at rows k q) (taken-at counts k q) (k - 1) spillover
   holds-without-count count q e less =
       let at = rw (used-counts h) at e in
       let low = count-found count q e less in
@@ -95,28 +96,6 @@ module _ {places high : ℕ} {sum : Summary} {rows counts : List ℕ} {k spillov
         spilt-is = omega (arith, h .spilt-is);
         sound = sound-spill sum up (h .sound);
       }
-
--- tables that hold a summary are as the functions want them
-pub held-again : {places : ℕ} {sum : Summary} {rows counts : List ℕ} {k spillover : ℕ} → Holds places 4294967296 sum rows counts k spillover → Held rows counts k spillover
-held-again h = rw (held-read h, long-rows h) h
-
--- the four cases of a disturbance
-module _ (counters row : ℕ) (sum : Summary) where
-  pub disturb-raise : has row (sum .entries) ≡ true → disturb counters row sum ≡ raise row sum
-  unfolding disturb
-  disturb-raise e = rw e
-
-  pub disturb-enter : has row (sum .entries) ≡ false → length (sum .entries) < counters → disturb counters row sum ≡ enter row sum
-  unfolding disturb
-  disturb-enter e free = rw (e, lt-ltb (length (sum .entries)) counters free)
-
-  pub disturb-exchange : has row (sum .entries) ≡ false → counters ≤ length (sum .entries) → has-count (sum .spillover) (sum .entries) ≡ true → disturb counters row sum ≡ enter row (make-room sum)
-  unfolding disturb
-  disturb-exchange e full low = rw (e, le-ltb (length (sum .entries)) counters full, low)
-
-  pub disturb-spill : has row (sum .entries) ≡ false → counters ≤ length (sum .entries) → has-count (sum .spillover) (sum .entries) ≡ false → disturb counters row sum ≡ spill sum
-  unfolding disturb
-  disturb-spill e full up = rw (e, le-ltb (length (sum .entries)) counters full, up)
 
 -- the exchange: what stands between taking out the first row at the spillover and entering the new one
 module _

@@ -1,19 +1,20 @@
 -- Picks take their share: from 'the E largest slots sum to at most M', after picks enough to go down to D slots, the D largest
 -- sum to at most M × D / E, rounded down.
 use mathlib.Core.Path.{_≡_, refl}
-use mathlib.Core.Bool.{Bool, true, false}
-use mathlib.Core.Logic.{_⊎_, inl, inr, ⊎-elim}
-use mathlib.Core.List.{List, [], _∷_, List·Memᴰ, List·Memᴰ·head, List·Memᴰ·tail, List·Memᴰ·not-nil, List·Memᴰ·cases-cons}
+use mathlib.Core.Bool.{false}
+use mathlib.Core.Logic.{⊎-elim}
+use mathlib.Core.List.{List, [], _∷_, List·Memᴰ, List·Memᴰ·not-nil, List·Memᴰ·cases-cons}
 use Prim.Native.Nat.{ℕ, zero, suc, _+_, _-_, _*_, _/_, _≤_, _<_, min}
-use native.Mathlib.Nat.{le-div-iff-mul-le, mul-le-mul-left, mul-le-mul-right, mul-le-mul, le-of-mul-le-mul-left, le-trans, le-of-eq, eq-or-lt-of-le, zero-lt-suc, mul-comm}
+use native.Mathlib.Nat.{le-div-iff-mul-le, mul-le-mul-left, mul-le-mul-right, le-of-mul-le-mul-left, le-trans, le-of-eq, eq-or-lt-of-le, zero-lt-suc}
 use native.Mathlib.Omega.{arith}
-use borrow.Author.Tests.{ltb-true, ltb-false, eq-eqb, ne-eqb}
-use lib.Dec.{eqb, ltb}
-use Rattle.laws.proofs.Cases.{split, le-or-lt}
+use borrow.Author.Tests.{eq-eqb, ne-eqb}
+use lib.Dec.{eqb}
+use Rattle.laws.proofs.Cases.{le-or-lt}
 use Rattle.summary.specs.Entries.{Entry, without, without-all, top, picks}
 use Rattle.summary.specs.Steps.{Summary, drop-rows}
-use Rattle.summary.proofs.Level.{excess, Level, excess-without}
 use Rattle.summary.specs.Rules.{Ceiling, bare, under, Ordered, ordered-none, ordered-more}
+use Rattle.summary.proofs.Entries.Picks.{top-best, top-ceiling, top-in}
+use Rattle.summary.proofs.Steps.Level.{excess, Level, excess-without}
 use Rattle.summary.proofs.Rules.Order.{ordered-without, ordered-member}
 
 -- how many counts are above a level
@@ -37,51 +38,24 @@ excess-high t high (under x {xs} c l) =
     (le-or-lt (x .count) t)
 
 -- a level at which at most so many counts stand above it, and whose sum is no greater
-record Raised (size t high : ℕ) (es : List Entry) : Type 0 where
+record RaisedLevel (size t high : ℕ) (es : List Entry) : Type 0 where
   level : ℕ
   up : t ≤ level
   sum : size * level + excess level es ≤ size * t + excess t es
   few : excess level es ≤ size * (high - level)
 
-raise : (size high : ℕ) {es : List Entry} → Ceiling high es → (fuel t : ℕ) → high ≤ t + fuel → Raised size t high es
-raise size high {es} c zero t h =
+raised-level : (size high : ℕ) {es : List Entry} → Ceiling high es → (fuel t : ℕ) → high ≤ t + fuel → RaisedLevel size t high es
+raised-level size high {es} c zero t h =
     let gone : high - t ≡ 0 = omega arith in
     record { level = t; up = omega arith; sum = omega arith; few = omega (arith, rw gone at (excess-high t high c)) }
-raise size high {es} c (suc fuel) t h =
+raised-level size high {es} c (suc fuel) t h =
     ⊎-elim
     (λ enough.
     record { level = t; up = omega arith; sum = omega arith; few = le-trans (excess-high t high c) (mul-le-mul-right (high - t) enough) })
     (λ many.
-    let r = raise size high c fuel (suc t) (omega arith) in
+    let r = raised-level size high c fuel (suc t) (omega arith) in
     record { level = r .level; up = omega arith; sum = omega (arith, excess-up t es); few = r .few })
     (le-or-lt (above t es) size)
-
--- no count is higher than that of the first entry of the highest count, which is among the entries
-pub top-best : (best : Entry) (xs : List Entry) → best .count ≤ top best xs .count
-unfolding top
-top-best best [] = omega arith
-top-best best (x ∷ xs) =
-    split (ltb (best .count) (x .count))
-    (λ e. let less = ltb-true (best .count) (x .count) e in rw e (omega (arith, top-best x xs, top-best best xs)))
-    (λ e. let less = ltb-false (best .count) (x .count) e in rw e (omega (arith, top-best x xs, top-best best xs)))
-
-top-ceiling : (best : Entry) (xs : List Entry) → Ceiling (top best xs .count) xs
-unfolding top
-top-ceiling best [] = bare
-top-ceiling best (x ∷ xs) =
-    split (ltb (best .count) (x .count))
-    (λ e. rw e (under x (top-ceiling x xs) (top-best x xs)))
-    (λ e.
-    let less = ltb-false (best .count) (x .count) e in
-    rw e (under x (top-ceiling best xs) (omega (arith, top-best best xs))))
-
-pub top-in : (best : Entry) (xs : List Entry) → List·Memᴰ (top best xs) (best ∷ xs)
-unfolding top
-top-in best [] = List·Memᴰ·head refl
-top-in best (x ∷ xs) =
-    split (ltb (best .count) (x .count))
-    (λ e. rw e (List·Memᴰ·tail (top-in x xs)))
-    (λ e. rw e (⊎-elim (λ same. List·Memᴰ·head same) (λ m. List·Memᴰ·tail (List·Memᴰ·tail m)) (List·Memᴰ·cases-cons (top-in best xs))))
 
 -- what a drop of a tracked row takes away
 excess-taken : (t : ℕ) (x : Entry) {high low : ℕ} {es : List Entry} → Ordered high low es → List·Memᴰ x es → excess t (without (x .row) es) + (x .count - t) ≡ excess t es
@@ -97,7 +71,7 @@ excess-taken t x (ordered-more low y o l b) m =
     (List·Memᴰ·cases-cons m)
 
 -- after picks from E slots down to D: E × (D × t and the excess) is at most D × M
-record Share (from size most : ℕ) (s : Summary) : Type 0 where
+pub record Share (from size most : ℕ) (s : Summary) : Type 0 where
   level : ℕ
   above-spill : s .spillover ≤ level
   small : from * (size * level + excess level (s .entries)) ≤ size * most
@@ -124,7 +98,7 @@ module _ {from most : ℕ} where
   share-top : (size : ℕ) (x : Entry) (xs : List Entry) (spill : ℕ) {high low : ℕ} → Ordered high low (x ∷ xs) → Share from (suc size) most (record { entries = x ∷ xs; spillover = spill }) → Share from size most (record { entries = without (top x xs .row) (x ∷ xs); spillover = spill })
   share-top size x xs spill o h =
       let best : Entry = top x xs in
-      let r = raise (suc size) (best .count) (under x (top-ceiling x xs) (top-best x xs)) (best .count) (h .level) (omega arith) in
+      let r = raised-level (suc size) (best .count) (under x (top-ceiling x xs) (top-best x xs)) (best .count) (h .level) (omega arith) in
       let lower : from * (suc size * r .level + excess (r .level) (x ∷ xs)) ≤ suc size * most = le-trans (mul-le-mul-left from (r .sum)) (h .small) in
       record {
         level = r .level;

@@ -4,13 +4,13 @@ use mathlib.Core.Bool.{Bool, true, false}
 use Prim.Native.Nat.{ℕ, zero, suc, _+_, _-_, _^_, _≤_, _<_}
 use native.Mathlib.Omega.{arith}
 use Rattle.device.specs.declared.Settings.{Settings}
-use Rattle.device.specs.Refusal.{Outcome, accepted, refused, first-failed, tested}
+use Rattle.device.specs.Refusal.{Outcome, accepted, first-failed, tested}
 use Rattle.device.specs.Acceptance.{settings-tests, settings-tests-but-counters}
-use Rattle.device.proofs.Accepted.{accepted-skipping, accepted-but-counters, refusals, refusals-but-counters}
+use Rattle.device.proofs.Acceptance.{accepted-skipping, accepted-but-counters, refusals-le, refusals-but-counters-le}
 use Rattle.bound.specs.Totals.{bound-of}
 use Rattle.bound.specs.Least.{with-counters, meets, first-from, or-else, least-of}
 use Rattle.bound.specs.Answers.{Small, bound-answer, least-answer}
-use Rattle.bound.proofs.Growth.{bound-small}
+use Rattle.bound.proofs.Totals.Bound.{bound-small}
 
 tested-small : (k : ℕ) (answer : Outcome ℕ) → k ≤ 7 → (k ≡ 0 → Small answer) → Small (tested k answer)
 unfolding tested Small
@@ -20,7 +20,7 @@ tested-small (suc k) answer few small = omega arith
 pub bound-answer-small : (s : Settings) → Small (bound-answer s)
 unfolding bound-answer Small with-counters
 bound-answer-small s =
-    tested-small (first-failed (settings-tests s)) (accepted (bound-of s)) (refusals s)
+    tested-small (first-failed (settings-tests s)) (accepted (bound-of s)) (refusals-le s)
     (λ e. omega (arith, bound-small s (s .counters) (accepted-but-counters s (accepted-skipping s e))))
 
 chosen : (b : Bool) (c : ℕ) (later : Outcome ℕ) → c < 2 ^ 63 → Small later → Small (or-else b c later)
@@ -37,5 +37,5 @@ first-small passes (suc k) c h =
 pub least-answer-small : (s : Settings) (threshold : ℕ) → Small (least-answer s threshold)
 unfolding least-answer least-of
 least-answer-small s threshold =
-    tested-small (first-failed (settings-tests-but-counters s)) (least-of s threshold) (refusals-but-counters s)
+    tested-small (first-failed (settings-tests-but-counters s)) (least-of s threshold) (refusals-but-counters-le s)
     (λ e. first-small (meets s threshold) (2049 - s .volume) (s .volume) (omega (arith, accepted-but-counters s e .volume .most)))

@@ -1,21 +1,19 @@
--- From entries to places of the tables: where a row or a count stands first, and what dropping, raising and entering do to the two columns.
+-- The two columns of the entries, rows and counts: where a row or a count stands first, and what dropping, raising and entering do to both.
 use mathlib.Core.Path.{_≡_, refl, ap, sym, _∙_}
-use mathlib.Core.Bool.{Bool, true, false, _||_, cond}
-use mathlib.Core.Logic.{⊎-elim}
+use mathlib.Core.Bool.{true, false}
 use mathlib.Core.List.{List, [], _∷_, _++_}
 use Prim.Native.Nat.{ℕ, zero, suc, _+_, _-_, _≤_, _<_}
 use native.Mathlib.Omega.{arith}
-use borrow.Author.Tests.{eqb-true, eqb-false, eq-eqb, ne-eqb, ltb-true, ltb-false, lt-ltb, le-ltb}
+use borrow.Author.Tests.{eqb-false, eq-eqb, ne-eqb, ltb-true, ltb-false, lt-ltb, le-ltb}
 use lib.Dec.{eqb, ltb, leb·suc-suc}
-use lib.Arith.{lt-of-le-ne}
-use lib.ListN.{length, getD, take, drop, set}
-use Rattle.laws.proofs.Cases.{split, le-or-lt, zero-one}
-use Rattle.tables.specs.Places.{Rising, lower-place, equal-place, highest-from, highest-place}
+use lib.ListN.{length, getD, take, drop, set, length-append, length-take, length-drop}
+use Rattle.laws.proofs.Cases.{split, zero-one}
+use Rattle.tables.specs.Contracts.{Rising, lower-place, equal-place, highest-from, highest-place}
 use Rattle.summary.specs.Entries.{Entry, rows-of, counts-of, has, without, raised, entered, has-count, without-count, top}
 use Rattle.summary.specs.Steps.{in-rows}
 use Rattle.summary.specs.Rules.{Ordered, ordered-none, ordered-more}
-use Rattle.summary.proofs.Rules.Floor.{neither}
-use Rattle.summary.proofs.Laid.{length-rows}
+use Rattle.summary.proofs.Entries.Tracked.{neither}
+use Rattle.summary.proofs.Entries.Lengths.{length-rows}
 
 -- a list without a place, and with a number put in before a place
 abbrev pub out : ℕ → List ℕ → List ℕ
@@ -23,6 +21,12 @@ out at xs = take at xs ++ drop (suc at) xs
 
 abbrev pub inside : ℕ → ℕ → List ℕ → List ℕ
 inside at x xs = take at xs ++ x ∷ drop at xs
+
+pub length-inside : (at x : ℕ) (xs : List ℕ) → at ≤ length xs → length (inside at x xs) ≡ length xs + 1
+length-inside at x xs h = rw (length-append (take at xs) (x ∷ drop at xs), length-take at xs, length-drop at xs) (omega arith)
+
+pub length-out : (at : ℕ) (xs : List ℕ) → at < length xs → length (out at xs) ≡ length xs - 1
+length-out at xs h = rw (length-append (take at xs) (drop (suc at) xs), length-take at xs, length-drop (suc at) xs) (omega arith)
 
 -- the same test one place further, and at the first place
 further : (a b : ℕ) → ltb (suc a) (suc b) ≡ ltb a b
@@ -55,14 +59,6 @@ counts-without row (x ∷ xs) e =
     split (eqb (x .row) row)
     (λ on. rw on)
     (λ off. rw off (ap (λ (ys : List ℕ). x .count ∷ ys) (counts-without row xs (rw off at e))))
-
--- a row that is not tracked is not dropped
-pub without-untracked : (row : ℕ) (es : List Entry) → has row es ≡ false → without row es ≡ es
-unfolding has without
-without-untracked row [] e = refl
-without-untracked row (x ∷ xs) e =
-    let parts = neither (eqb (x .row) row) (has row xs) e in
-    rw (parts .0) (ap (λ (ys : List Entry). x ∷ ys) (without-untracked row xs (parts .1)))
 
 pub rows-raised : (row : ℕ) (es : List Entry) → rows-of (raised row es) ≡ rows-of es
 unfolding raised rows-of
@@ -135,14 +131,8 @@ module _ {high : ℕ} (row count : ℕ) where
       let more = ltb-false (x .row) row off in
       rw (off, lt-ltb row (x .row) (omega arith)))
 
-pub lower-place-most : (row : ℕ) (xs : List ℕ) → lower-place row xs ≤ length xs
-unfolding lower-place
-lower-place-most row [] = omega arith
-lower-place-most row (x ∷ xs) =
-    split (ltb x row) (λ on. rw on (omega (arith, lower-place-most row xs))) (λ off. rw off (omega arith))
-
 -- ascending rows
-pub row-at : {high low : ℕ} {es : List Entry} → Ordered high low es → (i : ℕ) → i < length es → (low ≤ getD (rows-of es) i 0) × (getD (rows-of es) i 0 < high)
+row-at : {high low : ℕ} {es : List Entry} → Ordered high low es → (i : ℕ) → i < length es → (low ≤ getD (rows-of es) i 0) × (getD (rows-of es) i 0 < high)
 unfolding rows-of
 row-at ordered-none i h = absurd (omega arith)
 row-at (ordered-more low x o l b) zero h = (l, b)
@@ -157,42 +147,6 @@ rising-from (ordered-more low x o lx b) (suc i) (suc j) h l = rising-from o i j 
 
 pub rising-rows : {high low : ℕ} {es : List Entry} → Ordered high low es → Rising (rows-of es)
 rising-rows {es = es} o = record { rise = λ i j h l. rising-from o i j h (omega (arith, length-rows es)) }
-
--- among ascending numbers, a number stands where it belongs, or nowhere
-rising-tail : {x : ℕ} {xs : List ℕ} → Rising (x ∷ xs) → Rising xs
-rising-tail r = record { rise = λ i j h l. r .rise (suc i) (suc j) (omega arith) (omega arith) }
-
-pub found-place : (row : ℕ) (xs : List ℕ) → lower-place row xs < length xs → getD xs (lower-place row xs) 0 ≡ row → equal-place row xs ≡ lower-place row xs
-unfolding lower-place equal-place
-found-place row [] h e = refl
-found-place row (x ∷ xs) h e =
-    split (ltb x row)
-    (λ on.
-    let less = ltb-true x row on in
-    rw (on, ne-eqb x row (λ q. omega arith)) (ap suc (found-place row xs (omega (arith, rw on at h)) (rw on at e))))
-    (λ off. rw (off, eq-eqb x row (rw off at e)))
-
-nowhere : (row : ℕ) (xs : List ℕ) → ((i : ℕ) → i < length xs → row < getD xs i 0) → equal-place row xs ≡ length xs
-unfolding equal-place
-nowhere row [] above = refl
-nowhere row (x ∷ xs) above =
-    let first : row < x = above 0 (omega arith) in
-    rw (ne-eqb x row (λ q. omega arith)) (ap suc (nowhere row xs (λ i h. above (suc i) (omega arith))))
-
-pub missing-place : (row : ℕ) (xs : List ℕ) → Rising xs → (lower-place row xs < length xs → getD xs (lower-place row xs) 0 ≡ row → ⊥) → equal-place row xs ≡ length xs
-unfolding lower-place equal-place
-missing-place row [] r no-match = refl
-missing-place row (x ∷ xs) r no-match =
-    split (ltb x row)
-    (λ on.
-    let less = ltb-true x row on in
-    rw (ne-eqb x row (λ q. omega arith))
-    (ap suc (missing-place row xs (rising-tail r) (λ h e. (rw on at no-match) (omega arith) e))))
-    (λ off.
-    let more = ltb-false x row off in
-    let other : x ≡ row → ⊥ = (rw off at no-match) (omega arith) in
-    let above : row < x = lt-of-le-ne more (λ q. other (sym q)) in
-    rw (ne-eqb x row other) (ap suc (nowhere row xs (λ i h. omega (arith, r .rise 0 (suc i) (omega arith) (omega arith))))))
 
 -- each row stands at its own place alone
 pub equal-place-at : {high low : ℕ} {es : List Entry} → Ordered high low es → (i : ℕ) → i < length es → equal-place (getD (rows-of es) i 0) (rows-of es) ≡ i

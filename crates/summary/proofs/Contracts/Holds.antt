@@ -1,17 +1,30 @@
--- Two tables that hold a summary, after an entry was taken out, put in or stored to, or the spillover rose.
-use mathlib.Core.Path.{_≡_, refl, ap, sym, _∙_}
-use mathlib.Core.List.{List, [], _∷_, _++_}
-use Prim.Native.Nat.{ℕ, zero, suc, _+_, _-_, _≤_, _<_}
+-- Two tables that hold a summary: the summary is read back from them, their used parts, and an entry taken out, put in or stored to.
+use mathlib.Core.Path.{_≡_, ap, sym, _∙_}
+use mathlib.Core.List.{List}
+use Prim.Native.Nat.{ℕ, _+_, _-_, _≤_, _<_}
 use native.Mathlib.Omega.{arith}
-use lib.ListN.{length, getD, take, drop, set, length-set}
-use Rattle.tables.specs.Places.{Rising, put-in, taken-at}
-use Rattle.summary.specs.Entries.{Entry, rows-of, counts-of}
-use Rattle.summary.specs.Steps.{Summary}
+use lib.ListN.{length, replicate, getD, take, set}
+use Rattle.tables.specs.Contracts.{Rising, put-in, taken-at}
+use Rattle.summary.specs.Entries.{rows-of, counts-of}
+use Rattle.summary.specs.Steps.{Summary, spill}
+use Rattle.summary.specs.Tables.{table, read}
+use Rattle.summary.specs.Contracts.{Holds, Held}
 use Rattle.summary.specs.Rules.{Sound}
-use Rattle.summary.specs.Tables.{table, Holds}
-use Rattle.summary.proofs.Laid.{length-rows, length-counts, length-table}
-use Rattle.summary.proofs.Places.{out, inside, rising-rows}
-use Rattle.summary.proofs.Columns.{take-table, getD-table, set-table, put-in-table, taken-at-table, length-inside, length-out}
+use Rattle.summary.proofs.Entries.Lengths.{length-rows, length-counts}
+use Rattle.summary.proofs.Tables.{length-table, entries-back, take-table, getD-table, set-table, put-in-table, taken-at-table}
+use Rattle.summary.proofs.Entries.Columns.{out, inside, rising-rows, length-inside, length-out}
+
+-- what two tables hold is what is read from them
+pub held-read : {places high : ℕ} {sum : Summary} {rows counts : List ℕ} {tracked spillover : ℕ} → Holds places high sum rows counts tracked spillover → read rows counts tracked spillover ≡ sum
+unfolding read table
+held-read {places} {sum = sum} h =
+    rw (
+      h .rows-laid,
+      h .counts-laid,
+      h .tracked-is,
+      h .spilt-is,
+      entries-back (sum .entries) (replicate (places - length (rows-of (sum .entries))) 0) (replicate (places - length (counts-of (sum .entries))) 0),
+    )
 
 module _ {places high : ℕ} {sum : Summary} {rows counts : List ℕ} {k spill : ℕ} (h : Holds places high sum rows counts k spill) where
   rows-long : k ≡ length (rows-of (sum .entries))
@@ -79,3 +92,7 @@ module _ {places high : ℕ} {sum : Summary} {rows counts : List ℕ} {k spill :
           spilt-is = h .spilt-is ∙ sym same;
           sound = sound;
         }
+
+-- tables that hold a summary are as the functions want them
+pub held-again : {places : ℕ} {sum : Summary} {rows counts : List ℕ} {k spillover : ℕ} → Holds places 4294967296 sum rows counts k spillover → Held rows counts k spillover
+held-again h = rw (held-read h, long-rows h) h

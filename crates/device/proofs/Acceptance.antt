@@ -1,23 +1,23 @@
--- What it says of the settings that they are accepted, as facts about numbers.
+-- What it says of the settings that they are accepted, as facts about numbers; their refusals are 1 to 7.
 use mathlib.Core.Path.{_≡_, refl}
 use mathlib.Core.Bool.{Bool, true, false, _&&_, _||_, not}
 use mathlib.Core.Logic.{_⊎_, inl, inr, ⊎-map}
-use mathlib.Core.List.{List, [], _∷_, _++_}
-use Prim.Native.Nat.{ℕ, zero, suc, _*_, _%_, _≤_}
-use native.Mathlib.Omega.{arith}
+use mathlib.Core.List.{List, _++_}
+use Prim.Native.Nat.{ℕ, _*_, _%_, _≤_}
 use borrow.Author.Tests.{leb-true, eqb-true}
 use lib.Dec.{leb, eqb, lit≤}
 use Rattle.laws.proofs.Cases.{zero-one}
 use Rattle.device.specs.declared.Settings.{Settings}
-use Rattle.device.specs.Refusal.{Test, refuse, first-failed, unless}
+use Rattle.device.specs.Refusal.{Test, first-failed, unless}
 use Rattle.device.specs.Acceptance.{within, rows-allowed, diameter-allowed, block-allowed, settings-tests-with, settings-tests, settings-tests-but-counters}
+use Rattle.device.proofs.Refusal.{refuse-passed, refuse-le, or-later, later-refuse}
 
 -- a number from low to high
 pub record Between (low high x : ℕ) : Type 0 where
   pub least : low ≤ x
   pub most : x ≤ high
 
--- accepted settings, whatever the counter count
+-- accepted-settings settings, whatever the counter count
 pub record InRange (s : Settings) : Type 0 where
   pub rows : Between 16 65536 (s .rows)
   pub rows-whole : s .rows % 16 ≡ 0
@@ -28,7 +28,7 @@ pub record InRange (s : Settings) : Type 0 where
   pub block : Between 1 64 (s .block)
   pub covered : s .rows ≤ s .block * s .window
 
--- accepted settings
+-- accepted-settings settings
 pub record Accepted (s : Settings) : Type 0 where
   pub others : InRange s
   pub counters : Between (s .volume) 2048 (s .counters)
@@ -47,12 +47,6 @@ between low high x e =
     let parts = both (leb low x) (leb x high) e in
     record { least = leb-true low x (parts .0); most = leb-true x high (parts .1) }
 
--- a test that is not the last word: it passed, and so did the later ones
-passed : (allowed : Bool) (k later : ℕ) → refuse (not allowed) (suc k) later ≡ 0 → (allowed ≡ true) × (later ≡ 0)
-unfolding refuse
-passed true k later e = (refl, e)
-passed false k later e = absurd (omega arith)
-
 diameter-of : (b : ℕ) → diameter-allowed b ≡ true → (b ≡ 2) ⊎ (b ≡ 4)
 unfolding diameter-allowed
 diameter-of b e = ⊎-map (eqb-true b 2) (eqb-true b 4) (either (eqb b 2) (eqb b 4) e)
@@ -60,13 +54,13 @@ diameter-of b e = ⊎-map (eqb-true b 2) (eqb-true b 4) (either (eqb b 2) (eqb b
 tests-passed : (counters-allowed : Bool) (s : Settings) → first-failed (settings-tests-with counters-allowed s) ≡ 0 → (counters-allowed ≡ true) × InRange s
 unfolding first-failed unless settings-tests-with rows-allowed block-allowed
 tests-passed counters-allowed s e =
-    let p1 = passed (rows-allowed (s .rows)) 0 _ e in
-    let p2 = passed (diameter-allowed (s .«blast_diameter»)) 1 _ (p1 .1) in
-    let p3 = passed (within 1 16 (s .volume)) 2 _ (p2 .1) in
-    let p4 = passed counters-allowed 3 _ (p3 .1) in
-    let p5 = passed (within 1 4096 (s .interval)) 4 _ (p4 .1) in
-    let p6 = passed (within 1 8192 (s .window)) 5 _ (p5 .1) in
-    let p7 = passed (block-allowed (s .block) (s .window) (s .rows)) 6 _ (p6 .1) in
+    let p1 = refuse-passed (rows-allowed (s .rows)) 0 _ e in
+    let p2 = refuse-passed (diameter-allowed (s .«blast_diameter»)) 1 _ (p1 .1) in
+    let p3 = refuse-passed (within 1 16 (s .volume)) 2 _ (p2 .1) in
+    let p4 = refuse-passed counters-allowed 3 _ (p3 .1) in
+    let p5 = refuse-passed (within 1 4096 (s .interval)) 4 _ (p4 .1) in
+    let p6 = refuse-passed (within 1 8192 (s .window)) 5 _ (p5 .1) in
+    let p7 = refuse-passed (block-allowed (s .block) (s .window) (s .rows)) 6 _ (p6 .1) in
     let whole = both (within 16 65536 (s .rows)) (eqb (s .rows % 16) 0) (p1 .0) in
     let regular = both (within 1 64 (s .block)) (leb (s .rows) (s .block * s .window)) (p7 .0) in (
       p4 .0,
@@ -82,9 +76,9 @@ tests-passed counters-allowed s e =
       },
     )
 
-pub accepted : (s : Settings) → first-failed (settings-tests s) ≡ 0 → Accepted s
+pub accepted-settings : (s : Settings) → first-failed (settings-tests s) ≡ 0 → Accepted s
 unfolding settings-tests
-accepted s e =
+accepted-settings s e =
     let parts = tests-passed (within (s .volume) 2048 (s .counters)) s e in
     record { others = parts .1; counters = between (s .volume) 2048 (s .counters) (parts .0) }
 
@@ -92,47 +86,32 @@ pub accepted-but-counters : (s : Settings) → first-failed (settings-tests-but-
 unfolding settings-tests-but-counters
 accepted-but-counters s e = tests-passed true s e .1
 
--- accepted settings pass the tests that skip the counter count
+-- accepted-settings settings pass the tests that skip the counter count
 pub accepted-skipping : (s : Settings) → first-failed (settings-tests s) ≡ 0 → first-failed (settings-tests-but-counters s) ≡ 0
 unfolding settings-tests settings-tests-but-counters
 accepted-skipping s e = rw (tests-passed (within (s .volume) 2048 (s .counters)) s e .0) at e
 
-at-most : (failed : Bool) (k : ℕ) {later most : ℕ} → k ≤ most → later ≤ most → refuse failed k later ≤ most
-unfolding refuse
-at-most true k h later = h
-at-most false k h later = later
-
--- the settings' refusals are 1 to 7
-refusals-with : (counters-allowed : Bool) (s : Settings) → first-failed (settings-tests-with counters-allowed s) ≤ 7
+-- the settings' refusals-le are 1 to 7
+refusals-with-le : (counters-allowed : Bool) (s : Settings) → first-failed (settings-tests-with counters-allowed s) ≤ 7
 unfolding first-failed unless settings-tests-with
-refusals-with counters-allowed s =
-    at-most (not (rows-allowed (s .rows))) 1 (lit≤ tt)
-    (at-most (not (diameter-allowed (s .«blast_diameter»))) 2 (lit≤ tt)
-    (at-most (not (within 1 16 (s .volume))) 3 (lit≤ tt)
-    (at-most (not counters-allowed) 4 (lit≤ tt)
-    (at-most (not (within 1 4096 (s .interval))) 5 (lit≤ tt)
-    (at-most (not (within 1 8192 (s .window))) 6 (lit≤ tt)
-    (at-most (not (block-allowed (s .block) (s .window) (s .rows))) 7 (lit≤ tt) (lit≤ tt)))))))
+refusals-with-le counters-allowed s =
+    refuse-le (not (rows-allowed (s .rows))) 1 (lit≤ tt)
+    (refuse-le (not (diameter-allowed (s .«blast_diameter»))) 2 (lit≤ tt)
+    (refuse-le (not (within 1 16 (s .volume))) 3 (lit≤ tt)
+    (refuse-le (not counters-allowed) 4 (lit≤ tt)
+    (refuse-le (not (within 1 4096 (s .interval))) 5 (lit≤ tt)
+    (refuse-le (not (within 1 8192 (s .window))) 6 (lit≤ tt)
+    (refuse-le (not (block-allowed (s .block) (s .window) (s .rows))) 7 (lit≤ tt) (lit≤ tt)))))))
 
-pub refusals : (s : Settings) → first-failed (settings-tests s) ≤ 7
+pub refusals-le : (s : Settings) → first-failed (settings-tests s) ≤ 7
 unfolding settings-tests
-refusals s = refusals-with (within (s .volume) 2048 (s .counters)) s
+refusals-le s = refusals-with-le (within (s .volume) 2048 (s .counters)) s
 
-pub refusals-but-counters : (s : Settings) → first-failed (settings-tests-but-counters s) ≤ 7
+pub refusals-but-counters-le : (s : Settings) → first-failed (settings-tests-but-counters s) ≤ 7
 unfolding settings-tests-but-counters
-refusals-but-counters s = refusals-with true s
+refusals-but-counters-le s = refusals-with-le true s
 
--- a refusal, or where there is none what later tests say
-unfoldable pub or-later : ℕ → ℕ → ℕ
-or-later zero later = later
-or-later (suc k) later = suc k
-
-later-refuse : (failed : Bool) (k l later : ℕ) → or-later (refuse failed (suc k) l) later ≡ refuse failed (suc k) (or-later l later)
-unfolding refuse or-later
-later-refuse true k l later = refl
-later-refuse false k l later = refl
-
--- tests behind the settings' are heard where the settings are accepted
+-- tests behind the settings' are heard where the settings are accepted-settings
 pub settings-then : (s : Settings) (later : List Test) → first-failed (settings-tests s ++ later) ≡ or-later (first-failed (settings-tests s)) (first-failed later)
 unfolding first-failed unless settings-tests settings-tests-with or-later
 settings-then s later =

@@ -1,14 +1,14 @@
 -- How often a row stands in a list of rows.
-use mathlib.Core.Path.{_≡_, refl}
-use mathlib.Core.Bool.{Bool, true, false, cond}
+use mathlib.Core.Path.{_≡_}
+use mathlib.Core.Bool.{cond}
 use mathlib.Core.List.{List, [], _∷_, _++_}
 use Prim.Native.Nat.{ℕ, zero, suc, _+_, _-_, _≤_, _<_}
 use native.Mathlib.Omega.{arith}
 use borrow.Author.Tests.{eqb-true, eqb-false, ne-eqb}
 use lib.Dec.{eqb}
 use Rattle.laws.proofs.Cases.{split}
-use Rattle.device.proofs.Neighbours.{Ascends, none, more, victims-ascend}
 use Rattle.device.specs.Victims.{rows-from, rows-between, victims}
+use Rattle.device.proofs.Victims.{Ascends, ascends-none, ascends-more, victims-ascend}
 
 -- 1 where two rows are the same, else 0
 unfoldable pub hit : ℕ → ℕ → ℕ
@@ -31,17 +31,17 @@ unfolding times
 times-append row [] ys = omega arith
 times-append row (x ∷ xs) ys = omega (arith, times-append row xs ys)
 
--- a row below the range is not in it, and none is in it twice
+-- a row below the range is not in it, and ascends-none is in it twice
 pub times-below : (row : ℕ) {low high : ℕ} {vs : List ℕ} → Ascends low high vs → row < low → times row vs ≡ 0
 unfolding times
-times-below row none h = omega arith
-times-below row (more {row = v} later from below) h =
+times-below row ascends-none h = omega arith
+times-below row (ascends-more {row = v} later from below) h =
     omega (arith, hit-other v row (λ e. omega arith), times-below row later (omega arith))
 
 times-once : (row : ℕ) {low high : ℕ} {vs : List ℕ} → Ascends low high vs → times row vs ≤ 1
 unfolding times hit
-times-once row none = omega arith
-times-once row (more {row = v} later from below) =
+times-once row ascends-none = omega arith
+times-once row (ascends-more {row = v} later from below) =
     split (eqb v row)
     (λ e. let same = eqb-true v row e in rw e (omega (arith, times-below row later (omega arith))))
     (λ e. rw e (omega (arith, times-once row later)))

@@ -1,20 +1,18 @@
 -- Estimates: a disturbance raises the disturbed row's by at least 1 and lowers none; a drop leaves the other rows' as they are.
 use mathlib.Core.Path.{_≡_, refl, _∙_, sym}
-use mathlib.Core.Bool.{Bool, true, false, _||_, cond}
+use mathlib.Core.Bool.{true, false}
 use mathlib.Core.List.{List, [], _∷_}
-use Prim.Native.Nat.{ℕ, suc, _+_, _-_, _*_, _≤_, _<_}
+use Prim.Native.Nat.{ℕ, _+_, _≤_}
 use native.Mathlib.Omega.{arith}
 use borrow.Author.Tests.{eqb-true, eqb-false, ne-eqb}
 use lib.Dec.{eqb, ltb}
-use lib.ListN.{length}
 use Rattle.laws.proofs.Cases.{split, zero-one}
-use Rattle.device.proofs.Times.{hit, times, hit-most, hit-other}
-use Rattle.summary.specs.Entries.{Entry, has, count-or, without, without-all, raised, entered, has-count, without-count}
-use Rattle.summary.specs.Steps.{Summary, estimate, disturb, disturb-each, drop-rows}
+use Rattle.device.proofs.Occurrences.{hit, times, hit-most, hit-other}
+use Rattle.summary.specs.Entries.{Entry, has, count-or, without, without-all, raised, entered, without-count}
+use Rattle.summary.specs.Steps.{Summary, estimate, disturb, drop-rows}
 use Rattle.summary.specs.Rules.{Floor, floor-none, floor-more}
-use Rattle.summary.proofs.DisturbCases.{by-cases}
-use Rattle.summary.proofs.Rules.Floor.{neither}
-use Rattle.summary.proofs.Rules.Order.{untracked-without-count}
+use Rattle.summary.proofs.Steps.Disturb.{by-cases}
+use Rattle.summary.proofs.Entries.Tracked.{neither, untracked-without-count}
 
 module _ (other row : ℕ) where
   count-untracked : (es : List Entry) → has row es ≡ false → count-or other row es ≡ other

@@ -1,20 +1,19 @@
 -- Levels: 'the D largest slots sum to at most M', said by a level t at or above the spillover with D × t and the excess of the counts over t
--- at most M. A disturbance raises M by at most 1, a drop does not, and each pick takes its share.
+-- at most M. A disturbance raises M by at most 1, a drop does not; a level of one slot bounds every count, every estimate and the spillover.
 use mathlib.Core.Path.{_≡_, refl}
-use mathlib.Core.Bool.{Bool, true, false}
-use mathlib.Core.Logic.{_⊎_, inl, inr, ⊎-elim}
+use mathlib.Core.Logic.{⊎-elim}
 use mathlib.Core.List.{List, [], _∷_}
-use Prim.Native.Nat.{ℕ, zero, suc, _+_, _-_, _*_, _/_, _≤_, _<_}
+use Prim.Native.Nat.{ℕ, suc, _+_, _-_, _*_, _≤_, _<_}
 use native.Mathlib.Omega.{arith}
-use borrow.Author.Tests.{eqb-true, ltb-true, ltb-false}
 use lib.Dec.{eqb, ltb}
 use lib.ListN.{length}
 use Rattle.laws.proofs.Cases.{split, le-or-lt}
-use Rattle.summary.specs.Entries.{Entry, has, without, without-all, raised, entered, has-count, without-count}
-use Rattle.summary.specs.Steps.{Summary, spill, disturb}
-use Rattle.summary.specs.Rules.{Floor, floor-none, floor-more}
+use Rattle.summary.specs.Entries.{Entry, without, without-all, raised, entered, without-count, count-or}
+use Rattle.summary.specs.Steps.{Summary, spill, disturb, empty, estimate, drop-rows}
+use Rattle.summary.specs.Rules.{Floor, floor-none, floor-more, Ceiling, bare, under}
 use Rattle.summary.proofs.Rules.Floor.{floor-rises}
-use Rattle.summary.proofs.DisturbCases.{by-cases}
+use Rattle.summary.proofs.Steps.Disturb.{by-cases}
+use Rattle.summary.proofs.Rules.Ceiling.{ceiling-higher}
 
 -- the sum of the counts' excess over a level
 unfoldable pub excess : ℕ → List Entry → ℕ
@@ -89,3 +88,39 @@ module _ {size most : ℕ} where
       rises above full h =
           let same : t ≡ spillover = omega arith in
           record { level = suc t; above = omega arith; small = omega (arith, excess-above t (rw (← same) at above)) }
+
+excess-without-all : (t : ℕ) (rows : List ℕ) (es : List Entry) → excess t (without-all rows es) ≤ excess t es
+unfolding without-all
+excess-without-all t [] es = omega arith
+excess-without-all t (row ∷ rows) es = omega (arith, excess-without t row es, excess-without-all t rows (without row es))
+
+pub level-drop : {size most : ℕ} (rows : List ℕ) {s : Summary} → Level size most s → Level size most (drop-rows rows s)
+unfolding drop-rows
+level-drop rows {s} l =
+    record { level = l .level; above = l .above; small = omega (arith, excess-without-all (l .level) rows (s .entries)) }
+
+-- nothing tracked and nothing spilt is below any sum
+pub level-empty : {size : ℕ} (most : ℕ) → Level size most empty
+unfolding empty excess
+level-empty most = record { level = 0; above = omega arith; small = omega arith }
+
+ceiling-excess : (t : ℕ) (es : List Entry) → Ceiling (t + excess t es) es
+unfolding excess
+ceiling-excess t [] = bare
+ceiling-excess t (x ∷ xs) = under x (ceiling-higher (ceiling-excess t xs) (omega arith)) (omega arith)
+
+pub ceiling-level : {most : ℕ} {s : Summary} → Level 1 most s → Ceiling most (s .entries)
+ceiling-level {s = s} l = ceiling-higher (ceiling-excess (l .level) (s .entries)) (omega (arith, l .small))
+
+pub spillover-level : {most : ℕ} {s : Summary} → Level 1 most s → s .spillover ≤ most
+spillover-level l = omega arith
+
+count-level : (t row spill : ℕ) (es : List Entry) → spill ≤ t → count-or spill row es ≤ t + excess t es
+unfolding count-or excess
+count-level t row spill [] h = omega arith
+count-level t row spill (x ∷ xs) h =
+    split (eqb (x .row) row) (λ on. rw on (omega arith)) (λ off. rw off (omega (arith, count-level t row spill xs h)))
+
+pub estimate-level : {most : ℕ} {s : Summary} → Level 1 most s → (row : ℕ) → estimate s row ≤ most
+unfolding estimate
+estimate-level {s} l row = omega (arith, count-level (l .level) row (s .spillover) (s .entries) (l .above))

@@ -1,13 +1,13 @@
 -- The remap is a permutation of the bank's rows: one computed test over the table says that it undoes itself, and the rest follows.
-use mathlib.Core.Path.{_≡_, _∙_, ap, sym, refl}
+use mathlib.Core.Path.{_≡_, _∙_, ap, sym}
 use mathlib.Core.Bool.{Bool, _&&_}
 use Prim.Native.Nat.{ℕ, _+_, _*_, _/_, _%_, _<_}
 use native.Mathlib.Nat.{mod-lt}
 use native.Mathlib.Omega.{arith}
 use lib.Dec.{T, eqb, ltb, eqb→eq, ltb→lt, lit<}
 use lib.ListN.{getD}
-use Rattle.device.specs.Remap.{remap-table, physical}
 use Rattle.laws.proofs.Every.{at, both-left, both-right}
+use Rattle.device.specs.Remap.{remap-table, physical}
 
 -- an entry is below 16, and the entry at that place is the place itself
 abbrev undone : ℕ → ℕ → Bool
@@ -22,7 +22,7 @@ entry-below k h =
     ltb→lt (getD remap-table k 0) 16
     (both-left (ltb (getD remap-table k 0) 16) (eqb (getD remap-table (getD remap-table k 0) 0) k) (undone-at k h))
 
-pub entry-undone : (k : ℕ) → k < 16 → getD remap-table (getD remap-table k 0) 0 ≡ k
+entry-undone : (k : ℕ) → k < 16 → getD remap-table (getD remap-table k 0) 0 ≡ k
 entry-undone k h =
     eqb→eq (getD remap-table (getD remap-table k 0) 0) k
     (both-right (ltb (getD remap-table k 0) 16) (eqb (getD remap-table (getD remap-table k 0) 0) k) (undone-at k h))
@@ -33,7 +33,7 @@ unfolding physical
 physical-below rows row whole h = omega (arith, entry-below (row % 16) (mod-lt row (lit< tt)))
 
 -- the remap undoes itself
-pub physical-undone : (row : ℕ) → physical (physical row) ≡ row
+physical-undone : (row : ℕ) → physical (physical row) ≡ row
 unfolding physical
 physical-undone row =
     let r : ℕ = row % 16 in

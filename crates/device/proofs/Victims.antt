@@ -1,8 +1,8 @@
 -- The victims of a row: exactly the other rows of the bank within reach, ascending, so none twice, and at most as many as the blast diameter.
-use mathlib.Core.Path.{_≡_, subst, sym}
-use mathlib.Core.Logic.{_⊎_, inl, inr, ⊎-elim}
+use mathlib.Core.Path.{_≡_, sym}
+use mathlib.Core.Logic.{⊎-elim}
 use mathlib.Core.List.{List, [], _∷_, _++_, List·Memᴰ, List·Memᴰ·head, List·Memᴰ·tail, List·Memᴰ·append-cases, List·Memᴰ·not-nil, List·Memᴰ·cases-cons, Memᴰ·append-left, Memᴰ·append-right}
-use Prim.Native.Nat.{ℕ, zero, suc, _+_, _-_, _*_, _/_, _≤_, _<_, min}
+use Prim.Native.Nat.{ℕ, zero, suc, _+_, _-_, _/_, _≤_, _<_, min}
 use native.Mathlib.Nat.{eq-or-lt-of-le}
 use native.Mathlib.Numerals.{add-one}
 use native.Mathlib.Omega.{arith}
@@ -13,36 +13,36 @@ use Rattle.device.specs.Claims.{distance}
 
 -- rows from low on and below high, each above the one before
 pub data Ascends : ℕ → ℕ → List ℕ → Type 0 where
-  none : {low high : ℕ} → Ascends low high []
-  more : {low high row : ℕ} {rows : List ℕ} → Ascends (suc row) high rows → low ≤ row → row < high → Ascends low high (row ∷ rows)
+  ascends-none : {low high : ℕ} → Ascends low high []
+  ascends-more : {low high row : ℕ} {rows : List ℕ} → Ascends (suc row) high rows → low ≤ row → row < high → Ascends low high (row ∷ rows)
 
-pub widen : {low high low′ high′ : ℕ} {rows : List ℕ} → Ascends low high rows → low′ ≤ low → high ≤ high′ → Ascends low′ high′ rows
-widen none l h = none
-widen {low′} {high′} (more {row} later from below) l h =
-    more {low = low′} {high = high′} {row = row} (widen later (omega arith) h) (omega arith) (omega arith)
+ascends-widen : {low high low′ high′ : ℕ} {rows : List ℕ} → Ascends low high rows → low′ ≤ low → high ≤ high′ → Ascends low′ high′ rows
+ascends-widen ascends-none l h = ascends-none
+ascends-widen {low′} {high′} (ascends-more {row} later from below) l h =
+    ascends-more {low = low′} {high = high′} {row = row} (ascends-widen later (omega arith) h) (omega arith) (omega arith)
 
-pub join : {low middle high : ℕ} {front back : List ℕ} → Ascends low middle front → Ascends middle high back → low ≤ middle → middle ≤ high → Ascends low high (front ++ back)
-join none back l h = widen back l (omega arith)
-join {low} {high} (more {row} later from below) back l h =
-    more {low = low} {high = high} {row = row} (join later back (omega arith) h) from (omega arith)
+ascends-append : {low middle high : ℕ} {front back : List ℕ} → Ascends low middle front → Ascends middle high back → low ≤ middle → middle ≤ high → Ascends low high (front ++ back)
+ascends-append ascends-none back l h = ascends-widen back l (omega arith)
+ascends-append {low} {high} (ascends-more {row} later from below) back l h =
+    ascends-more {low = low} {high = high} {row = row} (ascends-append later back (omega arith) h) from (omega arith)
 
 -- a number of ascending ones is from low on, and below those behind it
 from-low : {low high : ℕ} {rows : List ℕ} → Ascends low high rows → (i : ℕ) → i < length rows → low ≤ getD rows i 0
-from-low none i h = absurd (omega arith)
-from-low (more later from below) zero h = from
-from-low (more later from below) (suc i) h = omega (arith, from-low later i (omega arith))
+from-low ascends-none i h = absurd (omega arith)
+from-low (ascends-more later from below) zero h = from
+from-low (ascends-more later from below) (suc i) h = omega (arith, from-low later i (omega arith))
 
 pub ascends-at : {low high : ℕ} {rows : List ℕ} → Ascends low high rows → (i j : ℕ) → i < j → j < length rows → getD rows i 0 < getD rows j 0
-ascends-at none i j h l = absurd (omega arith)
-ascends-at (more later from below) i zero h l = absurd (omega arith)
-ascends-at (more later from below) zero (suc j) h l = from-low later j (omega arith)
-ascends-at (more later from below) (suc i) (suc j) h l = ascends-at later i j (omega arith) (omega arith)
+ascends-at ascends-none i j h l = absurd (omega arith)
+ascends-at (ascends-more later from below) i zero h l = absurd (omega arith)
+ascends-at (ascends-more later from below) zero (suc j) h l = from-low later j (omega arith)
+ascends-at (ascends-more later from below) (suc i) (suc j) h l = ascends-at later i j (omega arith) (omega arith)
 
 from-ascends : (k low high : ℕ) → low + k ≤ high → Ascends low high (rows-from k low)
 unfolding rows-from
-from-ascends zero low high h = none
+from-ascends zero low high h = ascends-none
 from-ascends (suc k) low high h =
-    more {low = low} {high = high} {row = low} (from-ascends k (suc low) high (omega arith)) (omega arith) (omega arith)
+    ascends-more {low = low} {high = high} {row = low} (from-ascends k (suc low) high (omega arith)) (omega arith) (omega arith)
 
 from-length : (k low : ℕ) → length (rows-from k low) ≡ k
 unfolding rows-from
@@ -55,7 +55,7 @@ unfolding rows-between rows-from
 between-ascends low high {top} h =
     ⊎-elim
     (λ apart. from-ascends (high - low) low top (omega arith))
-    (λ past. let nothing : high - low ≡ 0 = omega arith in rw nothing none)
+    (λ past. let nothing : high - low ≡ 0 = omega arith in rw nothing ascends-none)
     (le-or-lt low high)
 
 pub between-length : (low high : ℕ) → length (rows-between low high) ≡ high - low
@@ -98,12 +98,12 @@ module _ (rows diameter row : ℕ) where
           Memᴰ·append-right (rows-between (row - diameter / 2) row)
           (from-in (min (row + 1 + diameter / 2) rows - (row + 1)) (row + 1) v (omega arith) (omega arith))
 
-  -- ascending and below the bank's end, so none twice
+  -- ascending and below the bank's end, so ascends-none twice
   pub victims-ascend : row < rows → Ascends 0 rows (victims rows diameter row)
   unfolding victims rows-between
   victims-ascend h =
-      join {middle = row + 1}
-      (widen (from-ascends (row - (row - diameter / 2)) (row - diameter / 2) row (omega arith)) (omega arith) (omega arith))
+      ascends-append {middle = row + 1}
+      (ascends-widen (from-ascends (row - (row - diameter / 2)) (row - diameter / 2) row (omega arith)) (omega arith) (omega arith))
       (from-ascends (min (row + 1 + diameter / 2) rows - (row + 1)) (row + 1) rows (omega arith))
       (omega arith)
       (omega arith)
@@ -113,7 +113,7 @@ module _ (rows diameter row : ℕ) where
   unfolding victims rows-between
   victims-few = simp (length-append, from-length) (omega arith)
 
--- a run of rows, one row further, and none
+-- a run of rows, one row further, and ascends-none
 pub between-step : (row high : ℕ) → row < high → rows-between row high ≡ row ∷ rows-between (row + 1) high
 unfolding rows-between rows-from
 between-step row high h =

@@ -1,34 +1,18 @@
 -- What the steps of an event and an activation do to levels, estimates and the summary's own rules: the laws that the limit rests on.
-use mathlib.Core.Path.{_≡_, refl, _∙_}
-use mathlib.Core.Bool.{Bool, true, false}
+use mathlib.Core.Path.{_≡_, refl}
+use mathlib.Core.Bool.{Bool}
 use mathlib.Core.List.{List, [], _∷_, _++_}
-use Prim.Native.Nat.{ℕ, zero, suc, _+_, _*_, _/_, _≤_, _<_}
-use native.Mathlib.Nat.{le-trans}
+use Prim.Native.Nat.{ℕ, _+_, _*_, _/_, _≤_, _<_}
 use native.Mathlib.Omega.{arith}
 use lib.ListN.{length}
-use Rattle.device.proofs.Times.{hit, times, hit-other}
-use Rattle.summary.specs.Entries.{Entry, without, without-all, picks}
-use Rattle.summary.specs.Steps.{Summary, empty, estimate, disturb, disturb-each, drop-rows, spread, activation, picked, taken-out, cleared-if, sources, event}
-use Rattle.summary.proofs.Level.{Level, excess, excess-without, level-more, level-disturb}
-use Rattle.summary.proofs.Share.{level-picks}
-use Rattle.summary.proofs.Estimates.{estimate-disturb, estimate-drop}
+use Rattle.device.proofs.Occurrences.{times, hit-other}
+use Rattle.summary.specs.Entries.{Entry, without, without-all}
+use Rattle.summary.specs.Steps.{Summary, estimate, disturb-each, drop-rows, spread, activation, picked, taken-out, cleared-if, sources, event}
 use Rattle.summary.specs.Rules.{Below, below-none, below-more, Sound}
-use Rattle.summary.proofs.Rules.Sound.{sound-disturb, sound-drop, sound-each, sound-empty}
-
-excess-without-all : (t : ℕ) (rows : List ℕ) (es : List Entry) → excess t (without-all rows es) ≤ excess t es
-unfolding without-all
-excess-without-all t [] es = omega arith
-excess-without-all t (row ∷ rows) es = omega (arith, excess-without t row es, excess-without-all t rows (without row es))
-
-pub level-drop : {size most : ℕ} (rows : List ℕ) {s : Summary} → Level size most s → Level size most (drop-rows rows s)
-unfolding drop-rows
-level-drop rows {s} l =
-    record { level = l .level; above = l .above; small = omega (arith, excess-without-all (l .level) rows (s .entries)) }
-
--- nothing tracked and nothing spilt is below any sum
-pub level-empty : {size : ℕ} (most : ℕ) → Level size most empty
-unfolding empty excess
-level-empty most = record { level = 0; above = omega arith; small = omega arith }
+use Rattle.summary.proofs.Steps.Level.{level-drop, Level, level-more, level-disturb}
+use Rattle.summary.proofs.Steps.LevelPicks.{level-picks}
+use Rattle.summary.proofs.Steps.Estimate.{estimate-disturb, estimate-drop}
+use Rattle.summary.proofs.Rules.Sound.{sound-disturb, sound-drop, sound-each}
 
 pub without-append : (xs ys : List ℕ) (es : List Entry) → without-all (xs ++ ys) es ≡ without-all ys (without-all xs es)
 unfolding without-all
@@ -36,13 +20,13 @@ without-append [] ys es = refl
 without-append (x ∷ xs) ys es = without-append xs ys (without x es)
 
 module _ {high counters : ℕ} where
-  pub level-each : {rows : List ℕ} {size most : ℕ} → Below high rows → {s : Summary} → Sound high counters s → size ≤ counters + 1 → Level size most s → Level size (most + length rows) (disturb-each counters rows s)
+  level-each : {rows : List ℕ} {size most : ℕ} → Below high rows → {s : Summary} → Sound high counters s → size ≤ counters + 1 → Level size most s → Level size (most + length rows) (disturb-each counters rows s)
   unfolding disturb-each
   level-each below-none k few l = level-more l (omega arith)
   level-each (below-more row b h) {s} k few l =
       level-more (level-each b (sound-disturb row s h k) few (level-disturb counters row s few (k .floor) l)) (omega arith)
 
-  pub estimate-each : (v : ℕ) {rows : List ℕ} → Below high rows → {s : Summary} → Sound high counters s → estimate s v + times v rows ≤ estimate (disturb-each counters rows s) v
+  estimate-each : (v : ℕ) {rows : List ℕ} → Below high rows → {s : Summary} → Sound high counters s → estimate s v + times v rows ≤ estimate (disturb-each counters rows s) v
   unfolding disturb-each times
   estimate-each v below-none k = omega arith
   estimate-each v (below-more row b h) {s} k =
@@ -73,7 +57,7 @@ reached victims-of v [] = 0
 reached victims-of v (row ∷ rows) = times v (victims-of row) + reached victims-of v rows
 
 module _ {high counters reach : ℕ} {victims-of : ℕ → List ℕ} where
-  pub sound-spread : Reach high reach victims-of → {rows : List ℕ} → Below high rows → {s : Summary} → Sound high counters s → Sound high counters (spread counters victims-of rows s)
+  sound-spread : Reach high reach victims-of → {rows : List ℕ} → Below high rows → {s : Summary} → Sound high counters s → Sound high counters (spread counters victims-of rows s)
   unfolding spread
   sound-spread w below-none k = k
   sound-spread w (below-more row b h) {s} k = sound-spread w b (sound-each (w .inside row h) k)

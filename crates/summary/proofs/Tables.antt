@@ -1,14 +1,20 @@
--- One column of the tables, numbers and then zeros: reading a place, and what storing, putting in and taking out make of it.
-use mathlib.Core.Path.{_≡_, refl, ap, sym, _∙_}
+-- One table, numbers and then zeros: its length, reading a place, what storing, putting in and taking out make of it, and the entries read back.
+use mathlib.Core.Path.{_≡_, refl, ap}
 use mathlib.Core.List.{List, [], _∷_, _++_}
-use Prim.Native.Nat.{ℕ, zero, suc, _+_, _-_, _≤_, _<_, min}
-use native.Mathlib.Numerals.{add-one}
+use Prim.Native.Nat.{ℕ, zero, suc, _-_, _≤_, _<_}
 use native.Mathlib.Omega.{arith}
-use lib.ListN.{length, getD, take, drop, set, replicate, length-append, length-take, length-drop, length-set, List·getD-append, drop-of-length-le}
-use lib.Seq.{take-at, drop-at, take-append-le, drop-append-le, drop-append-add, set-append-left, drop-cons, getD-take, length-take-le}
-use Rattle.tables.specs.Places.{put-in, taken-at}
-use Rattle.summary.specs.Tables.{table}
-use Rattle.summary.proofs.Places.{out, inside}
+use native.Mathlib.Numerals.{add-one}
+use lib.ListN.{length, replicate, length-append, length-replicate, getD, take, drop, set, length-drop, length-set, List·getD-append}
+use lib.Seq.{take-at, drop-at, take-append-le, drop-append-le, drop-append-add, set-append-left}
+use Rattle.tables.specs.Contracts.{put-in, taken-at}
+use Rattle.summary.specs.Entries.{Entry, rows-of, counts-of}
+use Rattle.summary.specs.Tables.{table, entries-of}
+use Rattle.summary.proofs.Entries.Columns.{length-inside, length-out, out, inside}
+
+pub length-table : (places : ℕ) (xs : List ℕ) → length xs ≤ places → length (table places xs) ≡ places
+unfolding table
+length-table places xs h =
+    rw (length-append xs (replicate (places - length xs) 0), length-replicate {A = ℕ} (places - length xs) 0) (omega arith)
 
 pub take-table : (places : ℕ) (xs : List ℕ) → take (length xs) (table places xs) ≡ xs
 unfolding table
@@ -21,12 +27,6 @@ getD-table places xs i h = List·getD-append xs (replicate (places - length xs) 
 pub set-table : (places : ℕ) (xs : List ℕ) (i v : ℕ) → i < length xs → set (table places xs) i v ≡ table places (set xs i v)
 unfolding table
 set-table places xs i v h = rw (length-set xs i v) (set-append-left xs (replicate (places - length xs) 0) i v h)
-
-pub length-inside : (at x : ℕ) (xs : List ℕ) → at ≤ length xs → length (inside at x xs) ≡ length xs + 1
-length-inside at x xs h = rw (length-append (take at xs) (x ∷ drop at xs), length-take at xs, length-drop at xs) (omega arith)
-
-pub length-out : (at : ℕ) (xs : List ℕ) → at < length xs → length (out at xs) ≡ length xs - 1
-length-out at xs h = rw (length-append (take at xs) (drop (suc at) xs), length-take at xs, length-drop (suc at) xs) (omega arith)
 
 drop-zeros : (n : ℕ) → drop {A = ℕ} 1 (replicate n 0) ≡ replicate (n - 1) 0
 drop-zeros zero = refl
@@ -48,10 +48,7 @@ taken-at-table places xs at h room =
     let more : suc (places - length xs) ≡ places - length (out at xs) = omega (arith, length-out at xs h) in
     rw (add-one at, take-append-le at xs zeros (omega arith), drop-append-le (suc at) xs zeros h, rest, drop-at xs zeros (length xs) refl, ← more)
 
--- the used part of a list, from a place on
-pub used-step : (list : List ℕ) (used i : ℕ) → used ≤ length list → i < used → drop i (take used list) ≡ getD list i 0 ∷ drop (suc i) (take used list)
-used-step list used i fits h =
-    rw (← getD-take used list i 0 h) (drop-cons (take used list) i 0 (omega (arith, length-take-le used list fits)))
-
-pub used-none : (list : List ℕ) (used i : ℕ) → used ≤ length list → used ≤ i → drop i (take used list) ≡ []
-used-none list used i fits h = drop-of-length-le (take used list) {i = i} (omega (arith, length-take-le used list fits))
+pub entries-back : (es : List Entry) (behind behind′ : List ℕ) → entries-of (length es) (rows-of es ++ behind) (counts-of es ++ behind′) ≡ es
+unfolding entries-of rows-of counts-of
+entries-back [] behind behind′ = refl
+entries-back (x ∷ xs) behind behind′ = ap (λ (es : List Entry). x ∷ es) (entries-back xs behind behind′)

@@ -6,8 +6,8 @@ use Prim.Native.Nat.{ℕ, zero, suc, _+_, _-_, _≤_, _<_}
 use native.Mathlib.Nat.{eq-or-lt-of-le}
 use native.Mathlib.Numerals.{add-one, sub-one}
 use native.Mathlib.Omega.{arith}
-use Rattle.device.specs.Refusal.{Outcome, accepted, refused}
 use Rattle.laws.proofs.Cases.{split, zero-one}
+use Rattle.device.specs.Refusal.{accepted, refused}
 use Rattle.bound.specs.Least.{or-else, first-from}
 
 -- a number of a range that passes, none before it in the range does

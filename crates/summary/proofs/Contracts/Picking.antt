@@ -1,75 +1,19 @@
--- Loops over the tables: what is left to do on the summary as it is now is what was to be done on the one at the start.
-use mathlib.Core.Path.{_≡_, refl, ap, sym, _∙_}
-use mathlib.Core.Logic.{⊎-elim}
+-- The loop that picks: the place of the highest count, and what is left to pick after the rows named so far.
+use mathlib.Core.Path.{_≡_, ap, sym, _∙_}
 use mathlib.Core.List.{List, [], _∷_, _++_, append-assoc, append-nil}
-use Prim.Native.Nat.{ℕ, zero, suc, _+_, _-_, _≤_, _<_}
-use native.Mathlib.Nat.{sub-zero}
-use native.Mathlib.Numerals.{add-one, sub-one}
+use Prim.Native.Nat.{ℕ, suc, _+_, _-_, _≤_, _<_}
+use native.Mathlib.Numerals.{add-one}
 use native.Mathlib.Omega.{arith}
 use lib.ListN.{length, getD, take, drop, set, length-append, length-drop}
 use lib.Seq.{drop-cons, set-at}
-use Rattle.device.specs.Victims.{rows-between}
-use Rattle.device.proofs.Neighbours.{between-step, between-none}
-use Rattle.tables.specs.Places.{equal-place, highest-place}
-use Rattle.summary.specs.Entries.{Entry, rows-of, counts-of, without, without-all, top, picks}
-use Rattle.summary.specs.Steps.{Summary, disturb, disturb-each, drop-rows}
-use Rattle.summary.specs.Rules.{Room}
-use Rattle.summary.specs.Tables.{read, Holds, Held, PickedFrom}
-use Rattle.summary.proofs.Laid.{length-rows, held-read}
-use Rattle.summary.proofs.Rules.Ceiling.{room-more, room-disturb}
-use Rattle.summary.proofs.Places.{equal-place-at, highest-place-top}
-use Rattle.summary.proofs.Stored.{tracked-few, long-rows, used-rows, used-counts, row-at-place}
-use Rattle.summary.proofs.Moves.{held-again}
-
--- a run of rows is disturbed, from `row` on
-pub record Disturbing (places low high : ℕ) (start : Summary) (rows counts : List ℕ) (k spill row : ℕ) : Type 0 where
-  pub sum : Summary
-  pub holds : Holds places 4294967296 sum rows counts k spill
-  pub same : disturb-each places (rows-between row high) sum ≡ disturb-each places (rows-between low high) start
-  pub room : Room (3999999936 + (row - low)) sum
-  pub behind : low ≤ row
-
-module _ {places low high : ℕ} {start : Summary} {rows counts : List ℕ} {k spill row : ℕ} (l : Disturbing places low high start rows counts k spill row) where
-  pub disturbing-ready : row < high → high - low ≤ 64 → Held rows counts k spill × Room 4000000000 (read rows counts k spill)
-  disturbing-ready less few = (held-again (l .holds), rw (held-read (l .holds)) (room-more (l .room) (omega (arith, l .behind))))
-
-  pub disturbing-again : row < high → {rows′ counts′ : List ℕ} {k′ spill′ : ℕ} → Holds (length rows) 4294967296 (disturb (length rows) row (read rows counts k spill)) rows′ counts′ k′ spill′ → Disturbing places low high start rows′ counts′ k′ spill′ (row + 1)
-  unfolding disturb-each
-  disturbing-again less x =
-      record {
-        sum = disturb places row (l .sum);
-        holds = rw (held-read (l .holds), long-rows (l .holds)) at x;
-        same = rw (between-step row high less) at (l .same);
-        room = room-more (room-disturb places row (l .sum) (l .room)) (omega (arith, l .behind));
-        behind = omega (arith, l .behind);
-      }
-
-  pub disturbing-done : high ≤ row → Holds places 4294967296 (disturb-each places (rows-between low high) start) rows counts k spill
-  unfolding disturb-each
-  disturbing-done past = rw (← l .same, between-none row high past) (l .holds)
-
--- a run of rows is dropped, from `row` on
-pub record Dropping (places low high : ℕ) (start : Summary) (rows counts : List ℕ) (k spill row : ℕ) : Type 0 where
-  pub sum : Summary
-  pub holds : Holds places 4294967296 sum rows counts k spill
-  pub same : drop-rows (rows-between row high) sum ≡ drop-rows (rows-between low high) start
-
-module _ {places low high : ℕ} {start : Summary} {rows counts : List ℕ} {k spill row : ℕ} (l : Dropping places low high start rows counts k spill row) where
-  pub dropping-ready : Held rows counts k spill
-  dropping-ready = held-again (l .holds)
-
-  pub dropping-again : row < high → {rows′ counts′ : List ℕ} {k′ spill′ : ℕ} → Holds (length rows) 4294967296 (drop-rows (row ∷ []) (read rows counts k spill)) rows′ counts′ k′ spill′ → Dropping places low high start rows′ counts′ k′ spill′ (row + 1)
-  unfolding drop-rows without-all
-  dropping-again less x =
-      record {
-        sum = drop-rows (row ∷ []) (l .sum);
-        holds = rw (held-read (l .holds), long-rows (l .holds)) at x;
-        same = rw (between-step row high less) at (l .same);
-      }
-
-  pub dropping-done : high ≤ row → Holds places 4294967296 (drop-rows (rows-between low high) start) rows counts k spill
-  unfolding drop-rows without-all
-  dropping-done past = rw (← l .same, between-none row high past) (l .holds)
+use Rattle.tables.specs.Contracts.{equal-place, highest-place}
+use Rattle.summary.specs.Entries.{Entry, rows-of, counts-of, without, without-all, picks}
+use Rattle.summary.specs.Steps.{Summary, drop-rows}
+use Rattle.summary.specs.Tables.{read}
+use Rattle.summary.specs.Contracts.{Holds, PickedFrom}
+use Rattle.summary.proofs.Entries.Picks.{picks-step, picks-none}
+use Rattle.summary.proofs.Contracts.Holds.{held-read, long-rows, used-rows, used-counts, row-at-place}
+use Rattle.summary.proofs.Entries.Columns.{equal-place-at, highest-place-top}
 
 -- the picked entry's place
 top-cases : (es : List Entry) → 0 < length es → (highest-place (counts-of es) < length es) × (getD (rows-of es) (highest-place (counts-of es)) 0 ∷ [] ≡ picks 1 es)
@@ -100,19 +44,6 @@ pub record Picking (places volume : ℕ) (start : Summary) (list₀ rows counts 
   pub rest : drop-rows (picks (volume - i) (sum .entries)) sum ≡ drop-rows (picks volume (start .entries)) start
   pub written : list ≡ names ++ drop i list₀
   pub most : i ≤ volume
-
-picks-step : (m r : ℕ) (es : List Entry) → 0 < length es → r ∷ [] ≡ picks 1 es → picks (suc m) es ≡ r ∷ picks m (without r es)
-unfolding picks
-picks-step m r [] h e = absurd (omega arith)
-picks-step m r (x ∷ xs) h e =
-    let same : r ≡ top x xs .row = cc in
-    rw same
-
-picks-none : (m : ℕ) (es : List Entry) → length es ≤ 0 → picks m es ≡ []
-unfolding picks
-picks-none zero es h = refl
-picks-none (suc m) [] h = refl
-picks-none (suc m) (x ∷ xs) h = absurd (omega arith)
 
 module _ {places volume : ℕ} {start : Summary} {list₀ rows counts list : List ℕ} {k spill i : ℕ} (l : Picking places volume start list₀ rows counts list k spill i) where
   pub picking-long : i ≤ length list₀ → length list ≡ length list₀

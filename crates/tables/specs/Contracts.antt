@@ -1,6 +1,7 @@
--- What the operations on one table of numbers do: where a number stands or belongs, and a place put in or taken out.
-use Prim.Native.Nat.{ℕ, zero, suc, _+_, _-_, _<_}
-use mathlib.Core.Bool.{Bool, true, false, cond}
+-- Inner relations: only the contracts of the operations on one table of numbers, which no caller of the tracker reaches, say these: where a
+-- number stands or belongs, and a place put in or taken out. Nobody has to believe them: the outer contracts rest on them.
+use Prim.Native.Nat.{ℕ, suc, _+_, _-_, _<_}
+use mathlib.Core.Bool.{cond}
 use mathlib.Core.List.{List, [], _∷_, _++_}
 use lib.Dec.{ltb, eqb}
 use lib.ListN.{length, getD, take, drop}
