@@ -17,7 +17,7 @@ pub record Holds (places high : ℕ) (sum : Summary) (rows counts : List ℕ) (t
   pub rows-laid : rows ≡ table places (rows-of (sum .entries))
   pub counts-laid : counts ≡ table places (counts-of (sum .entries))
   pub tracked-is : tracked ≡ length (sum .entries)
-  pub spilt-is : spillover ≡ sum .spillover
+  pub spillover-is : spillover ≡ sum .spillover
   pub sound : Sound high places sum
 
 -- two tables as the functions on them want them: they hold what is read from them. Rows are 32-bit numbers

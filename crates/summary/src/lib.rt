@@ -9,7 +9,7 @@ ghost use Rattle.device.specs.Victims.{rows-between};
 ghost use Rattle.tables.specs.Contracts.{Rising, equal-place, taken-at};
 ghost use Rattle.summary.specs.Entries.{has, picks};
 ghost use Rattle.summary.specs.Steps.{disturb, disturb-each, drop-rows, enter, in-rows};
-ghost use Rattle.summary.specs.Rules.{Room};
+ghost use Rattle.summary.specs.Rules.{Room-for};
 ghost use Rattle.summary.specs.Contracts.{summary, places, Tracks, Turns, Names, picked-out};
 
 // The number of tracked rows and the spillover, which go with the tables.
@@ -77,7 +77,7 @@ pub fn drop_row(rows: &mut [u32], counts: &mut [u32], t: Tally, row: u32) -> Tal
 // A row that is not tracked is entered with one more than the spillover; a place is free.
 fn enter_row(rows: &mut [u32], counts: &mut [u32], t: Tally, row: u32) -> Tally
     requires { ⌜ Tracks rows counts t ⌝ }
-    requires { ⌜ (t .tracked < length (now rows)) × (t .spillover ≤ 4000000000) ⌝ }
+    requires { ⌜ (t .tracked < length (now rows)) × (t .spillover < 4294967295) ⌝ }
     requires { ⌜ has row (summary rows counts t .entries) ≡ false ⌝ }
     ensures { λ r. ⌜ Turns rows counts t (enter row) r ⌝ }
 {
@@ -94,7 +94,7 @@ fn enter_row(rows: &mut [u32], counts: &mut [u32], t: Tally, row: u32) -> Tally
 // No place is free: the lowest-numbered row at the spillover makes room, or the spillover rises.
 fn disturb_full(rows: &mut [u32], counts: &mut [u32], t: Tally, row: u32) -> Tally
     requires { ⌜ Tracks rows counts t ⌝ }
-    requires { ⌜ (t .tracked ≡ length (now rows)) × (t .spillover ≤ 4000000000) ⌝ }
+    requires { ⌜ (t .tracked ≡ length (now rows)) × (t .spillover < 4294967295) ⌝ }
     requires { ⌜ has row (summary rows counts t .entries) ≡ false ⌝ }
     ensures { λ r. ⌜ Turns rows counts t (disturb (places rows) row) r ⌝ }
 {
@@ -114,7 +114,7 @@ fn disturb_full(rows: &mut [u32], counts: &mut [u32], t: Tally, row: u32) -> Tal
 // 'Disturbing one row'.
 pub fn disturb_row(rows: &mut [u32], counts: &mut [u32], t: Tally, row: u32) -> Tally
     requires { ⌜ Tracks rows counts t ⌝ }
-    requires { ⌜ Room 4000000000 (summary rows counts t) ⌝ }
+    requires { ⌜ Room-for 1 (summary rows counts t) ⌝ }
     ensures { λ r. ⌜ Turns rows counts t (disturb (places rows) row) r ⌝ }
 {
     let k = t.tracked;
@@ -133,7 +133,7 @@ pub fn disturb_row(rows: &mut [u32], counts: &mut [u32], t: Tally, row: u32) -> 
 // The rows from one on and below another are disturbed, ascending.
 pub fn disturb_run(rows: &mut [u32], counts: &mut [u32], t: Tally, low: u32, high: u32) -> Tally
     requires { ⌜ Tracks rows counts t ⌝ }
-    requires { ⌜ (high - low ≤ 64) × Room 3999999936 (summary rows counts t) ⌝ }
+    requires { ⌜ (high - low ≤ 64) × Room-for 64 (summary rows counts t) ⌝ }
     ensures { λ r. ⌜ Turns rows counts t (disturb-each (places rows) (rows-between low high)) r ⌝ }
 {
     let mut left = t;

@@ -67,7 +67,7 @@ module _ {places high : ℕ} {sum : Summary} {rows counts : List ℕ} {k spillov
       (place-few row p e)
       room
       (rw at (rows-entered row (sum .spillover + 1) (h .sound .ordered) untracked))
-      (rw (at, h .spilt-is) (counts-entered row (sum .spillover + 1) (h .sound .ordered) untracked))
+      (rw (at, h .spillover-is) (counts-entered row (sum .spillover + 1) (h .sound .ordered) untracked))
 
   -- a count rises
   pub holds-raise : (row p : ℕ) → p ≡ equal-place row (take k rows) → p < k → Holds places high (raise row sum) rows (set counts p (getD counts p 0 + 1)) k spillover
@@ -93,7 +93,7 @@ module _ {places high : ℕ} {sum : Summary} {rows counts : List ℕ} {k spillov
         rows-laid = h .rows-laid;
         counts-laid = h .counts-laid;
         tracked-is = h .tracked-is;
-        spilt-is = omega (arith, h .spilt-is);
+        spillover-is = omega (arith, h .spillover-is);
         sound = sound-spill sum up (h .sound);
       }
 
@@ -110,7 +110,7 @@ module _
     unfolding fewer
     between = rw (er, ec, ek, es) (holds-without-count h spillover q at less)
 
-    pub exchange-ready : spillover ≤ 4000000000 → Held rows′ counts′ k′ spillover′ × (((k′ < length rows′) × (spillover′ ≤ 4000000000)) × (has row (read rows′ counts′ k′ spillover′ .entries) ≡ false))
+    pub exchange-ready : spillover < 4294967295 → Held rows′ counts′ k′ spillover′ × (((k′ < length rows′) × (spillover′ < 4294967295)) × (has row (read rows′ counts′ k′ spillover′ .entries) ≡ false))
     unfolding fewer
     exchange-ready small = (
       held-again between,
@@ -120,9 +120,9 @@ module _
     pub exchange-done : {rows″ counts″ : List ℕ} {k″ spillover″ : ℕ} → Holds (length rows′) 4294967296 (enter row (read rows′ counts′ k′ spillover′)) rows″ counts″ k″ spillover″ → Holds places 4294967296 (disturb places row sum) rows″ counts″ k″ spillover″
     unfolding fewer
     exchange-done x =
-        let low : has-count (sum .spillover) (sum .entries) ≡ true = rw (h .spilt-is) at (count-found h spillover q at less) in
+        let low : has-count (sum .spillover) (sum .entries) ≡ true = rw (h .spillover-is) at (count-found h spillover q at less) in
         let made : disturb places row sum ≡ enter row (make-room sum) = disturb-exchange places row sum untracked (omega (arith, h .tracked-is)) low in
-        let room : make-room sum ≡ fewer = ap (λ (n : ℕ). record { entries = without-count n (sum .entries); spillover = sum .spillover }) (sym (h .spilt-is)) in
+        let room : make-room sum ≡ fewer = ap (λ (n : ℕ). record { entries = without-count n (sum .entries); spillover = sum .spillover }) (sym (h .spillover-is)) in
         let same : disturb places row sum ≡ enter row (read rows′ counts′ k′ spillover′) =
         made ∙ ap (λ (s : Summary). enter row s) (room ∙ sym (held-read between)) in
         rw (same, ← long-rows between) x

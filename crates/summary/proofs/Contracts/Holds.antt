@@ -22,7 +22,7 @@ held-read {places} {sum = sum} h =
       h .rows-laid,
       h .counts-laid,
       h .tracked-is,
-      h .spilt-is,
+      h .spillover-is,
       entries-back (sum .entries) (replicate (places - length (rows-of (sum .entries))) 0) (replicate (places - length (counts-of (sum .entries))) 0),
     )
 
@@ -67,7 +67,7 @@ module _ {places high : ℕ} {sum : Summary} {rows counts : List ℕ} {k spill :
           tracked-is =
               omega
               (arith, rows-long, length-out at (rows-of (sum .entries)) (omega (arith, rows-long)), ap length rs, length-rows (sum′ .entries));
-          spilt-is = h .spilt-is ∙ sym same;
+          spillover-is = h .spillover-is ∙ sym same;
           sound = sound;
         }
 
@@ -79,7 +79,7 @@ module _ {places high : ℕ} {sum : Summary} {rows counts : List ℕ} {k spill :
           tracked-is =
               omega
               (arith, rows-long, length-inside at row (rows-of (sum .entries)) (omega (arith, rows-long)), ap length rs, length-rows (sum′ .entries));
-          spilt-is = h .spilt-is ∙ sym same;
+          spillover-is = h .spillover-is ∙ sym same;
           sound = sound;
         }
 
@@ -89,7 +89,7 @@ module _ {places high : ℕ} {sum : Summary} {rows counts : List ℕ} {k spill :
           rows-laid = rw rs (h .rows-laid);
           counts-laid = rw (h .counts-laid, cs) (set-table places (counts-of (sum .entries)) at v (omega (arith, counts-long)));
           tracked-is = omega (arith, rows-long, ap length rs, length-rows (sum′ .entries));
-          spilt-is = h .spilt-is ∙ sym same;
+          spillover-is = h .spillover-is ∙ sym same;
           sound = sound;
         }
 

@@ -8,7 +8,7 @@ use Rattle.device.specs.Victims.{rows-between}
 use Rattle.device.proofs.Victims.{between-step, between-none}
 use Rattle.summary.specs.Entries.{without-all}
 use Rattle.summary.specs.Steps.{Summary, disturb, disturb-each, drop-rows}
-use Rattle.summary.specs.Rules.{Room}
+use Rattle.summary.specs.Rules.{Room, Room-for}
 use Rattle.summary.specs.Tables.{read}
 use Rattle.summary.specs.Contracts.{Holds, Held}
 use Rattle.summary.proofs.Contracts.Holds.{held-read, long-rows, held-again}
@@ -19,11 +19,11 @@ pub record Disturbing (places low high : ℕ) (start : Summary) (rows counts : L
   pub sum : Summary
   pub holds : Holds places 4294967296 sum rows counts k spill
   pub same : disturb-each places (rows-between row high) sum ≡ disturb-each places (rows-between low high) start
-  pub room : Room (3999999936 + (row - low)) sum
+  pub room : Room (4294967231 + (row - low)) sum
   pub behind : low ≤ row
 
 module _ {places low high : ℕ} {start : Summary} {rows counts : List ℕ} {k spill row : ℕ} (l : Disturbing places low high start rows counts k spill row) where
-  pub disturbing-ready : row < high → high - low ≤ 64 → Held rows counts k spill × Room 4000000000 (read rows counts k spill)
+  pub disturbing-ready : row < high → high - low ≤ 64 → Held rows counts k spill × Room-for 1 (read rows counts k spill)
   disturbing-ready less few = (held-again (l .holds), rw (held-read (l .holds)) (room-more (l .room) (omega (arith, l .behind))))
 
   pub disturbing-again : row < high → {rows′ counts′ : List ℕ} {k′ spill′ : ℕ} → Holds (length rows) 4294967296 (disturb (length rows) row (read rows counts k spill)) rows′ counts′ k′ spill′ → Disturbing places low high start rows′ counts′ k′ spill′ (row + 1)

@@ -9,25 +9,25 @@ use Rattle.summary.proofs.Rules.Ceiling.{ceiling-higher, ceiling-raised
 use Rattle.summary.proofs.Steps.Disturb.{by-cases}
 
 pub room-more : {most most′ : ℕ} {s : Summary} → Room most s → most ≤ most′ → Room most′ s
-room-more r h = record { counts = ceiling-higher (r .counts) h; spilt = omega (arith, r .spilt) }
+room-more r h = record { counts = ceiling-higher (r .counts) h; spillover-le = omega (arith, r .spillover-le) }
 
 pub room-drop : {most : ℕ} (rows : List ℕ) {s : Summary} → Room most s → Room most (drop-rows rows s)
 unfolding drop-rows
-room-drop rows r = record { counts = ceiling-without-all rows (r .counts); spilt = r .spilt }
+room-drop rows r = record { counts = ceiling-without-all rows (r .counts); spillover-le = r .spillover-le }
 
 pub room-disturb : {most : ℕ} (counters row : ℕ) (s : Summary) → Room most s → Room (most + 1) (disturb counters row s)
 room-disturb {most} counters row s r =
     by-cases (λ made. Room (most + 1) made) counters row s
-    (λ tracked. record { counts = ceiling-raised row (r .counts); spilt = more })
-    (λ untracked free. record { counts = ceiling-entered row (s .spillover + 1) higher raised-spill; spilt = more })
-    (λ untracked full low. record { counts = ceiling-entered row (s .spillover + 1) (ceiling-without-count (s .spillover) higher) raised-spill; spilt = more })
-    (λ untracked full high. record { counts = higher; spilt = raised-spill })
+    (λ tracked. record { counts = ceiling-raised row (r .counts); spillover-le = more })
+    (λ untracked free. record { counts = ceiling-entered row (s .spillover + 1) higher raised-spill; spillover-le = more })
+    (λ untracked full low. record { counts = ceiling-entered row (s .spillover + 1) (ceiling-without-count (s .spillover) higher) raised-spill; spillover-le = more })
+    (λ untracked full high. record { counts = higher; spillover-le = raised-spill })
   where
     more : s .spillover ≤ most + 1
-    more = omega (arith, r .spilt)
+    more = omega (arith, r .spillover-le)
 
     raised-spill : s .spillover + 1 ≤ most + 1
-    raised-spill = omega (arith, r .spilt)
+    raised-spill = omega (arith, r .spillover-le)
 
     higher : Ceiling (most + 1) (s .entries)
     higher = ceiling-higher (r .counts) (omega arith)

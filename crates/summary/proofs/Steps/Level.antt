@@ -99,7 +99,7 @@ unfolding drop-rows
 level-drop rows {s} l =
     record { level = l .level; above = l .above; small = omega (arith, excess-without-all (l .level) rows (s .entries)) }
 
--- nothing tracked and nothing spilt is below any sum
+-- nothing tracked and no spillover is below any sum
 pub level-empty : {size : ℕ} (most : ℕ) → Level size most empty
 unfolding empty excess
 level-empty most = record { level = 0; above = omega arith; small = omega arith }

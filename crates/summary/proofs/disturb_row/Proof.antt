@@ -39,7 +39,7 @@ unfolding read
 enter-row-requires c κs =
     let a = c .before .before .before .before .before .before .before .before in
     let p = c .before .before .before .before .lookup in
-    (a .pre .0, ((c .before .before .if2 .taken, a .pre .1 .spilt), has-missed (a .pre .0) (a .args .row) (p .result) (p .ensures) (c .before .before .before .if1 .left)))
+    (a .pre .0, ((c .before .before .if2 .taken, omega (arith, a .pre .1 .spillover-le)), has-missed (a .pre .0) (a .args .row) (p .result) (p .ensures) (c .before .before .before .if1 .left)))
 
 disturb-full-requires : tie.Need-disturb-full-requires
 unfolding read
@@ -48,7 +48,7 @@ disturb-full-requires c κs =
     let p = c .before .before .before .before .lookup in (
       a .pre .0,
       (
-        (omega (arith, c .before .before .if2 .left, tracked-few (a .pre .0)), a .pre .1 .spilt),
+        (omega (arith, c .before .before .if2 .left, tracked-few (a .pre .0)), omega (arith, a .pre .1 .spillover-le)),
         has-missed (a .pre .0) (a .args .row) (p .result) (p .ensures) (c .before .before .before .if1 .left),
       ),
     )
