@@ -4,7 +4,7 @@ use mathlib.Core.Path.{_≡_}
 use mathlib.Core.Bool.{true, false}
 use Rattle.device.specs.declared.Settings.{Settings}
 use Rattle.device.specs.Refusal.{accepted, refused, first-failed}
-use Rattle.device.specs.Acceptance.{settings-tests}
+use Rattle.device.specs.Acceptance.{most-counters, settings-tests}
 use Rattle.bound.specs.Totals.{bound-at, bound-of}
 use Rattle.bound.specs.Least.{with-counters, meets, least-of}
 
@@ -19,7 +19,7 @@ Bound-falls-with-counters = (s : Settings) (c d : ℕ) → c ≤ d → bound-of 
 -- the least count meets the threshold, and no smaller one from V on does
 pub record Least (s : Settings) (threshold c : ℕ) : Type 0 where
   pub from-volume : s .volume ≤ c
-  pub allowed : c ≤ 2048
+  pub allowed : c ≤ most-counters
   pub meets-it : meets s threshold c ≡ true
   pub none-before : (d : ℕ) → s .volume ≤ d → d < c → meets s threshold d ≡ false
 
@@ -28,8 +28,8 @@ Least-is-least = (s : Settings) (threshold c : ℕ) → least-of s threshold ≡
 
 -- refusal 12 exactly if no count from V to 2,048 meets the threshold
 pub record Twelve (s : Settings) (threshold : ℕ) : Type 0 where
-  pub means-none : least-of s threshold ≡ refused 12 → (c : ℕ) → s .volume ≤ c → c ≤ 2048 → meets s threshold c ≡ false
-  pub of-none : ((c : ℕ) → s .volume ≤ c → c ≤ 2048 → meets s threshold c ≡ false) → least-of s threshold ≡ refused 12
+  pub means-none : least-of s threshold ≡ refused 12 → (c : ℕ) → s .volume ≤ c → c ≤ most-counters → meets s threshold c ≡ false
+  pub of-none : ((c : ℕ) → s .volume ≤ c → c ≤ most-counters → meets s threshold c ≡ false) → least-of s threshold ≡ refused 12
 
 unfoldable pub Twelve-is-none : Type 0
 Twelve-is-none = (s : Settings) (threshold : ℕ) → Twelve s threshold

@@ -9,7 +9,7 @@ use lib.Dec.{leb, eqb, lit≤}
 use Rattle.laws.proofs.Cases.{zero-one}
 use Rattle.device.specs.declared.Settings.{Settings}
 use Rattle.device.specs.Refusal.{Test, first-failed, unless}
-use Rattle.device.specs.Acceptance.{within, rows-allowed, diameter-allowed, block-allowed, settings-tests-with, settings-tests, settings-tests-but-counters}
+use Rattle.device.specs.Acceptance.{most-rows, most-counters, within, rows-allowed, diameter-allowed, block-allowed, settings-tests-with, settings-tests, settings-tests-but-counters}
 use Rattle.device.proofs.Refusal.{refuse-passed, refuse-le, or-later, later-refuse}
 
 -- a number from low to high
@@ -19,7 +19,7 @@ pub record Between (low high x : ℕ) : Type 0 where
 
 -- accepted-settings settings, whatever the counter count
 pub record InRange (s : Settings) : Type 0 where
-  pub rows : Between 16 65536 (s .rows)
+  pub rows : Between 16 most-rows (s .rows)
   pub rows-whole : s .rows % 16 ≡ 0
   pub diameter : (s .«blast_diameter» ≡ 2) ⊎ (s .«blast_diameter» ≡ 4)
   pub volume : Between 1 16 (s .volume)
@@ -31,7 +31,7 @@ pub record InRange (s : Settings) : Type 0 where
 -- accepted-settings settings
 pub record Accepted (s : Settings) : Type 0 where
   pub others : InRange s
-  pub counters : Between (s .volume) 2048 (s .counters)
+  pub counters : Between (s .volume) most-counters (s .counters)
 
 pub both : (a b : Bool) → (a && b) ≡ true → (a ≡ true) × (b ≡ true)
 both true b e = (refl, e)
@@ -61,11 +61,11 @@ tests-passed counters-allowed s e =
     let p5 = refuse-passed (within 1 4096 (s .interval)) 4 _ (p4 .1) in
     let p6 = refuse-passed (within 1 8192 (s .window)) 5 _ (p5 .1) in
     let p7 = refuse-passed (block-allowed (s .block) (s .window) (s .rows)) 6 _ (p6 .1) in
-    let whole = both (within 16 65536 (s .rows)) (eqb (s .rows % 16) 0) (p1 .0) in
+    let whole = both (within 16 most-rows (s .rows)) (eqb (s .rows % 16) 0) (p1 .0) in
     let regular = both (within 1 64 (s .block)) (leb (s .rows) (s .block * s .window)) (p7 .0) in (
       p4 .0,
       record {
-        rows = between 16 65536 (s .rows) (whole .0);
+        rows = between 16 most-rows (s .rows) (whole .0);
         rows-whole = eqb-true (s .rows % 16) 0 (whole .1);
         diameter = diameter-of (s .«blast_diameter») (p2 .0);
         volume = between 1 16 (s .volume) (p3 .0);
@@ -79,8 +79,8 @@ tests-passed counters-allowed s e =
 pub accepted-settings : (s : Settings) → first-failed (settings-tests s) ≡ 0 → Accepted s
 unfolding settings-tests
 accepted-settings s e =
-    let parts = tests-passed (within (s .volume) 2048 (s .counters)) s e in
-    record { others = parts .1; counters = between (s .volume) 2048 (s .counters) (parts .0) }
+    let parts = tests-passed (within (s .volume) most-counters (s .counters)) s e in
+    record { others = parts .1; counters = between (s .volume) most-counters (s .counters) (parts .0) }
 
 pub accepted-but-counters : (s : Settings) → first-failed (settings-tests-but-counters s) ≡ 0 → InRange s
 unfolding settings-tests-but-counters
@@ -89,7 +89,7 @@ accepted-but-counters s e = tests-passed true s e .1
 -- accepted-settings settings pass the tests that skip the counter count
 pub accepted-skipping : (s : Settings) → first-failed (settings-tests s) ≡ 0 → first-failed (settings-tests-but-counters s) ≡ 0
 unfolding settings-tests settings-tests-but-counters
-accepted-skipping s e = rw (tests-passed (within (s .volume) 2048 (s .counters)) s e .0) at e
+accepted-skipping s e = rw (tests-passed (within (s .volume) most-counters (s .counters)) s e .0) at e
 
 -- the settings' refusals-le are 1 to 7
 refusals-with-le : (counters-allowed : Bool) (s : Settings) → first-failed (settings-tests-with counters-allowed s) ≤ 7
@@ -105,7 +105,7 @@ refusals-with-le counters-allowed s =
 
 pub refusals-le : (s : Settings) → first-failed (settings-tests s) ≤ 7
 unfolding settings-tests
-refusals-le s = refusals-with-le (within (s .volume) 2048 (s .counters)) s
+refusals-le s = refusals-with-le (within (s .volume) most-counters (s .counters)) s
 
 pub refusals-but-counters-le : (s : Settings) → first-failed (settings-tests-but-counters s) ≤ 7
 unfolding settings-tests-but-counters
@@ -119,7 +119,7 @@ settings-then s later =
       later-refuse (not (rows-allowed (s .rows))) 0,
       later-refuse (not (diameter-allowed (s .«blast_diameter»))) 1,
       later-refuse (not (within 1 16 (s .volume))) 2,
-      later-refuse (not (within (s .volume) 2048 (s .counters))) 3,
+      later-refuse (not (within (s .volume) most-counters (s .counters))) 3,
       later-refuse (not (within 1 4096 (s .interval))) 4,
       later-refuse (not (within 1 8192 (s .window))) 5,
       later-refuse (not (block-allowed (s .block) (s .window) (s .rows))) 6,

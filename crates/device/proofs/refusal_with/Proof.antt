@@ -16,9 +16,9 @@ returns c =
       c .before .before .before .before .before .refuse-unless2 .ensures,
       c .before .before .before .before .before .before .refuse-unless .ensures,
       c .before .before .before .before .before .before .before .block-in-range .ensures,
-      c .before .before .before .before .before .before .before .before .within3 .ensures,
-      c .before .before .before .before .before .before .before .before .before .within2 .ensures,
-      c .before .before .before .before .before .before .before .before .before .before .within .ensures,
+      c .before .before .before .before .before .before .before .before .is-within3 .ensures,
+      c .before .before .before .before .before .before .before .before .before .is-within2 .ensures,
+      c .before .before .before .before .before .before .before .before .before .before .is-within .ensures,
       c .before .before .before .before .before .before .before .before .before .before .before .diameter-in-range .ensures,
       c .before .before .before .before .before .before .before .before .before .before .before .before .rows-in-range .ensures,
     )

@@ -1,11 +1,11 @@
--- `bound::size` meets its contract.
+-- `bound::size_at` meets its contract.
 use Prim.Native.Nat.{_≤_}
 use native.Mathlib.Nat.{mul-le-mul}
 use native.Mathlib.Omega.{arith}
 use borrow.Author.Needs.{needs}
 use Rattle.bound.specs.Totals.{size}
-use Rattle.bound.proofs.size.Statement.{statement}
-use Rattle.bound.proofs.size.Tie as tie
+use Rattle.bound.proofs.size_at.Statement.{statement}
+use Rattle.bound.proofs.size_at.Tie as tie
 
 mul-linear : tie.Need-mul-linear
 mul-linear c =
@@ -27,5 +27,5 @@ returns-2 : tie.Need-returns-2
 unfolding size
 returns-2 c = omega arith
 
-pub size-spec : {M : Type 1} → statement M
-size-spec = tie.close (tie.spec mul-linear add-linear (λ c. search needs) returns returns-2)
+pub size-at-spec : {M : Type 1} → statement M
+size-at-spec = tie.close (tie.spec mul-linear add-linear (λ c. search needs) returns returns-2)

@@ -1,4 +1,4 @@
--- `bound::total` meets its contract. The invariant: the steps that are left, taken from t, give what all the steps give from 0;
+-- `bound::total_of` meets its contract. The invariant: the steps that are left, taken from t, give what all the steps give from 0;
 -- and t with what the steps left can add is at most what all of them can.
 use mathlib.Core.Path.{_≡_, refl, _∙_, sym}
 use Prim.Native.Nat.{ℕ, zero, suc, _+_, _-_, _*_, _/_, _^_, _≤_, _<_}
@@ -8,8 +8,8 @@ use native.Mathlib.Omega.{arith}
 use Rattle.bound.specs.Totals.{size, total}
 use Rattle.bound.proofs.Totals.Size.{size-positive, size-most, size-grows}
 use Rattle.bound.proofs.Totals.Total.{total-step, step-small}
-use Rattle.bound.proofs.total.Statement.{statement}
-use Rattle.bound.proofs.total.Tie as tie
+use Rattle.bound.proofs.total_of.Statement.{statement}
+use Rattle.bound.proofs.total_of.Tie as tie
 
 record Left (volume counters added steps t j : ℕ) : Type 0 where
   same : total (size volume counters) added j t ≡ total (size volume counters) added steps 0
@@ -49,24 +49,24 @@ done (suc j) l h = absurd (omega arith)
 loop-holds : tie.Need-loop-holds Inv-loop μ-loop
 loop-holds c = record { same = refl; fewer = omega arith; small = omega arith }
 
-sub-size : tie.Need-sub-size Inv-loop μ-loop
-sub-size c = omega arith
+sub-size-at : tie.Need-sub-size-at Inv-loop μ-loop
+sub-size-at c = omega arith
 
-size-requires : tie.Need-size-requires Inv-loop μ-loop
-size-requires c κs = omega (arith, c .before .loop .inv .fewer)
+size-at-requires : tie.Need-size-at-requires Inv-loop μ-loop
+size-at-requires c κs = omega (arith, c .before .loop .inv .fewer)
 
-size-requires-2 : tie.Need-size-requires-2 Inv-loop μ-loop
-size-requires-2 c κs = omega (arith, c .before .before .loop .inv .fewer)
+size-at-requires-2 : tie.Need-size-at-requires-2 Inv-loop μ-loop
+size-at-requires-2 c κs = omega (arith, c .before .before .loop .inv .fewer)
 
 step-requires : tie.Need-step-requires Inv-loop μ-loop
 step-requires c κs =
     let a = c .before .before .before .before .args in
     let l = c .before .before .before .loop in
     let small = below (l .inv) (omega arith) (omega arith) in
-    let most : c .before .size .result ≤ a .counters + 1 = rw (c .before .size .ensures) (size-most (a .volume) (a .counters) (l .j - 1)) in (
+    let most : c .before .size-at .result ≤ a .counters + 1 = rw (c .before .size-at .ensures) (size-most (a .volume) (a .counters) (l .j - 1)) in (
       omega arith,
-      product (l .t + a .added) (c .before .size .result) (a .counters) small most (omega arith),
-      rw (c .size2 .ensures) (size-positive (a .volume) (a .counters) (l .j)),
+      product (l .t + a .added) (c .before .size-at .result) (a .counters) small most (omega arith),
+      rw (c .size-at2 .ensures) (size-positive (a .volume) (a .counters) (l .j)),
     )
 
 sub-j : tie.Need-sub-j Inv-loop μ-loop
@@ -78,21 +78,21 @@ loop-less c = omega arith
 loop-again : tie.Need-loop-again Inv-loop μ-loop
 loop-again c =
     let l = c .before .before .before .before .loop in
-    rw (c .step .ensures, c .before .size2 .ensures, c .before .before .size .ensures) (again (l .j) (l .inv) (omega arith))
+    rw (c .step .ensures, c .before .size-at2 .ensures, c .before .before .size-at .ensures) (again (l .j) (l .inv) (omega arith))
 
 returns : tie.Need-returns Inv-loop μ-loop
 returns c = done (c .before .loop .j) (c .before .loop .inv) (c .loop-test .left)
 
-pub total-spec : {M : Type 1} → statement M
-total-spec =
+pub total-of-spec : {M : Type 1} → statement M
+total-of-spec =
     tie.close
     (tie.spec
     Inv-loop
     μ-loop
     loop-holds
-    sub-size
-    size-requires
-    size-requires-2
+    sub-size-at
+    size-at-requires
+    size-at-requires-2
     step-requires
     sub-j
     loop-less
