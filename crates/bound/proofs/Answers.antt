@@ -10,32 +10,32 @@ use Rattle.device.proofs.Acceptance.{accepted-skipping, accepted-but-counters, 
 use Rattle.bound.specs.Totals.{bound-of}
 use Rattle.bound.specs.Least.{with-counters, meets, first-from, or-else, least-of}
 use Rattle.bound.specs.Answers.{Small, bound-answer, least-answer}
-use Rattle.bound.proofs.Totals.Bound.{bound-small}
+use Rattle.bound.proofs.Totals.Bound.{bound-lt}
 
-tested-small : (k : ℕ) (answer : Outcome ℕ) → k ≤ 7 → (k ≡ 0 → Small answer) → Small (tested k answer)
+small-tested : (k : ℕ) (answer : Outcome ℕ) → k ≤ 7 → (k ≡ 0 → Small answer) → Small (tested k answer)
 unfolding tested Small
-tested-small zero answer few small = small refl
-tested-small (suc k) answer few small = omega arith
+small-tested zero answer few small = small refl
+small-tested (suc k) answer few small = omega arith
 
-pub bound-answer-small : (s : Settings) → Small (bound-answer s)
+pub small-bound-answer : (s : Settings) → Small (bound-answer s)
 unfolding bound-answer Small with-counters
-bound-answer-small s =
-    tested-small (first-failed (settings-tests s)) (accepted (bound-of s)) (refusals-le s)
-    (λ e. omega (arith, bound-small s (s .counters) (accepted-but-counters s (accepted-skipping s e))))
+small-bound-answer s =
+    small-tested (first-failed (settings-tests s)) (accepted (bound-of s)) (refusals-le s)
+    (λ e. omega (arith, bound-lt s (s .counters) (accepted-but-counters s (accepted-skipping s e))))
 
-chosen : (b : Bool) (c : ℕ) (later : Outcome ℕ) → c < 2 ^ 63 → Small later → Small (or-else b c later)
+small-or-else : (b : Bool) (c : ℕ) (later : Outcome ℕ) → c < 2 ^ 63 → Small later → Small (or-else b c later)
 unfolding or-else Small
-chosen true c later h small = h
-chosen false c later h small = small
+small-or-else true c later h small = h
+small-or-else false c later h small = small
 
-first-small : (passes : ℕ → Bool) (k c : ℕ) → k + c ≤ 2 ^ 62 → Small (first-from passes k c)
+small-first-from : (passes : ℕ → Bool) (k c : ℕ) → k + c ≤ 2 ^ 62 → Small (first-from passes k c)
 unfolding first-from Small
-first-small passes zero c h = omega arith
-first-small passes (suc k) c h =
-    chosen (passes c) c (first-from passes k (suc c)) (omega arith) (first-small passes k (suc c) (omega arith))
+small-first-from passes zero c h = omega arith
+small-first-from passes (suc k) c h =
+    small-or-else (passes c) c (first-from passes k (suc c)) (omega arith) (small-first-from passes k (suc c) (omega arith))
 
-pub least-answer-small : (s : Settings) (threshold : ℕ) → Small (least-answer s threshold)
+pub small-least-answer : (s : Settings) (threshold : ℕ) → Small (least-answer s threshold)
 unfolding least-answer least-of
-least-answer-small s threshold =
-    tested-small (first-failed (settings-tests-but-counters s)) (least-of s threshold) (refusals-but-counters-le s)
-    (λ e. first-small (meets s threshold) (2049 - s .volume) (s .volume) (omega (arith, accepted-but-counters s e .volume .most)))
+small-least-answer s threshold =
+    small-tested (first-failed (settings-tests-but-counters s)) (least-of s threshold) (refusals-but-counters-le s)
+    (λ e. small-first-from (meets s threshold) (2049 - s .volume) (s .volume) (omega (arith, accepted-but-counters s e .volume .most)))

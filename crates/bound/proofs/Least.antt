@@ -19,26 +19,26 @@ pub record First (passes : ℕ → Bool) (low high c : ℕ) : Type 0 where
 
 module _ (passes : ℕ → Bool) where
   -- the search at one more number
-  pub found-here : (k c : ℕ) → 0 < k → passes c ≡ true → first-from passes k c ≡ accepted c
+  pub first-from-here : (k c : ℕ) → 0 < k → passes c ≡ true → first-from passes k c ≡ accepted c
   unfolding first-from or-else
-  found-here zero c h e = absurd (omega arith)
-  found-here (suc k) c h e = rw e
+  first-from-here zero c h e = absurd (omega arith)
+  first-from-here (suc k) c h e = rw e
 
-  pub not-here : (k c : ℕ) → 0 < k → passes c ≡ false → first-from passes k c ≡ first-from passes (k - 1) (c + 1)
+  pub first-from-next : (k c : ℕ) → 0 < k → passes c ≡ false → first-from passes k c ≡ first-from passes (k - 1) (c + 1)
   unfolding first-from or-else
-  not-here zero c h e = absurd (omega arith)
-  not-here (suc k) c h e = rw (e, add-one c, sub-one (suc k))
+  first-from-next zero c h e = absurd (omega arith)
+  first-from-next (suc k) c h e = rw (e, add-one c, sub-one (suc k))
 
-  pub first-found : (k low c : ℕ) → first-from passes k low ≡ accepted c → First passes low (low + k) c
+  pub first-from-found : (k low c : ℕ) → first-from passes k low ≡ accepted c → First passes low (low + k) c
   unfolding first-from or-else
-  first-found zero low c e = zero-one (cc)
-  first-found (suc k) low c e =
+  first-from-found zero low c e = zero-one (cc)
+  first-from-found (suc k) low c e =
       split (passes low)
       (λ yes′.
       let here : low ≡ c = let e′ = rw yes′ at e in cc in
       record { least = omega arith; most = omega arith; met = rw (← here) yes′; before = λ d l h. absurd (omega arith) })
       (λ no′.
-      let f = first-found k (suc low) c (rw no′ at e) in
+      let f = first-from-found k (suc low) c (rw no′ at e) in
       record {
         least = omega arith;
         most = omega arith;
@@ -46,17 +46,17 @@ module _ (passes : ℕ → Bool) where
         before = λ d l h. ⊎-elim (λ same. rw (← same) no′) (λ later. f .before d later h) (eq-or-lt-of-le l);
       })
 
-  pub none-found : (k low : ℕ) → first-from passes k low ≡ refused 12 → (d : ℕ) → low ≤ d → d < low + k → passes d ≡ false
+  pub first-from-none : (k low : ℕ) → first-from passes k low ≡ refused 12 → (d : ℕ) → low ≤ d → d < low + k → passes d ≡ false
   unfolding first-from or-else
-  none-found zero low e d l h = absurd (omega arith)
-  none-found (suc k) low e d l h =
+  first-from-none zero low e d l h = absurd (omega arith)
+  first-from-none (suc k) low e d l h =
       split (passes low)
       (λ yes′. let e′ = rw yes′ at e in zero-one (cc))
       (λ no′.
-      ⊎-elim (λ same. rw (← same) no′) (λ later. none-found k (suc low) (rw no′ at e) d later (omega arith)) (eq-or-lt-of-le l))
+      ⊎-elim (λ same. rw (← same) no′) (λ later. first-from-none k (suc low) (rw no′ at e) d later (omega arith)) (eq-or-lt-of-le l))
 
-  pub found-none : (k low : ℕ) → ((d : ℕ) → low ≤ d → d < low + k → passes d ≡ false) → first-from passes k low ≡ refused 12
+  pub none-first-from : (k low : ℕ) → ((d : ℕ) → low ≤ d → d < low + k → passes d ≡ false) → first-from passes k low ≡ refused 12
   unfolding first-from or-else
-  found-none zero low none = refl
-  found-none (suc k) low none =
-      rw (none low (omega arith) (omega arith)) (found-none k (suc low) (λ d l h. none d (omega arith) (omega arith)))
+  none-first-from zero low none = refl
+  none-first-from (suc k) low none =
+      rw (none low (omega arith) (omega arith)) (none-first-from k (suc low) (λ d l h. none d (omega arith) (omega arith)))

@@ -37,19 +37,19 @@ pub both : (a b : Bool) → (a && b) ≡ true → (a ≡ true) × (b ≡ true)
 both true b e = (refl, e)
 both false b e = zero-one (cc)
 
-either : (a b : Bool) → (a || b) ≡ true → (a ≡ true) ⊎ (b ≡ true)
-either true b e = inl refl
-either false b e = inr e
+or-true-either : (a b : Bool) → (a || b) ≡ true → (a ≡ true) ⊎ (b ≡ true)
+or-true-either true b e = inl refl
+or-true-either false b e = inr e
 
-between : (low high x : ℕ) → within low high x ≡ true → Between low high x
+within-between : (low high x : ℕ) → within low high x ≡ true → Between low high x
 unfolding within
-between low high x e =
+within-between low high x e =
     let parts = both (leb low x) (leb x high) e in
     record { least = leb-true low x (parts .0); most = leb-true x high (parts .1) }
 
 diameter-of : (b : ℕ) → diameter-allowed b ≡ true → (b ≡ 2) ⊎ (b ≡ 4)
 unfolding diameter-allowed
-diameter-of b e = ⊎-map (eqb-true b 2) (eqb-true b 4) (either (eqb b 2) (eqb b 4) e)
+diameter-of b e = ⊎-map (eqb-true b 2) (eqb-true b 4) (or-true-either (eqb b 2) (eqb b 4) e)
 
 tests-passed : (counters-allowed : Bool) (s : Settings) → first-failed (settings-tests-with counters-allowed s) ≡ 0 → (counters-allowed ≡ true) × InRange s
 unfolding first-failed unless settings-tests-with rows-allowed block-allowed
@@ -65,13 +65,13 @@ tests-passed counters-allowed s e =
     let regular = both (within 1 64 (s .block)) (leb (s .rows) (s .block * s .window)) (p7 .0) in (
       p4 .0,
       record {
-        rows = between 16 most-rows (s .rows) (whole .0);
+        rows = within-between 16 most-rows (s .rows) (whole .0);
         rows-whole = eqb-true (s .rows % 16) 0 (whole .1);
         diameter = diameter-of (s .«blast_diameter») (p2 .0);
-        volume = between 1 16 (s .volume) (p3 .0);
-        interval = between 1 4096 (s .interval) (p5 .0);
-        window = between 1 8192 (s .window) (p6 .0);
-        block = between 1 64 (s .block) (regular .0);
+        volume = within-between 1 16 (s .volume) (p3 .0);
+        interval = within-between 1 4096 (s .interval) (p5 .0);
+        window = within-between 1 8192 (s .window) (p6 .0);
+        block = within-between 1 64 (s .block) (regular .0);
         covered = leb-true (s .rows) (s .block * s .window) (regular .1);
       },
     )
@@ -80,7 +80,7 @@ pub accepted-settings : (s : Settings) → first-failed (settings-tests s) ≡ 0
 unfolding settings-tests
 accepted-settings s e =
     let parts = tests-passed (within (s .volume) most-counters (s .counters)) s e in
-    record { others = parts .1; counters = between (s .volume) most-counters (s .counters) (parts .0) }
+    record { others = parts .1; counters = within-between (s .volume) most-counters (s .counters) (parts .0) }
 
 pub accepted-but-counters : (s : Settings) → first-failed (settings-tests-but-counters s) ≡ 0 → InRange s
 unfolding settings-tests-but-counters

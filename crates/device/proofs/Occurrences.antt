@@ -18,9 +18,9 @@ unfoldable pub times : ℕ → List ℕ → ℕ
 times row [] = 0
 times row (v ∷ vs) = hit v row + times row vs
 
-pub hit-most : (v row : ℕ) → hit v row ≤ 1
+pub hit-le : (v row : ℕ) → hit v row ≤ 1
 unfolding hit
-hit-most v row = split (eqb v row) (λ e. rw e (omega arith)) (λ e. rw e (omega arith))
+hit-le v row = split (eqb v row) (λ e. rw e (omega arith)) (λ e. rw e (omega arith))
 
 pub hit-other : (v row : ℕ) → (v ≡ row → ⊥) → hit v row ≡ 0
 unfolding hit

@@ -109,9 +109,9 @@ module _ (rows diameter row : ℕ) where
       (omega arith)
 
   -- at most as many as the blast diameter
-  pub victims-few : length (victims rows diameter row) ≤ diameter
+  pub length-victims-le : length (victims rows diameter row) ≤ diameter
   unfolding victims rows-between
-  victims-few = simp (length-append, from-length) (omega arith)
+  length-victims-le = simp (length-append, from-length) (omega arith)
 
 -- a run of rows, one row further, and ascends-none
 pub between-step : (row high : ℕ) → row < high → rows-between row high ≡ row ∷ rows-between (row + 1) high

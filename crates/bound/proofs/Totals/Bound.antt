@@ -7,7 +7,7 @@ use Rattle.device.specs.declared.Settings.{Settings}
 use Rattle.device.proofs.Acceptance.{InRange}
 use Rattle.bound.specs.Totals.{size, disturbers, bound-at, bound-of}
 use Rattle.bound.specs.Least.{with-counters}
-use Rattle.bound.proofs.Totals.Total.{total-grows, total-small, total-counters}
+use Rattle.bound.proofs.Totals.Total.{total-grows, total-le, total-counters}
 use Rattle.bound.proofs.Totals.Size.{size-grows}
 
 -- H does not fall as the window grows
@@ -29,22 +29,22 @@ unfolding disturbers
 disturbers-cover s = omega arith
 
 -- what an accepted device adds in a step, and its T'
-disturbers-few : (s : Settings) → InRange s → disturbers s ≤ 4176
+disturbers-le : (s : Settings) → InRange s → disturbers s ≤ 4176
 unfolding disturbers
-disturbers-few s ok = omega arith
+disturbers-le s ok = omega arith
 
-pub diameter-most : (s : Settings) → InRange s → s .«blast_diameter» ≤ 4
-diameter-most s ok = ⊎-elim (λ e. omega arith) (λ e. omega arith) (ok .diameter)
+pub diameter-le : (s : Settings) → InRange s → s .«blast_diameter» ≤ 4
+diameter-le s ok = ⊎-elim (λ e. omega arith) (λ e. omega arith) (ok .diameter)
 
-pub added-few : (s : Settings) → InRange s → s .«blast_diameter» * disturbers s ≤ 16704
-added-few s ok = omega (arith, mul-le-mul (diameter-most s ok) (disturbers-few s ok))
+pub added-le : (s : Settings) → InRange s → s .«blast_diameter» * disturbers s ≤ 16704
+added-le s ok = omega (arith, mul-le-mul (diameter-le s ok) (disturbers-le s ok))
 
 -- no bound of an accepted device, whatever its C, comes near 2^63
-pub bound-small : (s : Settings) (c : ℕ) → InRange s → bound-of (with-counters s c) < 2 ^ 28
+pub bound-lt : (s : Settings) (c : ℕ) → InRange s → bound-of (with-counters s c) < 2 ^ 28
 unfolding bound-of bound-at with-counters disturbers
-bound-small s c ok =
+bound-lt s c ok =
     let T′ : ℕ = disturbers s in
     let added : ℕ = s .«blast_diameter» * T′ in
     let steps : s .window - 1 ≤ 8191 = omega arith in
-    let whole : (s .window - 1) * added ≤ 8191 * 16704 = mul-le-mul steps (added-few s ok) in
-    omega (arith, total-small (size (s .volume) c) added (size-grows (s .volume) c) (s .window - 1) 0, disturbers-few s ok)
+    let whole : (s .window - 1) * added ≤ 8191 * 16704 = mul-le-mul steps (added-le s ok) in
+    omega (arith, total-le (size (s .volume) c) added (size-grows (s .volume) c) (s .window - 1) 0, disturbers-le s ok)

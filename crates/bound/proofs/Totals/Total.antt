@@ -5,7 +5,7 @@ use native.Mathlib.Nat.{add-zero, add-suc, le-dest, le-trans, le-refl, mul-le-mu
 use native.Mathlib.Numerals.{sub-one}
 use native.Mathlib.Omega.{arith}
 use Rattle.bound.specs.Totals.{size, total}
-use Rattle.bound.proofs.Totals.Size.{size-positive, size-ratio, div-mono, quotients}
+use Rattle.bound.proofs.Totals.Size.{size-positive, size-ratio, div-mono, div-le-div}
 
 module _ (D : ℕ → ℕ) (added : ℕ) where
   -- one step, as the code takes it
@@ -26,22 +26,22 @@ module _ (D : ℕ → ℕ) (added : ℕ) where
   unfolding total
   total-longer j = total-mono j (omega arith)
 
-  further : (j k : ℕ) → total D added j 0 ≤ total D added (j + k) 0
-  further j zero = rw add-zero (le-refl (total D added j 0))
-  further j (suc k) = rw add-suc (le-trans (further j k) (total-longer (j + k)))
+  total-further : (j k : ℕ) → total D added j 0 ≤ total D added (j + k) 0
+  total-further j zero = rw add-zero (le-refl (total D added j 0))
+  total-further j (suc k) = rw add-suc (le-trans (total-further j k) (total-longer (j + k)))
 
   pub total-grows : {j k : ℕ} → j ≤ k → total D added j 0 ≤ total D added k 0
-  total-grows {j} {k} h = let d = le-dest h in rw (d .1) at (further j (d .0))
+  total-grows {j} {k} h = let d = le-dest h in rw (d .1) at (total-further j (d .0))
 
   module _ (grows : (j : ℕ) → D j ≤ D (suc j)) where
     -- a step adds no more than what is added before it rounds
-    pub step-small : (j t : ℕ) → (t + added) * D j / D (suc j) ≤ t + added
-    step-small j t = div-le-of-le-mul (D (suc j)) (rw (mul-comm (D (suc j)) (t + added)) (mul-le-mul-left (t + added) (grows j)))
+    pub step-le : (j t : ℕ) → (t + added) * D j / D (suc j) ≤ t + added
+    step-le j t = div-le-of-le-mul (D (suc j)) (rw (mul-comm (D (suc j)) (t + added)) (mul-le-mul-left (t + added) (grows j)))
 
-    pub total-small : (j t : ℕ) → total D added j t ≤ t + j * added
+    pub total-le : (j t : ℕ) → total D added j t ≤ t + j * added
     unfolding total
-    total-small zero t = omega arith
-    total-small (suc j) t = omega (arith, total-small j ((t + added) * D j / D (suc j)), step-small j t)
+    total-le zero t = omega arith
+    total-le (suc j) t = omega (arith, total-le j ((t + added) * D j / D (suc j)), step-le j t)
 
 -- with more counters no total is higher
 pub total-counters : (v added : ℕ) {c c′ : ℕ} → c ≤ c′ → (j : ℕ) {t t′ : ℕ} → t′ ≤ t → total (size v c′) added j t′ ≤ total (size v c) added j t
@@ -52,7 +52,7 @@ total-counters v added {c} {c′} h (suc j) {t} {t′} lower =
     let lifted : (t′ + added) * (size v c′ j * size v c (suc j)) ≤ (t + added) * (size v c j * size v c′ (suc j)) =
     mul-le-mul sum (size-ratio v c c′ j h) in
     total-counters v added h j
-    (quotients
+    (div-le-div
     ((t′ + added) * size v c′ j)
     (size v c′ (suc j))
     ((t + added) * size v c j)

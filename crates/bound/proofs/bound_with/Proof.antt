@@ -6,7 +6,7 @@ use borrow.Author.Needs.{needs}
 use Rattle.device.proofs.Acceptance.{accepted-but-counters}
 use Rattle.bound.specs.Totals.{bound-of, bound-at, disturbers}
 use Rattle.bound.specs.Least.{with-counters}
-use Rattle.bound.proofs.Totals.Bound.{diameter-most, bound-small}
+use Rattle.bound.proofs.Totals.Bound.{diameter-le, bound-lt}
 use Rattle.bound.proofs.bound_with.Statement.{statement}
 use Rattle.bound.proofs.bound_with.Tie as tie
 
@@ -22,7 +22,7 @@ mul-added c =
     let a = c .before .before .before .before in
     let ok = accepted-but-counters (a .args .s) (a .pre .0) in
     let few : a .args .s .interval + a .args .s .volume + a .args .s .block ≤ 4176 = omega arith in
-    omega (arith, added-most (diameter-most (a .args .s) ok) few)
+    omega (arith, added-most (diameter-le (a .args .s) ok) few)
 
 sub-total-of : tie.Need-sub-total-of
 sub-total-of c =
@@ -33,12 +33,12 @@ total-of-requires : tie.Need-total-of-requires
 total-of-requires c κs =
     let a = c .before .before .before .before .before .before in
     let ok = accepted-but-counters (a .args .s) (a .pre .0) in
-    (ok .volume .most, a .pre .1, added-most (diameter-most (a .args .s) ok) (omega arith), omega arith)
+    (ok .volume .most, a .pre .1, added-most (diameter-le (a .args .s) ok) (omega arith), omega arith)
 
 add-result : tie.Need-add-result
 add-result c =
     let a = c .before .before .before .before .before .before .before in
-    let small = bound-small (a .args .s) (a .args .counters) (accepted-but-counters (a .args .s) (a .pre .0)) in
+    let small = bound-lt (a .args .s) (a .args .counters) (accepted-but-counters (a .args .s) (a .pre .0)) in
     omega (arith, returns c)
 
 pub bound-with-spec : {M : Type 1} → statement M

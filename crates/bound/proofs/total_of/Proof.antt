@@ -6,8 +6,8 @@ use native.Mathlib.Nat.{mul-le-mul}
 use native.Mathlib.Numerals.{sub-one}
 use native.Mathlib.Omega.{arith}
 use Rattle.bound.specs.Totals.{size, total}
-use Rattle.bound.proofs.Totals.Size.{size-positive, size-most, size-grows}
-use Rattle.bound.proofs.Totals.Total.{total-step, step-small}
+use Rattle.bound.proofs.Totals.Size.{size-positive, size-le, size-grows}
+use Rattle.bound.proofs.Totals.Total.{total-step, step-le}
 use Rattle.bound.proofs.total_of.Statement.{statement}
 use Rattle.bound.proofs.total_of.Tie as tie
 
@@ -38,7 +38,7 @@ again {v} {k} {a} {n} {t} (suc i) l h =
     record {
       same = sym (total-step (size v k) a (suc i) t h) ∙ l .same;
       fewer = omega arith;
-      small = rw (sub-one (suc i)) (omega (arith, step-small (size v k) a (size-grows v k) i t));
+      small = rw (sub-one (suc i)) (omega (arith, step-le (size v k) a (size-grows v k) i t));
     }
 
 done : {v k a n t : ℕ} (j : ℕ) → Left v k a n t j → j ≤ 0 → t ≡ total (size v k) a n 0
@@ -63,7 +63,7 @@ step-requires c κs =
     let a = c .before .before .before .before .args in
     let l = c .before .before .before .loop in
     let small = below (l .inv) (omega arith) (omega arith) in
-    let most : c .before .size-at .result ≤ a .counters + 1 = rw (c .before .size-at .ensures) (size-most (a .volume) (a .counters) (l .j - 1)) in (
+    let most : c .before .size-at .result ≤ a .counters + 1 = rw (c .before .size-at .ensures) (size-le (a .volume) (a .counters) (l .j - 1)) in (
       omega arith,
       product (l .t + a .added) (c .before .size-at .result) (a .counters) small most (omega arith),
       rw (c .size-at2 .ensures) (size-positive (a .volume) (a .counters) (l .j)),

@@ -7,7 +7,7 @@ use native.Mathlib.Omega.{arith}
 use borrow.Author.Tests.{lt-ltb, le-ltb}
 use lib.ListN.{length, getD, take, set}
 use Rattle.tables.specs.Contracts.{lower-place, equal-place, put-in, taken-at}
-use Rattle.tables.proofs.Searches.{lower-most}
+use Rattle.tables.proofs.Searches.{lower-place-le}
 use Rattle.summary.specs.Entries.{rows-of, counts-of, has, without-all, has-count, without-count}
 use Rattle.summary.specs.Steps.{Summary, disturb, drop-rows, enter, raise, make-room, spill}
 use Rattle.summary.specs.Tables.{read}
@@ -41,9 +41,9 @@ module _ {places high : ℕ} {sum : Summary} {rows counts : List ℕ} {k spillov
       has-count-place count (sum .entries) ∙
       le-ltb (equal-place count (counts-of (sum .entries))) (length (sum .entries)) (omega (arith, rw (used-counts h) at e, h .tracked-is))
 
-  pub place-few : (row p : ℕ) → p ≡ lower-place row (take k rows) → p ≤ k
-  place-few row p e =
-      omega (arith, rw (used-rows h) at e, lower-most row (rows-of (sum .entries)), length-rows (sum .entries), h .tracked-is)
+  pub place-le : (row p : ℕ) → p ≡ lower-place row (take k rows) → p ≤ k
+  place-le row p e =
+      omega (arith, rw (used-rows h) at e, lower-place-le row (rows-of (sum .entries)), length-rows (sum .entries), h .tracked-is)
 
   -- a tracked row is holds-drop
   pub holds-drop : (row p : ℕ) → p ≡ equal-place row (take k rows) → p < k → Holds places high (drop-rows (row ∷ []) sum) (taken-at rows k p) (taken-at counts k p) (k - 1) spillover
@@ -64,7 +64,7 @@ module _ {places high : ℕ} {sum : Summary} {rows counts : List ℕ} {k spillov
   holds-enter row p e untracked room less =
       let at = rw (used-rows h) at e in
       holds-put h (enter row sum) (sound-enter row sum less untracked (omega (arith, h .tracked-is)) (h .sound)) refl p row (spillover + 1)
-      (place-few row p e)
+      (place-le row p e)
       room
       (rw at (rows-entered row (sum .spillover + 1) (h .sound .ordered) untracked))
       (rw (at, h .spillover-is) (counts-entered row (sum .spillover + 1) (h .sound .ordered) untracked))

@@ -33,14 +33,14 @@ module _ {places high : ℕ} {sum : Summary} {rows counts : List ℕ} {k spill :
   counts-long : k ≡ length (counts-of (sum .entries))
   counts-long = h .tracked-is ∙ sym (length-counts (sum .entries))
 
-  pub tracked-few : k ≤ places
-  tracked-few = omega (arith, h .tracked-is, h .sound .fits)
+  pub tracked-le : k ≤ places
+  tracked-le = omega (arith, h .tracked-is, h .sound .fits)
 
   pub long-rows : length rows ≡ places
-  long-rows = rw (h .rows-laid) (length-table places (rows-of (sum .entries)) (omega (arith, rows-long, tracked-few)))
+  long-rows = rw (h .rows-laid) (length-table places (rows-of (sum .entries)) (omega (arith, rows-long, tracked-le)))
 
   pub long-counts : length counts ≡ places
-  long-counts = rw (h .counts-laid) (length-table places (counts-of (sum .entries)) (omega (arith, counts-long, tracked-few)))
+  long-counts = rw (h .counts-laid) (length-table places (counts-of (sum .entries)) (omega (arith, counts-long, tracked-le)))
 
   -- the used part of each table
   pub used-rows : take k rows ≡ rows-of (sum .entries)
@@ -62,8 +62,8 @@ module _ {places high : ℕ} {sum : Summary} {rows counts : List ℕ} {k spill :
     pub holds-taken : (at : ℕ) → at < k → rows-of (sum′ .entries) ≡ out at (rows-of (sum .entries)) → counts-of (sum′ .entries) ≡ out at (counts-of (sum .entries)) → Holds places high sum′ (taken-at rows k at) (taken-at counts k at) (k - 1) spill
     holds-taken at less rs cs =
         record {
-          rows-laid = rw (h .rows-laid, rows-long, rs) (taken-at-table places (rows-of (sum .entries)) at (omega (arith, rows-long)) (omega (arith, rows-long, tracked-few)));
-          counts-laid = rw (h .counts-laid, counts-long, cs) (taken-at-table places (counts-of (sum .entries)) at (omega (arith, counts-long)) (omega (arith, counts-long, tracked-few)));
+          rows-laid = rw (h .rows-laid, rows-long, rs) (taken-at-table places (rows-of (sum .entries)) at (omega (arith, rows-long)) (omega (arith, rows-long, tracked-le)));
+          counts-laid = rw (h .counts-laid, counts-long, cs) (taken-at-table places (counts-of (sum .entries)) at (omega (arith, counts-long)) (omega (arith, counts-long, tracked-le)));
           tracked-is =
               omega
               (arith, rows-long, length-out at (rows-of (sum .entries)) (omega (arith, rows-long)), ap length rs, length-rows (sum′ .entries));

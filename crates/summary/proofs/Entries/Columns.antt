@@ -28,12 +28,12 @@ length-inside at x xs h = rw (length-append (take at xs) (x ∷ drop at xs), len
 pub length-out : (at : ℕ) (xs : List ℕ) → at < length xs → length (out at xs) ≡ length xs - 1
 length-out at xs h = rw (length-append (take at xs) (drop (suc at) xs), length-take at xs, length-drop (suc at) xs) (omega arith)
 
--- the same test one place further, and at the first place
-further : (a b : ℕ) → ltb (suc a) (suc b) ≡ ltb a b
-further a b = leb·suc-suc (suc a) b
+-- the same test one place ltb-suc-suc, and at the first place
+ltb-suc-suc : (a b : ℕ) → ltb (suc a) (suc b) ≡ ltb a b
+ltb-suc-suc a b = leb·suc-suc (suc a) b
 
-here : (b : ℕ) → ltb 0 (suc b) ≡ true
-here b = lt-ltb 0 (suc b) (omega arith)
+ltb-zero-suc : (b : ℕ) → ltb 0 (suc b) ≡ true
+ltb-zero-suc b = lt-ltb 0 (suc b) (omega arith)
 
 -- where a row stands first
 pub has-place : (row : ℕ) (es : List Entry) → has row es ≡ ltb (equal-place row (rows-of es)) (length es)
@@ -41,8 +41,8 @@ unfolding has equal-place rows-of
 has-place row [] = refl
 has-place row (x ∷ xs) =
     split (eqb (x .row) row)
-    (λ on. rw on (sym (here (length xs))))
-    (λ off. rw off (has-place row xs ∙ sym (further (equal-place row (rows-of xs)) (length xs))))
+    (λ on. rw on (sym (ltb-zero-suc (length xs))))
+    (λ off. rw off (has-place row xs ∙ sym (ltb-suc-suc (equal-place row (rows-of xs)) (length xs))))
 
 pub rows-without : (row : ℕ) (es : List Entry) → has row es ≡ true → rows-of (without row es) ≡ out (equal-place row (rows-of es)) (rows-of es)
 unfolding has without equal-place rows-of
@@ -82,8 +82,8 @@ unfolding has-count equal-place counts-of
 has-count-place count [] = refl
 has-count-place count (x ∷ xs) =
     split (eqb (x .count) count)
-    (λ on. rw on (sym (here (length xs))))
-    (λ off. rw off (has-count-place count xs ∙ sym (further (equal-place count (counts-of xs)) (length xs))))
+    (λ on. rw on (sym (ltb-zero-suc (length xs))))
+    (λ off. rw off (has-count-place count xs ∙ sym (ltb-suc-suc (equal-place count (counts-of xs)) (length xs))))
 
 pub rows-without-count : (count : ℕ) (es : List Entry) → has-count count es ≡ true → rows-of (without-count count es) ≡ out (equal-place count (counts-of es)) (rows-of es)
 unfolding has-count without-count equal-place rows-of counts-of
@@ -187,5 +187,5 @@ unfolding in-rows equal-place
 in-rows-place row [] = refl
 in-rows-place row (x ∷ xs) =
     split (eqb x row)
-    (λ on. rw (on, here (length xs)))
-    (λ off. rw (off, further (equal-place row xs) (length xs)) (in-rows-place row xs))
+    (λ on. rw (on, ltb-zero-suc (length xs)))
+    (λ off. rw (off, ltb-suc-suc (equal-place row xs) (length xs)) (in-rows-place row xs))

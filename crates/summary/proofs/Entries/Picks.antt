@@ -88,11 +88,11 @@ module _ {high low : ℕ} where
       below-more (top x xs .row) (picks-below k (without (top x xs .row) (x ∷ xs)) (ordered-without (top x xs .row) o))
       (ordered-member o (top x xs) (top-in x xs) .1)
 
-pub picks-few : (k : ℕ) (es : List Entry) → length (picks k es) ≤ k
+pub length-picks-le : (k : ℕ) (es : List Entry) → length (picks k es) ≤ k
 unfolding picks
-picks-few zero es = omega arith
-picks-few (suc k) [] = omega arith
-picks-few (suc k) (x ∷ xs) = omega (arith, picks-few k (without (top x xs .row) (x ∷ xs)))
+length-picks-le zero es = omega arith
+length-picks-le (suc k) [] = omega arith
+length-picks-le (suc k) (x ∷ xs) = omega (arith, length-picks-le k (without (top x xs .row) (x ∷ xs)))
 
 pub picks-step : (m r : ℕ) (es : List Entry) → 0 < length es → r ∷ [] ≡ picks 1 es → picks (suc m) es ≡ r ∷ picks m (without r es)
 unfolding picks

@@ -47,8 +47,8 @@ module _ {high : ℕ} where
   ceiling-without-all [] c = c
   ceiling-without-all (row ∷ rows) c = ceiling-without-all rows (ceiling-without row c)
 
-  pub count-most : {es : List Entry} → Ceiling high es → (i : ℕ) → i < length es → getD (counts-of es) i 0 ≤ high
+  pub count-le : {es : List Entry} → Ceiling high es → (i : ℕ) → i < length es → getD (counts-of es) i 0 ≤ high
   unfolding counts-of
-  count-most bare i h = absurd (omega arith)
-  count-most (under x c l) zero h = l
-  count-most (under x c l) (suc i) h = count-most c i (omega arith)
+  count-le bare i h = absurd (omega arith)
+  count-le (under x c l) zero h = l
+  count-le (under x c l) (suc i) h = count-le c i (omega arith)

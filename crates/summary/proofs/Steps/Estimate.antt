@@ -7,7 +7,7 @@ use native.Mathlib.Omega.{arith}
 use borrow.Author.Tests.{eqb-true, eqb-false, ne-eqb}
 use lib.Dec.{eqb, ltb}
 use Rattle.laws.proofs.Cases.{split, zero-one}
-use Rattle.device.proofs.Occurrences.{hit, times, hit-most, hit-other}
+use Rattle.device.proofs.Occurrences.{hit, times, hit-le, hit-other}
 use Rattle.summary.specs.Entries.{Entry, has, count-or, without, without-all, raised, entered, without-count}
 use Rattle.summary.specs.Steps.{Summary, estimate, disturb, drop-rows}
 use Rattle.summary.specs.Rules.{Floor, floor-none, floor-more}
@@ -35,7 +35,7 @@ module _ (other row : ℕ) where
       (λ this.
       let same = eqb-true (x .row) v this in
       split (eqb (x .row) row)
-      (λ on. rw (this, on) (omega (arith, hit-most v row)))
+      (λ on. rw (this, on) (omega (arith, hit-le v row)))
       (λ off. rw (this, off) (omega (arith, hit-other v row (λ q. eqb-false (x .row) row off (same ∙ q))))))
       (λ another.
       split (eqb (x .row) row)
@@ -76,7 +76,7 @@ module _ (other row : ℕ) where
 
   count-spill : (v : ℕ) (es : List Entry) → has v es ≡ false → count-or other row es + hit v row ≤ count-or (other + 1) row es
   unfolding has count-or
-  count-spill v [] e = omega (arith, hit-most v row)
+  count-spill v [] e = omega (arith, hit-le v row)
   count-spill v (x ∷ xs) e =
       let parts = neither (eqb (x .row) v) (has v xs) e in
       split (eqb (x .row) row)

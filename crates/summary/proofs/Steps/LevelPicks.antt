@@ -18,18 +18,18 @@ use Rattle.summary.proofs.Steps.Level.{excess, Level, excess-without}
 use Rattle.summary.proofs.Rules.Order.{ordered-without, ordered-member}
 
 -- how many counts are above a level
-above : ℕ → List Entry → ℕ
-above t [] = 0
-above t (x ∷ xs) = min (x .count - t) 1 + above t xs
+count-above : ℕ → List Entry → ℕ
+count-above t [] = 0
+count-above t (x ∷ xs) = min (x .count - t) 1 + count-above t xs
 
 -- one level more takes 1 from each count above it
-excess-up : (t : ℕ) (es : List Entry) → excess (suc t) es + above t es ≡ excess t es
-unfolding excess above
+excess-up : (t : ℕ) (es : List Entry) → excess (suc t) es + count-above t es ≡ excess t es
+unfolding excess count-above
 excess-up t [] = omega arith
 excess-up t (x ∷ xs) = omega (arith, excess-up t xs)
 
-excess-high : (t high : ℕ) {es : List Entry} → Ceiling high es → excess t es ≤ above t es * (high - t)
-unfolding excess above
+excess-high : (t high : ℕ) {es : List Entry} → Ceiling high es → excess t es ≤ count-above t es * (high - t)
+unfolding excess count-above
 excess-high t high bare = omega arith
 excess-high t high (under x {xs} c l) =
     ⊎-elim
@@ -55,7 +55,7 @@ raised-level size high {es} c (suc fuel) t h =
     (λ many.
     let r = raised-level size high c fuel (suc t) (omega arith) in
     record { level = r .level; up = omega arith; sum = omega (arith, excess-up t es); few = r .few })
-    (le-or-lt (above t es) size)
+    (le-or-lt (count-above t es) size)
 
 -- what a drop of a tracked row takes away
 excess-taken : (t : ℕ) (x : Entry) {high low : ℕ} {es : List Entry} → Ordered high low es → List·Memᴰ x es → excess t (without (x .row) es) + (x .count - t) ≡ excess t es

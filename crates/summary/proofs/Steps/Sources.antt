@@ -7,7 +7,7 @@ use Rattle.laws.proofs.Cases.{split}
 use Rattle.summary.specs.Entries.{picks}
 use Rattle.summary.specs.Steps.{Summary, in-rows, besides, picked, sources}
 use Rattle.summary.specs.Rules.{Ordered, Below, below-none, below-more}
-use Rattle.summary.proofs.Entries.Picks.{picks-below, picks-few}
+use Rattle.summary.proofs.Entries.Picks.{picks-below, length-picks-le}
 
 below-append : {high : ℕ} {xs ys : List ℕ} → Below high xs → Below high ys → Below high (xs ++ ys)
 below-append below-none b = b
@@ -19,21 +19,21 @@ besides-below rows below-none = below-none
 besides-below rows (below-more row b h) =
     split (in-rows row rows) (λ on. rw on (besides-below rows b)) (λ off. rw off (below-more row (besides-below rows b) h))
 
-besides-few : (rows xs : List ℕ) → length (besides rows xs) ≤ length xs
+length-besides-le : (rows xs : List ℕ) → length (besides rows xs) ≤ length xs
 unfolding besides
-besides-few rows [] = omega arith
-besides-few rows (x ∷ xs) =
+length-besides-le rows [] = omega arith
+length-besides-le rows (x ∷ xs) =
     split (in-rows x rows)
-    (λ on. rw on (omega (arith, besides-few rows xs)))
-    (λ off. rw off (omega (arith, besides-few rows xs)))
+    (λ on. rw on (omega (arith, length-besides-le rows xs)))
+    (λ off. rw off (omega (arith, length-besides-le rows xs)))
 
 -- the rows that an event refreshes: of the bank, and at most as many as are picked and in the block
 pub sources-below : {high low : ℕ} (volume : ℕ) {block : List ℕ} (s : Summary) → Ordered high low (s .entries) → Below high block → Below high (sources volume block s)
 unfolding sources picked
 sources-below volume s o b = below-append (picks-below volume (s .entries) o) (besides-below (picks volume (s .entries)) b)
 
-pub sources-few : (volume : ℕ) (block : List ℕ) (s : Summary) → length (sources volume block s) ≤ volume + length block
+pub length-sources-le : (volume : ℕ) (block : List ℕ) (s : Summary) → length (sources volume block s) ≤ volume + length block
 unfolding sources picked
-sources-few volume block s =
+length-sources-le volume block s =
     rw (length-append (picks volume (s .entries)) (besides (picks volume (s .entries)) block))
-    (omega (arith, picks-few volume (s .entries), besides-few (picks volume (s .entries)) block))
+    (omega (arith, length-picks-le volume (s .entries), length-besides-le (picks volume (s .entries)) block))

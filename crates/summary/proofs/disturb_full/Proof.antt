@@ -4,19 +4,19 @@ use borrow.Author.Needs.{needs}
 use lib.ListN.{length}
 use Rattle.summary.specs.Tables.{read}
 use Rattle.summary.specs.Contracts.{Holds}
-use Rattle.summary.proofs.Contracts.Holds.{tracked-few, long-counts}
+use Rattle.summary.proofs.Contracts.Holds.{tracked-le, long-counts}
 use Rattle.summary.proofs.Contracts.Changes.{count-missed, exchange-ready, exchange-done, holds-spill}
 use Rattle.summary.proofs.Steps.Disturb.{disturb-spill}
 use Rattle.summary.proofs.disturb_full.Statement.{statement}
 use Rattle.summary.proofs.disturb_full.Tie as tie
 
 first-equal-requires : tie.Need-first-equal-requires
-first-equal-requires c κs = let h = c .before .before .before .pre .0 in omega (arith, tracked-few h, long-counts h)
+first-equal-requires c κs = let h = c .before .before .before .pre .0 in omega (arith, tracked-le h, long-counts h)
 
 remove-entry-requires : tie.Need-remove-entry-requires
 remove-entry-requires c κs =
     let h = c .before .before .before .before .before .before .before .pre .0 in
-    (c .before .before .if1 .taken, tracked-few h, omega (arith, tracked-few h, long-counts h))
+    (c .before .before .if1 .taken, tracked-le h, omega (arith, tracked-le h, long-counts h))
 
 enter-row-requires : tie.Need-enter-row-requires
 enter-row-requires c κs =

@@ -3,28 +3,28 @@ use native.Mathlib.Omega.{arith}
 use borrow.Author.Needs.{needs}
 use lib.ListN.{length}
 use Rattle.summary.specs.Tables.{read}
-use Rattle.summary.proofs.Rules.Ceiling.{count-most}
-use Rattle.summary.proofs.Contracts.Holds.{tracked-few, long-counts, used-rising, count-at-place}
+use Rattle.summary.proofs.Rules.Ceiling.{count-le}
+use Rattle.summary.proofs.Contracts.Holds.{tracked-le, long-counts, used-rising, count-at-place}
 use Rattle.summary.proofs.Contracts.Changes.{has-found, has-missed, holds-raise}
 use Rattle.summary.proofs.Steps.Disturb.{disturb-raise, disturb-enter}
 use Rattle.summary.proofs.disturb_row.Statement.{statement}
 use Rattle.summary.proofs.disturb_row.Tie as tie
 
 lookup-requires : tie.Need-lookup-requires
-lookup-requires c κs = (tracked-few (c .before .before .before .pre .0), used-rising (c .before .before .before .pre .0))
+lookup-requires c κs = (tracked-le (c .before .before .before .pre .0), used-rising (c .before .before .before .pre .0))
 
 slice-read-counts : tie.Need-slice-read-counts
-slice-read-counts c = let h = c .before .before .before .before .before .before .pre .0 in omega (arith, c .before .if1 .taken, tracked-few h, long-counts h)
+slice-read-counts c = let h = c .before .before .before .before .before .before .pre .0 in omega (arith, c .before .if1 .taken, tracked-le h, long-counts h)
 
 add-counts : tie.Need-add-counts
 add-counts c =
     let a = c .before .before .before .before .before .before in
     let h = a .pre .0 in
     let p = c .before .before .lookup .result in
-    omega (arith, count-at-place h p (c .before .if1 .taken), count-most (a .pre .1 .counts) p (omega (arith, c .before .if1 .taken, h .tracked-is)))
+    omega (arith, count-at-place h p (c .before .if1 .taken), count-le (a .pre .1 .counts) p (omega (arith, c .before .if1 .taken, h .tracked-is)))
 
 slice-write-counts : tie.Need-slice-write-counts
-slice-write-counts c = let h = c .before .before .before .before .before .before .pre .0 in omega (arith, c .before .if1 .taken, tracked-few h, long-counts h)
+slice-write-counts c = let h = c .before .before .before .before .before .before .pre .0 in omega (arith, c .before .if1 .taken, tracked-le h, long-counts h)
 
 returns : tie.Need-returns
 returns c =
@@ -48,7 +48,7 @@ disturb-full-requires c κs =
     let p = c .before .before .before .before .lookup in (
       a .pre .0,
       (
-        (omega (arith, c .before .before .if2 .left, tracked-few (a .pre .0)), omega (arith, a .pre .1 .spillover-le)),
+        (omega (arith, c .before .before .if2 .left, tracked-le (a .pre .0)), omega (arith, a .pre .1 .spillover-le)),
         has-missed (a .pre .0) (a .args .row) (p .result) (p .ensures) (c .before .before .before .if1 .left),
       ),
     )

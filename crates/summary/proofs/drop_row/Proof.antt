@@ -1,18 +1,18 @@
 -- `summary::drop_row` meets its contract.
 use native.Mathlib.Omega.{arith}
 use borrow.Author.Needs.{needs}
-use Rattle.summary.proofs.Contracts.Holds.{tracked-few, long-counts, used-rising}
+use Rattle.summary.proofs.Contracts.Holds.{tracked-le, long-counts, used-rising}
 use Rattle.summary.proofs.Contracts.Changes.{holds-drop, holds-drop-untracked}
 use Rattle.summary.proofs.drop_row.Statement.{statement}
 use Rattle.summary.proofs.drop_row.Tie as tie
 
 lookup-requires : tie.Need-lookup-requires
-lookup-requires c κs = (tracked-few (c .before .before .before .pre), used-rising (c .before .before .before .pre))
+lookup-requires c κs = (tracked-le (c .before .before .before .pre), used-rising (c .before .before .before .pre))
 
 remove-entry-requires : tie.Need-remove-entry-requires
 remove-entry-requires c κs =
     let h = c .before .before .before .before .before .before .before .before .pre in
-    (c .before .before .if1 .taken, tracked-few h, omega (arith, tracked-few h, long-counts h))
+    (c .before .before .if1 .taken, tracked-le h, omega (arith, tracked-le h, long-counts h))
 
 returns : tie.Need-returns
 returns c =
