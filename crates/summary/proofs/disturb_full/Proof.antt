@@ -20,17 +20,19 @@ remove-entry-requires c κs =
 
 enter-row-requires : tie.Need-enter-row-requires
 enter-row-requires c κs =
+    let if1 = c .before .before .before .before .before .before .before .before .before .if1 in
     let a = c .before .before .before .before .before .before .before .before .before .before .before .before .before .before in
     let q = c .before .before .before .before .before .before .before .before .before .before .first-equal in
     let r = c .before .before .before .before .before .before .remove-entry .ensures in
-    exchange-ready (a .pre .0) (a .args .row) (q .result) (q .ensures) (c .before .before .before .before .before .before .before .before .before .if1 .taken) (a .pre .1 .1) (a .pre .1 .0 .0) (r .0) (r .1) (r .2) (r .3) (a .pre .1 .0 .1)
+    exchange-ready (a .pre .0) (a .args .row) (q .result) (q .ensures) (if1 .taken) (a .pre .1 .1) (a .pre .1 .0 .0) (r .0) (r .1) (r .2) (r .3) (a .pre .1 .0 .1)
 
 returns : tie.Need-returns
 returns c =
+    let if1 = c .before .before .before .before .before .before .before .before .before .before .before .before .before .before .if1 in
     let a = c .before .before .before .before .before .before .before .before .before .before .before .before .before .before .before .before .before .before .before in
     let q = c .before .before .before .before .before .before .before .before .before .before .before .before .before .before .before .first-equal in
     let r = c .before .before .before .before .before .before .before .before .before .before .before .remove-entry .ensures in
-    exchange-done (a .pre .0) (a .args .row) (q .result) (q .ensures) (c .before .before .before .before .before .before .before .before .before .before .before .before .before .before .if1 .taken) (a .pre .1 .1) (a .pre .1 .0 .0) (r .0) (r .1) (r .2) (r .3) (c .before .before .before .before .enter-row .ensures)
+    exchange-done (a .pre .0) (a .args .row) (q .result) (q .ensures) (if1 .taken) (a .pre .1 .1) (a .pre .1 .0 .0) (r .0) (r .1) (r .2) (r .3) (c .before .before .before .before .enter-row .ensures)
 
 returns-2 : tie.Need-returns-2
 unfolding read

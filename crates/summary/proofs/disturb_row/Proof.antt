@@ -55,10 +55,12 @@ disturb-full-requires c κs =
 
 returns-2 : tie.Need-returns-2
 returns-2 c =
+    let if1 = c .before .before .before .before .before .before .before .before .if1 in
+    let if2 = c .before .before .before .before .before .before .before .if2 in
     let a = c .before .before .before .before .before .before .before .before .before .before .before .before .before in
     let h = a .pre .0 in
     let p = c .before .before .before .before .before .before .before .before .before .lookup in
-    rw (disturb-enter (length (a .args .rows .now)) (a .args .row) (read (a .args .rows .now) (a .args .counts .now) (a .args .t .tracked) (a .args .t .spillover)) (has-missed h (a .args .row) (p .result) (p .ensures) (c .before .before .before .before .before .before .before .before .if1 .left)) (omega (arith, h .tracked-is, c .before .before .before .before .before .before .before .if2 .taken)))
+    rw (disturb-enter (length (a .args .rows .now)) (a .args .row) (read (a .args .rows .now) (a .args .counts .now) (a .args .t .tracked) (a .args .t .spillover)) (has-missed h (a .args .row) (p .result) (p .ensures) (if1 .left)) (omega (arith, h .tracked-is, if2 .taken)))
     (c .before .before .before .before .enter-row .ensures)
 
 pub disturb-row-spec : {M : Type 1} → statement M

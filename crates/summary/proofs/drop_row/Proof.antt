@@ -16,9 +16,11 @@ remove-entry-requires c κs =
 
 returns : tie.Need-returns
 returns c =
+    let lookup = c .before .before .before .before .before .before .before .before .before .lookup in
+    let if1 = c .before .before .before .before .before .before .before .if1 in
     let a = c .before .before .before .before .before .before .before .before .before .before .before .before .before in
     let e = c .before .before .before .before .remove-entry .ensures in
-    rw (e .0, e .1, e .2, e .3) (holds-drop (a .pre) (a .args .row) (c .before .before .before .before .before .before .before .before .before .lookup .result) (c .before .before .before .before .before .before .before .before .before .lookup .ensures) (c .before .before .before .before .before .before .before .if1 .taken))
+    rw (e .0, e .1, e .2, e .3) (holds-drop (a .pre) (a .args .row) (lookup .result) (lookup .ensures) (if1 .taken))
 
 returns-2 : tie.Need-returns-2
 returns-2 c =

@@ -16,14 +16,17 @@ insert-at-requires c κs =
 
 insert-at-requires-2 : tie.Need-insert-at-requires-2
 insert-at-requires-2 c κs =
+    let lower-bound = c .before .before .before .before .before .before .lower-bound in
     let a = c .before .before .before .before .before .before .before .before .before .before in
-    (place-le (a .pre .0) (a .args .row) (c .before .before .before .before .before .before .lower-bound .result) (c .before .before .before .before .before .before .lower-bound .ensures), omega (arith, a .pre .1 .0 .0, long-counts (a .pre .0)))
+    (place-le (a .pre .0) (a .args .row) (lower-bound .result) (lower-bound .ensures), omega (arith, a .pre .1 .0 .0, long-counts (a .pre .0)))
 
 returns : tie.Need-returns
 returns c =
+    let insert-at = c .before .before .before .before .before .before .before .insert-at in
+    let lower-bound = c .before .before .before .before .before .before .before .before .before .lower-bound in
     let a = c .before .before .before .before .before .before .before .before .before .before .before .before .before in
-    rw (c .before .before .insert-at2 .ensures, c .before .before .before .before .before .before .before .insert-at .ensures)
-    (holds-enter (a .pre .0) (a .args .row) (c .before .before .before .before .before .before .before .before .before .lower-bound .result) (c .before .before .before .before .before .before .before .before .before .lower-bound .ensures) (a .pre .1 .1) (a .pre .1 .0 .0) (a .fits .row .fits))
+    rw (c .before .before .insert-at2 .ensures, insert-at .ensures)
+    (holds-enter (a .pre .0) (a .args .row) (lower-bound .result) (lower-bound .ensures) (a .pre .1 .1) (a .pre .1 .0 .0) (a .fits .row .fits))
 
 pub enter-row-spec : {M : Type 1} → statement M
 enter-row-spec =
