@@ -16,13 +16,14 @@ Bound-grows-with-window = (s : Settings) (i k : ℕ) → i ≤ k → bound-at s 
 unfoldable pub Bound-falls-with-counters : Type 0
 Bound-falls-with-counters = (s : Settings) (c d : ℕ) → c ≤ d → bound-of (with-counters s d) ≤ bound-of (with-counters s c)
 
--- the least count meets the threshold, and no smaller one from V on does
+-- 'the smallest C from V to 2,048 with 2 × H below the threshold': it meets the threshold, and no smaller one from V on does
 pub record Least (s : Settings) (threshold c : ℕ) : Type 0 where
   pub from-volume : s .volume ≤ c
   pub allowed : c ≤ most-counters
   pub meets-it : meets s threshold c ≡ true
   pub none-before : (d : ℕ) → s .volume ≤ d → d < c → meets s threshold d ≡ false
 
+-- the least count is the least
 unfoldable pub Least-is-least : Type 0
 Least-is-least = (s : Settings) (threshold c : ℕ) → least-of s threshold ≡ accepted c → Least s threshold c
 
@@ -31,6 +32,7 @@ pub record Twelve (s : Settings) (threshold : ℕ) : Type 0 where
   pub means-none : least-of s threshold ≡ refused 12 → (c : ℕ) → s .volume ≤ c → c ≤ most-counters → meets s threshold c ≡ false
   pub of-none : ((c : ℕ) → s .volume ≤ c → c ≤ most-counters → meets s threshold c ≡ false) → least-of s threshold ≡ refused 12
 
+-- 12 means none
 unfoldable pub Twelve-is-none : Type 0
 Twelve-is-none = (s : Settings) (threshold : ℕ) → Twelve s threshold
 

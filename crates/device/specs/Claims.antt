@@ -20,10 +20,11 @@ pub record Neighbours (rows diameter row : ℕ) (list : List ℕ) : Type 0 where
 unfoldable pub Victims-are-neighbours : Type 0
 Victims-are-neighbours = (rows diameter row : ℕ) → row < rows → Neighbours rows diameter row (victims rows diameter row)
 
--- 'a permutation': rows of a bank of whole groups of 16 stay in the bank, and different rows stay different
+-- a permutation of the bank's rows: rows of the bank stay in the bank, and different rows stay different
 pub record Permutation (rows : ℕ) : Type 0 where
   pub stays : (row : ℕ) → row < rows → physical row < rows
   pub differs : (row other : ℕ) → physical row ≡ physical other → row ≡ other
 
+-- the remap is a permutation of the bank
 unfoldable pub Remap-is-permutation : Type 0
 Remap-is-permutation = (rows : ℕ) → rows % 16 ≡ 0 → Permutation rows

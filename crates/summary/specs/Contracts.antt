@@ -29,13 +29,15 @@ Held rows counts tracked spillover =
 abbrev pub Left : List ℕ → Summary → List ℕ → List ℕ → ℕ → ℕ → Type 0
 Left rows₀ sum rows counts tracked spillover = Holds (length rows₀) 4294967296 sum rows counts tracked spillover
 
--- the same of a function's parameters: two lent tables and the tally that goes with them
+-- a lent slice of numbers
 abbrev pub Slice : Type 0
 Slice = RefT (List ℕ)
 
+-- the summary that two lent tables and the tally that goes with them hold
 abbrev pub summary : Slice → Slice → Tally → Summary
 summary rows counts t = read (now rows) (now counts) (t .tracked) (t .spillover)
 
+-- two lent tables and their tally, as the functions want them
 abbrev pub Tracks : Slice → Slice → Tally → Type 0
 Tracks rows counts t = Held (now rows) (now counts) (t .tracked) (t .spillover)
 
@@ -53,7 +55,7 @@ pub record PickedFrom (volume : ℕ) (sum : Summary) (list₀ list : List ℕ) (
   pub named : list ≡ picks volume (sum .entries) ++ drop (length (picks volume (sum .entries))) list₀
   pub counted : count ≡ length (picks volume (sum .entries))
 
--- the same of the list that was lent
+-- the picked rows' names in the list that was lent ('at the front of a lent list'), and their number
 abbrev pub Names : Both Slice Slice → ℕ → Summary → ℕ → Type 0
 Names list volume sum count = PickedFrom volume sum (now (list .entry)) (now (list .exit)) count
 

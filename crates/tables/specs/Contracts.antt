@@ -25,6 +25,7 @@ unfoldable pub highest-from : ℕ → ℕ → ℕ → List ℕ → ℕ
 highest-from place best at [] = place
 highest-from place best at (y ∷ ys) = cond (ltb best y) (highest-from at y (suc at) ys) (highest-from place best (suc at) ys)
 
+-- the same of a whole table; 0 where it is empty
 unfoldable pub highest-place : List ℕ → ℕ
 highest-place [] = 0
 highest-place (y ∷ ys) = highest-from 0 y 1 ys
