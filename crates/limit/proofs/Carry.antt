@@ -7,7 +7,7 @@ use native.Mathlib.Nat.{le-trans}
 use native.Mathlib.Omega.{arith}
 use Rattle.device.specs.declared.Settings.{Settings}
 use Rattle.laws.proofs.Cases.{le-or-lt}
-use Rattle.device.proofs.Times.{times-between}
+use Rattle.device.proofs.Occurrences.{times-between}
 use Rattle.bound.specs.Totals.{bound-of}
 use Rattle.tracker.specs.Calls.{block-rows}
 use Rattle.limit.specs.Exact.{zeroed, restored, disturbed-by}

@@ -9,10 +9,11 @@ use lib.ListN.{length}
 use Rattle.device.specs.declared.Settings.{Settings}
 use Rattle.device.specs.Refusal.{first-failed, refuse}
 use Rattle.device.specs.Acceptance.{settings-tests}
-use Rattle.device.proofs.Accepted.{accepted}
+use Rattle.device.proofs.Acceptance.{accepted-settings}
 use Rattle.summary.specs.Entries.{rows-of, counts-of}
 use Rattle.summary.specs.Steps.{Summary}
-use Rattle.summary.proofs.Laid.{length-rows, length-counts, length-table}
+use Rattle.summary.proofs.Entries.Lengths.{length-rows, length-counts}
+use Rattle.summary.proofs.Tables.{length-table}
 use Rattle.tracker.specs.State.{State, state-of, valid}
 use Rattle.tracker.specs.Calls.{activate, refresh, activation-tests, refresh-tests}
 use Rattle.tracker.proofs.Refusals.{Held, activation-refusals, refresh-refusals}
@@ -70,7 +71,7 @@ summed {s} {st} r =
       activations = k .activations;
       sum = k .sum;
       stored = r .leads ∙ k .stored;
-      holds = held s (accepted s (reached-settled r)) (i .window) (i .few) (i .within) (i .early);
+      holds = held s (accepted-settings s (reached-settled r)) (i .window) (i .few) (i .within) (i .early);
     }
 
 pub activation-refused-with : {s : Settings} {st : State} → Reached s st → (row : ℕ) → first-failed (activation-tests s st row) ≡ refuse (not (ltb row (s .rows))) 9 (refuse (not (ltb (st .position .activations) (s .interval))) 22 0)

@@ -7,16 +7,16 @@ use native.Mathlib.Omega.{arith}
 use lib.ListN.{length}
 use Rattle.device.specs.declared.Settings.{Settings}
 use Rattle.device.specs.Victims.{rows-between}
-use Rattle.device.proofs.Accepted.{Accepted}
-use Rattle.device.proofs.Neighbours as Neighbours
-use Rattle.device.proofs.Neighbours.{Ascends, victims-ascend, victims-few, between-ascends, between-length}
-use Rattle.device.proofs.Times.{times, victims-once}
+use Rattle.device.proofs.Acceptance.{Accepted}
+use Rattle.device.proofs.Victims.{ascends-none, ascends-more, Ascends, victims-ascend, length-victims-le, between-ascends, between-length}
+use Rattle.device.proofs.Occurrences.{times, victims-once}
 use Rattle.bound.specs.Totals.{size, total, disturbers, bound-at, bound-of}
-use Rattle.bound.proofs.Sizes.{size-first, size-positive, size-grows, size-steps, size-most}
-use Rattle.bound.proofs.Growth.{disturbers-cover, added-few, total-small}
-use Rattle.summary.proofs.Rules.Ceiling.{ceiling-level, ceiling-higher, spillover-level}
-use Rattle.summary.proofs.Level.{Level, level-more}
-use Rattle.summary.proofs.Event.{Reach}
+use Rattle.bound.proofs.Totals.Size.{size-first, size-positive, size-grows, size-steps, size-le}
+use Rattle.bound.proofs.Totals.Bound.{disturbers-cover, added-le}
+use Rattle.bound.proofs.Totals.Total.{total-le}
+use Rattle.summary.proofs.Steps.Level.{ceiling-level, spillover-level, Level, level-more}
+use Rattle.summary.proofs.Rules.Ceiling.{ceiling-higher}
+use Rattle.summary.proofs.Steps.Event.{Reach}
 use Rattle.summary.specs.Rules.{Below, below-none, below-more}
 use Rattle.summary.specs.Steps.{Summary}
 use Rattle.tracker.specs.Calls.{victims-in, block-rows}
@@ -25,15 +25,15 @@ use Rattle.limit.proofs.Scheme.{Scheme, total-of}
 use Rattle.limit.proofs.Window.{Window}
 
 pub below-ascends : {low high : ℕ} {rows : List ℕ} → Ascends low high rows → Below high rows
-below-ascends Neighbours.none = below-none
-below-ascends (Neighbours.more {row} later from below) = below-more row (below-ascends later) below
+below-ascends ascends-none = below-none
+below-ascends (ascends-more {row} later from below) = below-more row (below-ascends later) below
 
 pub reach-in : (s : Settings) → Reach (s .rows) (s .«blast_diameter») (victims-in s)
 unfolding victims-in
 reach-in s =
     record {
       inside = λ row h. below-ascends (victims-ascend (s .rows) (s .«blast_diameter») row h);
-      few = λ row. victims-few (s .rows) (s .«blast_diameter») row;
+      few = λ row. length-victims-le (s .rows) (s .«blast_diameter») row;
     }
 
 pub once-in : (s : Settings) (row v : ℕ) → row < s .rows → times v (victims-in s row) ≤ 1
@@ -55,7 +55,7 @@ scheme-of s =
       positive = size-positive (s .volume) (s .counters);
       grows = size-grows (s .volume) (s .counters);
       steps = size-steps (s .volume) (s .counters);
-      most = size-most (s .volume) (s .counters);
+      most = size-le (s .volume) (s .counters);
       reaches = reach-in s;
       once = once-in s;
     }
@@ -93,14 +93,14 @@ module _ (s : Settings) (ok : Accepted s) {e a g : ℕ} {cur : ℕ → ℕ} {sum
       let few : at .sum + s .«blast_diameter» * g ≤ 2000000000 =
       omega (
         arith,
-        total-small (c .size) added (c .grows) e 0,
+        total-le (c .size) added (c .grows) e 0,
         mul-le-mul-left (s .«blast_diameter») rows-since,
-        mul-le-mul events (added-few s (ok .others)),
+        mul-le-mul events (added-le s (ok .others)),
       ) in
       record {
         sound = w .sound;
         early = early;
         within = within;
         ceiling = ceiling-higher (ceiling-level one) few;
-        spilt = le-trans (spillover-level one) few;
+        spillover-le = le-trans (spillover-level one) few;
       }

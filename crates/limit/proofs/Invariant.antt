@@ -17,14 +17,16 @@ use Rattle.device.specs.Refusal.{first-failed, unless, refuse, Outcome, accepte
 use Rattle.device.specs.Acceptance.{settings-tests}
 use Rattle.device.specs.Remap.{physical}
 use Rattle.laws.proofs.Cases.{split}
-use Rattle.device.proofs.Times.{hit, times, times-append}
-use Rattle.device.proofs.Permutation.{physical-below}
-use Rattle.device.proofs.Accepted.{Accepted, accepted as accepted-facts, or-later, settings-then}
+use Rattle.device.proofs.Occurrences.{hit, times, times-append}
+use Rattle.device.proofs.Remap.{physical-below}
+use Rattle.device.proofs.Acceptance.{Accepted, accepted-settings as accepted-facts, settings-then}
+use Rattle.device.proofs.Refusal.{or-later}
 use Rattle.bound.specs.Totals.{bound-at, bound-of}
-use Rattle.bound.proofs.Growth.{bound-grows}
+use Rattle.bound.proofs.Totals.Bound.{bound-grows}
 use Rattle.summary.specs.Steps.{Summary, empty, activation, picked, sources, event}
-use Rattle.summary.proofs.Event.{reached}
-use Rattle.summary.proofs.Distinct.{picks-distinct, sources-few}
+use Rattle.summary.proofs.Steps.Event.{reached}
+use Rattle.summary.proofs.Entries.Picks.{picks-distinct}
+use Rattle.summary.proofs.Steps.Sources.{length-sources-le}
 use Rattle.tracker.specs.declared.Position.{Position}
 use Rattle.tracker.specs.State.{State, state-of, summary-of}
 use Rattle.tracker.specs.Calls.{kept-unless, tables-long, set-up-tests, set-up, activate, refresh, activation-tests, refresh-tests, block-rows, ends-window, next-event, victims-in}
@@ -145,7 +147,7 @@ module _ (s : Settings) (ok : first-failed (settings-tests s) ≡ 0) where
             (rows-since s facts (i .window) (i .few) (i .within) (i .early))
             within
             (event-step s e sum (y .disturbance));
-        few = omega (arith, sources-few (s .volume) block sum, block-few s e);
+        few = omega (arith, length-sources-le (s .volume) block sum, block-few s e);
         within = omega arith;
         early = within;
         counted = count-goes-on (x .refreshes) (i .counted) within;
@@ -169,7 +171,7 @@ module _ (s : Settings) (ok : first-failed (settings-tests s) ≡ 0) where
         window =
             window-ends (scheme-of s) (below-ascends (block-ascends s e)) (i .window)
             (λ v. omega (arith, nothing-kept s e sum v));
-        few = omega (arith, sources-few (s .volume) block sum, block-few s e);
+        few = omega (arith, length-sources-le (s .volume) block sum, block-few s e);
         within = omega arith;
         early = omega arith;
         counted = count-begins (x .refreshes) (i .counted) whole;

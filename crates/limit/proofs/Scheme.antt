@@ -5,10 +5,10 @@ use mathlib.Core.List.{List}
 use Prim.Native.Nat.{ℕ, suc, _+_, _-_, _*_, _≤_, _<_}
 use native.Mathlib.Nat.{le-trans}
 use native.Mathlib.Omega.{arith}
-use Rattle.device.proofs.Times.{times}
+use Rattle.device.proofs.Occurrences.{times}
 use Rattle.bound.specs.Totals.{total}
-use Rattle.bound.proofs.Growth.{total-grows}
-use Rattle.summary.proofs.Event.{Reach}
+use Rattle.bound.proofs.Totals.Total.{total-grows}
+use Rattle.summary.proofs.Steps.Event.{Reach}
 
 pub record Scheme : Type 0 where
   pub rows : ℕ

@@ -10,9 +10,9 @@ use lib.ListN.{length}
 use Rattle.device.specs.declared.Settings.{Settings}
 use Rattle.device.specs.Refusal.{first-failed, refuse}
 use Rattle.device.specs.Acceptance.{settings-tests}
-use Rattle.device.proofs.Accepted.{accepted}
+use Rattle.device.proofs.Acceptance.{accepted-settings}
 use Rattle.bound.specs.Totals.{bound-of}
-use Rattle.bound.proofs.Growth.{bound-grows}
+use Rattle.bound.proofs.Totals.Bound.{bound-grows}
 use Rattle.tracker.specs.State.{State, state-of}
 use Rattle.tracker.specs.Calls.{activate, refresh}
 use Rattle.tracker.proofs.LaidOut.{read-back}
@@ -41,7 +41,7 @@ unfolding bound-of
 window-most {s} ok k row =
     let i = k .inv in
     let so-far : k .events + 1 ≤ s .window = omega (arith, i .early) in
-    le-trans (present-most s (accepted s ok) (i .window) (i .few) (i .within) (i .early) row) (bound-grows s so-far)
+    le-trans (present-most s (accepted-settings s ok) (i .window) (i .few) (i .within) (i .early) row) (bound-grows s so-far)
 
 -- demand 3
 pub limit : Demand-3
@@ -65,7 +65,7 @@ never-21 s st b calls =
     let k = kept-run b calls in
     let i = k .inv in
     let ok = begun-accepted b in
-    let sound = held s (accepted s ok) (i .window) (i .few) (i .within) (i .early) in (
+    let sound = held s (accepted-settings s ok) (i .window) (i .few) (i .within) (i .early) in (
       (λ row e.
           not-21 (not (ltb row (s .rows))) (not (ltb (k .activations) (s .interval)))
           (rw (k .stored, activation-refusals s (k .events) (k .activations) (k .sum) ok sound row) at e)),
@@ -93,4 +93,4 @@ unfolding Window-figure state-of
 window-figure s st b calls row =
     let k = kept-run b calls in
     let i = k .inv in
-    rw (k .stored) (present-most s (accepted s (begun-accepted b)) (i .window) (i .few) (i .within) (i .early) row)
+    rw (k .stored) (present-most s (accepted-settings s (begun-accepted b)) (i .window) (i .few) (i .within) (i .early) row)
