@@ -1,9 +1,11 @@
 -- The claims of specs/Claims.antt, each under its own name.
 use Prim.Native.Nat.{_-_}
-use Rattle.bound.specs.Least.{meets, least-of}
-use Rattle.bound.specs.Claims.{Bound-grows-with-window, Bound-falls-with-counters, Least-is-least}
-use Rattle.bound.proofs.Growth.{bound-grows, bound-counters}
-use Rattle.bound.proofs.Smallest.{first-found}
+use native.Mathlib.Omega.{arith}
+use Rattle.device.proofs.Acceptance.{accepted-skipping, accepted-but-counters}
+use Rattle.bound.specs.Least.{with-counters, meets, least-of}
+use Rattle.bound.specs.Claims.{Bound-grows-with-window, Bound-falls-with-counters, Least-is-least, Twelve-is-none, Bound-is-small}
+use Rattle.bound.proofs.Totals.Bound.{bound-grows, bound-counters, bound-lt}
+use Rattle.bound.proofs.Least.{first-from-found, first-from-none, none-first-from}
 
 pub bound-grows-with-window : Bound-grows-with-window
 unfolding Bound-grows-with-window
@@ -16,5 +18,17 @@ bound-falls-with-counters s c d h = bound-counters s h
 pub least-is-least : Least-is-least
 unfolding Least-is-least least-of
 least-is-least s threshold c e =
-    let f = first-found (meets s threshold) (2049 - s .volume) (s .volume) c e in
-    record { from-volume = f .least; meets-it = f .met; none-before = f .before }
+    let f = first-from-found (meets s threshold) (2049 - s .volume) (s .volume) c e in
+    record { from-volume = f .least; allowed = omega (arith, f .least, f .most); meets-it = f .met; none-before = f .before }
+
+pub twelve-is-none : Twelve-is-none
+unfolding Twelve-is-none least-of
+twelve-is-none s threshold =
+    record {
+      means-none = λ e c l h. first-from-none (meets s threshold) (2049 - s .volume) (s .volume) e c l (omega arith);
+      of-none = λ none. none-first-from (meets s threshold) (2049 - s .volume) (s .volume) (λ c l h. none c l (omega arith));
+    }
+
+pub bound-is-small : Bound-is-small
+unfolding Bound-is-small with-counters
+bound-is-small s e = bound-lt s (s .counters) (accepted-but-counters s (accepted-skipping s e))

@@ -1,8 +1,9 @@
 -- 'The least counter count for a threshold'.
-use Prim.Native.Nat.{ℕ, zero, suc, _-_, _*_}
+use Prim.Native.Nat.{ℕ, zero, suc, _+_, _-_, _*_}
 use mathlib.Core.Bool.{Bool, true, false}
 use lib.Dec.{ltb}
 use Rattle.device.specs.declared.Settings.{Settings}
+use Rattle.device.specs.Acceptance.{most-counters}
 use Rattle.device.specs.Refusal.{Outcome, accepted, refused}
 use Rattle.bound.specs.Totals.{bound-of}
 
@@ -35,4 +36,4 @@ first-from passes (suc k) c = or-else (passes c) c (first-from passes k (suc c))
 
 -- 'the smallest C from V to 2,048 with 2 × H below the threshold'
 unfoldable pub least-of : Settings → ℕ → Outcome ℕ
-least-of s threshold = first-from (meets s threshold) (2049 - s .volume) (s .volume)
+least-of s threshold = first-from (meets s threshold) (most-counters + 1 - s .volume) (s .volume)

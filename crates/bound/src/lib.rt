@@ -3,8 +3,8 @@ use device::Settings;
 ghost use mathlib.Core.Path.{_≡_};
 ghost use Prim.Native.Nat.{_+_, _*_, _/_, _^_, _≤_, _<_};
 ghost use Rattle.device.specs.Refusal.{first-failed};
-ghost use Rattle.device.specs.Acceptance.{settings-tests-but-counters};
-ghost use Rattle.bound.specs.Totals.{size as size-of, total as total-of, bound-of};
+ghost use Rattle.device.specs.Acceptance.{most-counters, settings-tests-but-counters};
+ghost use Rattle.bound.specs.Totals.{size, total, bound-of};
 ghost use Rattle.bound.specs.Least.{with-counters, least-of};
 ghost use Rattle.bound.specs.Answers.{outcome, bound-answer, least-answer, signed, Small, settings-of};
 
@@ -14,9 +14,9 @@ pub enum Answer {
     Refused(u32),
 }
 
-fn size(volume: u64, counters: u64, j: u64) -> u64
-    requires { ⌜ (volume ≤ 16) × (counters ≤ 2048) × (j ≤ 8192) ⌝ }
-    ensures { λ r. ⌜ r ≡ size-of volume counters j ⌝ }
+fn size_at(volume: u64, counters: u64, j: u64) -> u64
+    requires { ⌜ (volume ≤ 16) × (counters ≤ most-counters) × (j ≤ 8192) ⌝ }
+    ensures { λ r. ⌜ r ≡ size volume counters j ⌝ }
 {
     let linear = j * volume + 1;
     let most = counters + 1;
@@ -32,9 +32,9 @@ fn step(t: u64, added: u64, below: u64, at: u64) -> u64
 }
 
 // The total of so many steps, from 0.
-fn total(volume: u64, counters: u64, added: u64, steps: u64) -> u64
-    requires { ⌜ (volume ≤ 16) × (counters ≤ 2048) × (added ≤ 16704) × (steps ≤ 8191) ⌝ }
-    ensures { λ r. ⌜ r ≡ total-of (size-of volume counters) added steps 0 ⌝ }
+fn total_of(volume: u64, counters: u64, added: u64, steps: u64) -> u64
+    requires { ⌜ (volume ≤ 16) × (counters ≤ most-counters) × (added ≤ 16704) × (steps ≤ 8191) ⌝ }
+    ensures { λ r. ⌜ r ≡ total (size volume counters) added steps 0 ⌝ }
 {
     let mut t: u64 = 0;
     let mut j = steps;
@@ -42,8 +42,8 @@ fn total(volume: u64, counters: u64, added: u64, steps: u64) -> u64
         t = step(
             t,
             added,
-            size(volume, counters, j - 1),
-            size(volume, counters, j),
+            size_at(volume, counters, j - 1),
+            size_at(volume, counters, j),
         );
         j = j - 1;
     }
@@ -53,12 +53,12 @@ fn total(volume: u64, counters: u64, added: u64, steps: u64) -> u64
 // H with this counter count, whatever `counters` says.
 fn bound_with(s: Settings, counters: u32) -> u64
     requires { ⌜ first-failed (settings-tests-but-counters s) ≡ 0 ⌝ }
-    requires { ⌜ counters ≤ 2048 ⌝ }
+    requires { ⌜ counters ≤ most-counters ⌝ }
     ensures { λ r. ⌜ r ≡ bound-of (with-counters s counters) ⌝ }
 {
     let disturbers = s.interval as u64 + s.volume as u64 + s.block as u64;
     let added = s.blast_diameter as u64 * disturbers;
-    total(s.volume as u64, counters as u64, added, s.window as u64 - 1) + disturbers
+    total_of(s.volume as u64, counters as u64, added, s.window as u64 - 1) + disturbers
 }
 
 // The bound H on any row's disturbance, of which each of two windows adds at most one.
@@ -79,7 +79,7 @@ fn search(s: Settings, threshold: u64) -> Answer
     ensures { λ r. ⌜ outcome r ≡ least-of s threshold ⌝ }
 {
     let mut c = s.volume;
-    while c <= 2048 {
+    while c <= device::MOST_COUNTERS {
         if 2 * bound_with(s, c) < threshold {
             return Answer::Value(c as u64);
         }

@@ -1,6 +1,7 @@
 -- Laws of the device's definitions.
-pub mod Tested
-pub mod Permutation
-pub mod Accepted
-pub mod Neighbours
-pub mod Times
+pub mod Refusal
+pub mod Acceptance
+pub mod Remap
+pub mod Victims
+pub mod Occurrences
+pub mod Claims

@@ -6,13 +6,21 @@ use lib.Dec.{leb, eqb}
 use Rattle.device.specs.declared.Settings.{Settings}
 use Rattle.device.specs.Refusal.{Test, unless}
 
+-- the most rows in a bank, 'N .. 16 to 65,536'
+abbrev pub most-rows : ℕ
+most-rows = 65536
+
+-- the most counters, 'C .. V to 2,048'
+abbrev pub most-counters : ℕ
+most-counters = 2048
+
 -- 'low to high'
 unfoldable pub within : ℕ → ℕ → ℕ → Bool
 within low high x = leb low x && leb x high
 
 -- N: a multiple of 16, 16 to 65,536
 unfoldable pub rows-allowed : ℕ → Bool
-rows-allowed n = within 16 65536 n && eqb (n % 16) 0
+rows-allowed n = within 16 most-rows n && eqb (n % 16) 0
 
 -- B: 2 or 4
 unfoldable pub diameter-allowed : ℕ → Bool
@@ -35,7 +43,7 @@ settings-tests-with counters-allowed s =
 
 -- the tests of all seven settings; C: V to 2,048
 unfoldable pub settings-tests : Settings → List Test
-settings-tests s = settings-tests-with (within (s .volume) 2048 (s .counters)) s
+settings-tests s = settings-tests-with (within (s .volume) most-counters (s .counters)) s
 
 -- the tests where no C is given ('skips 4')
 unfoldable pub settings-tests-but-counters : Settings → List Test

@@ -3,3 +3,4 @@ pub mod Refusal
 pub mod Acceptance
 pub mod Remap
 pub mod Victims
+pub mod Claims

@@ -4,23 +4,35 @@ ghost use Prim.Native.Nat.{_<_, _*_};
 ghost use mathlib.Core.Bool.{not};
 ghost use lib.Dec.{leb};
 ghost use lib.ListN.{getD};
-ghost use Rattle.device.specs.Refusal.{refuse as refuse-by, first-failed};
-ghost use Rattle.device.specs.Acceptance.{within as is-within, rows-allowed, diameter-allowed, block-allowed, settings-tests, settings-tests-with, settings-tests-but-counters};
+ghost use Rattle.device.specs.Refusal.{refuse, first-failed};
+ghost use Rattle.device.specs.Acceptance.{within, rows-allowed, diameter-allowed, block-allowed, settings-tests, settings-tests-with, settings-tests-but-counters};
 ghost use Rattle.device.specs.Remap.{remap-table, physical};
 
-// The settings in document 01's order: N, B, V, C, T, n, P.
+// The most rows of a bank and the most counters that settings may name.
+pub const MOST_ROWS: u32 = 65536;
+
+pub const MOST_COUNTERS: u32 = 2048;
+
+// The settings in document 01's order.
 pub struct Settings {
+    // N, 'rows in the bank'.
     pub rows: u32,
+    // B, 'blast diameter: rows disturbed, half on each side'.
     pub blast_diameter: u32,
+    // V, 'rows picked at an event'.
     pub volume: u32,
+    // C, 'counters': the places of each lent table.
     pub counters: u32,
+    // T, 'activations between two events'.
     pub interval: u32,
+    // n, 'events in a window'.
     pub window: u32,
+    // P, 'rows of the regular refresh at each event'.
     pub block: u32,
 }
 
-fn within(low: u32, high: u32, x: u32) -> bool
-    ensures { λ r. ⌜ r ≡ is-within low high x ⌝ }
+fn is_within(low: u32, high: u32, x: u32) -> bool
+    ensures { λ r. ⌜ r ≡ within low high x ⌝ }
 {
     low <= x && x <= high
 }
@@ -28,7 +40,7 @@ fn within(low: u32, high: u32, x: u32) -> bool
 fn rows_in_range(n: u32) -> bool
     ensures { λ r. ⌜ r ≡ rows-allowed n ⌝ }
 {
-    within(16, 65536, n) && n % 16 == 0
+    is_within(16, MOST_ROWS, n) && n % 16 == 0
 }
 
 fn diameter_in_range(b: u32) -> bool
@@ -47,12 +59,12 @@ fn covers(p: u32, n: u32, rows: u32) -> bool
 fn block_in_range(p: u32, n: u32, rows: u32) -> bool
     ensures { λ r. ⌜ r ≡ block-allowed p n rows ⌝ }
 {
-    within(1, 64, p) && covers(p, n, rows)
+    is_within(1, 64, p) && covers(p, n, rows)
 }
 
 // k unless something is so, else what the later tests say.
 pub fn refuse_unless(allowed: bool, k: u32, later: u32) -> u32
-    ensures { λ r. ⌜ r ≡ refuse-by (not allowed) k later ⌝ }
+    ensures { λ r. ⌜ r ≡ refuse (not allowed) k later ⌝ }
 {
     if allowed { later } else { k }
 }
@@ -68,16 +80,16 @@ fn refusal_with(s: Settings, counters_in_range: bool) -> u32
             diameter_in_range(s.blast_diameter),
             2,
             refuse_unless(
-                within(1, 16, s.volume),
+                is_within(1, 16, s.volume),
                 3,
                 refuse_unless(
                     counters_in_range,
                     4,
                     refuse_unless(
-                        within(1, 4096, s.interval),
+                        is_within(1, 4096, s.interval),
                         5,
                         refuse_unless(
-                            within(1, 8192, s.window),
+                            is_within(1, 8192, s.window),
                             6,
                             refuse_unless(block_in_range(s.block, s.window, s.rows), 7, 0),
                         ),
@@ -92,7 +104,7 @@ fn refusal_with(s: Settings, counters_in_range: bool) -> u32
 pub fn settings_refusal(s: Settings) -> u32
     ensures { λ r. ⌜ r ≡ first-failed (settings-tests s) ⌝ }
 {
-    refusal_with(s, within(s.volume, 2048, s.counters))
+    refusal_with(s, is_within(s.volume, MOST_COUNTERS, s.counters))
 }
 
 // The same where no counter count is given: `counters` is not looked at, and 4 is not given.

@@ -6,17 +6,16 @@ use Prim.Native.Nat.{ℕ, suc, _+_, _*_, _≤_, _<_, min}
 use native.Mathlib.Omega.{arith}
 use lib.ListN.{length}
 use Rattle.device.specs.declared.Settings.{Settings}
-use Rattle.device.proofs.Neighbours as Neighbours
-use Rattle.device.proofs.Neighbours.{Ascends, between-ascends, between-length}
-use Rattle.device.proofs.Times.{times-between}
+use Rattle.device.proofs.Victims.{ascends-none, ascends-more, Ascends, between-ascends, between-length}
+use Rattle.device.proofs.Occurrences.{times-between}
 use Rattle.summary.specs.Rules.{Below, below-none, below-more}
 use Rattle.tracker.specs.Calls.{block-rows}
 use Rattle.limit.specs.Exact.{restored}
 use Rattle.limit.proofs.Exact.{restored-cases}
 
 pub below-ascends : {low high : ℕ} {rows : List ℕ} → Ascends low high rows → Below high rows
-below-ascends Neighbours.none = below-none
-below-ascends (Neighbours.more {row} later from below) = below-more row (below-ascends later) below
+below-ascends ascends-none = below-none
+below-ascends (ascends-more {row} later from below) = below-more row (below-ascends later) below
 
 pub block-ascends : (s : Settings) (e : ℕ) → Ascends (e * s .block) (s .rows) (block-rows s e)
 unfolding block-rows

@@ -5,7 +5,7 @@ use native.Mathlib.Omega.{arith}
 use lib.Dec.{ltb, leb}
 use lib.ListN.{length}
 use Rattle.device.specs.Refusal.{refuse}
-use Rattle.device.proofs.Accepted.{accepted}
+use Rattle.device.proofs.Acceptance.{accepted-settings}
 use Rattle.bound.specs.Totals.{bound-of}
 use Rattle.tracker.specs.State.{state-of}
 use Rattle.tracker.specs.Calls.{activate, refresh}
@@ -19,7 +19,7 @@ use Rattle.limit.proofs.Answered.{answered-run}
 pub demand-3 : Demand-3
 unfolding Demand-3 bound-of
 demand-3 s st b calls row inside =
-    let ok = accepted s (begun-accepted b) in
+    let ok = accepted-settings s (begun-accepted b) in
     let i = state-inv-run b calls .inv in
     (omega (arith, inv-limit s ok i row inside), λ first. inv-first s ok i first row inside)
 
@@ -67,4 +67,4 @@ pub window-figure : Window-figure
 unfolding Window-figure state-of
 window-figure s st b calls row =
     let k = state-inv-run b calls in
-    rw (k .stored) (inv-present s (accepted s (begun-accepted b)) (k .inv) row)
+    rw (k .stored) (inv-present s (accepted-settings s (begun-accepted b)) (k .inv) row)

@@ -10,13 +10,11 @@ use borrow.Author.Tests.{eqb-false, ne-eqb}
 use lib.Dec.{eqb}
 use Rattle.device.specs.declared.Settings.{Settings}
 use Rattle.laws.proofs.Cases.{split}
-use Rattle.device.proofs.Times.{hit, times, times-append, times-below}
-use Rattle.device.proofs.Neighbours as Neighbours
-use Rattle.device.proofs.Neighbours.{Ascends}
+use Rattle.device.proofs.Occurrences.{hit, times, times-append, times-below}
+use Rattle.device.proofs.Victims.{ascends-none, ascends-more, Ascends}
 use Rattle.summary.specs.Steps.{in-rows, besides}
-use Rattle.summary.proofs.Event.{reached}
-use Rattle.summary.proofs.Distinct as Distinct
-use Rattle.summary.proofs.Distinct.{Distinct}
+use Rattle.summary.proofs.Steps.Event.{reached}
+use Rattle.summary.proofs.Entries.Picks.{distinct-none, distinct-more, Distinct}
 use Rattle.tracker.specs.Calls.{victims-in}
 use Rattle.limit.specs.Exact.{zeroed, restored, one-more, disturbed-by, once}
 
@@ -131,13 +129,13 @@ besides-both row rows (x ∷ xs) =
 
 once-ascending : {low high : ℕ} {xs : List ℕ} → Ascends low high xs → once xs ≡ xs
 unfolding once
-once-ascending Neighbours.none = refl
-once-ascending (Neighbours.more {row} {rows} later from below) =
+once-ascending ascends-none = refl
+once-ascending (ascends-more {row} {rows} later from below) =
     rw (once-ascending later) (ap (λ (zs : List ℕ). row ∷ zs) (besides-absent row rows (times-below row later (omega arith))))
 
 -- the named rows and then the block rows not among them are the named and block rows, each once
 pub once-sources : {names : List ℕ} → Distinct names → {low high : ℕ} {block : List ℕ} → Ascends low high block → once (names ++ block) ≡ names ++ besides names block
 unfolding once
-once-sources Distinct.none {block} a = once-ascending a ∙ sym (besides-nothing block)
-once-sources (Distinct.more row {rows = names} d e) {block} a =
+once-sources distinct-none {block} a = once-ascending a ∙ sym (besides-nothing block)
+once-sources (distinct-more row {rows = names} d e) {block} a =
     rw (once-sources d a, besides-append (row ∷ []) names (besides names block), besides-absent row names e, besides-both row names block)

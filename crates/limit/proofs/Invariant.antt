@@ -10,12 +10,13 @@ use native.Mathlib.Omega.{arith}
 use borrow.Author.Tests.{eqb-true, eqb-false}
 use lib.ListN.{length}
 use Rattle.device.specs.declared.Settings.{Settings}
-use Rattle.device.proofs.Accepted.{Accepted}
-use Rattle.device.proofs.Neighbours.{Ascends}
+use Rattle.device.proofs.Acceptance.{Accepted}
+use Rattle.device.proofs.Victims.{Ascends}
 use Rattle.bound.specs.Totals.{bound-at}
-use Rattle.bound.proofs.Growth.{bound-grows}
+use Rattle.bound.proofs.Totals.Bound.{bound-grows}
 use Rattle.summary.specs.Steps.{Summary, empty, besides, activation, picked, sources, event}
-use Rattle.summary.proofs.Distinct.{picks-distinct, sources-few}
+use Rattle.summary.proofs.Entries.Picks.{picks-distinct}
+use Rattle.summary.proofs.Steps.Sources.{length-sources-le}
 use Rattle.tracker.specs.Calls.{block-rows, ends-window, victims-in}
 use Rattle.tracker.proofs.Refusals.{Held}
 use Rattle.limit.specs.Exact.{Exact, at-rest, renewed, one-event-more, restored, once}
@@ -133,7 +134,7 @@ module _ (s : Settings) (ok : Accepted s) {all e k a : ℕ} {sum : Summary} {x y
             (since-le s (i .window) (i .few) (i .within))
             (omega (arith, i .room))
             (renewed-cases s named block rows (y .disturbance));
-        few = omega (arith, sources-few (s .volume) block sum, block-length-le s e);
+        few = omega (arith, length-sources-le (s .volume) block sum, block-length-le s e);
         within = lower;
         early = more;
         regular = omega (arith, i .regular);
@@ -159,7 +160,7 @@ module _ (s : Settings) (ok : Accepted s) {all e k a : ℕ} {sum : Summary} {x y
         window =
             window-last-event (scheme-of s all) (block-below s e) (i .window)
             (λ v. omega (arith, renewed-from-zero s named block rows v));
-        few = omega (arith, sources-few (s .volume) block sum, block-length-le s e);
+        few = omega (arith, length-sources-le (s .volume) block sum, block-length-le s e);
         within = lower;
         early = omega arith;
         regular = omega arith;

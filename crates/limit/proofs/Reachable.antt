@@ -11,7 +11,8 @@ use Rattle.device.specs.Refusal.{first-failed, refuse}
 use Rattle.device.specs.Acceptance.{settings-tests}
 use Rattle.summary.specs.Entries.{rows-of, counts-of}
 use Rattle.summary.specs.Steps.{Summary}
-use Rattle.summary.proofs.Laid.{length-rows, length-counts, length-table}
+use Rattle.summary.proofs.Entries.Lengths.{length-rows, length-counts}
+use Rattle.summary.proofs.Tables.{length-table}
 use Rattle.tracker.specs.State.{State, state-of}
 use Rattle.tracker.specs.Calls.{activate, refresh, activation-tests, refresh-tests}
 use Rattle.tracker.proofs.Refusals.{Held, activation-refusals, refresh-refusals}

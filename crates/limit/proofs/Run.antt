@@ -14,8 +14,8 @@ use Rattle.device.specs.Refusal.{first-failed, refuse, accepted, tested}
 use Rattle.device.specs.Acceptance.{settings-tests}
 use Rattle.device.specs.Remap.{physical}
 use Rattle.laws.proofs.Cases.{split, zero-one}
-use Rattle.device.proofs.Permutation.{physical-below}
-use Rattle.device.proofs.Accepted.{Accepted, accepted as accepted-facts}
+use Rattle.device.proofs.Remap.{physical-below}
+use Rattle.device.proofs.Acceptance.{Accepted, accepted-settings as accepted-facts}
 use Rattle.summary.specs.Steps.{Summary, empty, activation, picked, event}
 use Rattle.tracker.specs.declared.Position.{Position}
 use Rattle.tracker.specs.State.{State, state-of}

@@ -3,9 +3,9 @@
 use mathlib.Core.Path.{_≡_}
 use mathlib.Core.List.{List}
 use Prim.Native.Nat.{ℕ, suc, _+_, _*_, _≤_, _<_}
-use Rattle.device.proofs.Times.{times}
+use Rattle.device.proofs.Occurrences.{times}
 use Rattle.bound.specs.Totals.{total}
-use Rattle.summary.proofs.Event.{Reach}
+use Rattle.summary.proofs.Steps.Event.{Reach}
 
 pub record Scheme : Type 0 where
   pub rows : ℕ

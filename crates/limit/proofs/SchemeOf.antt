@@ -4,16 +4,16 @@ use Prim.Native.Nat.{ℕ, _+_, _-_, _*_, _≤_, _<_}
 use native.Mathlib.Nat.{le-trans, mul-le-mul, mul-le-mul-left, zero-add}
 use native.Mathlib.Omega.{arith}
 use Rattle.device.specs.declared.Settings.{Settings}
-use Rattle.device.proofs.Accepted.{Accepted}
-use Rattle.device.proofs.Neighbours as Neighbours
-use Rattle.device.proofs.Neighbours.{victims-ascend, victims-few}
-use Rattle.device.proofs.Times.{times, victims-once}
+use Rattle.device.proofs.Acceptance.{Accepted}
+use Rattle.device.proofs.Victims.{victims-ascend, length-victims-le}
+use Rattle.device.proofs.Occurrences.{times, victims-once}
 use Rattle.bound.specs.Totals.{size, total, disturbers, bound-at}
-use Rattle.bound.proofs.Sizes.{size-first, size-positive, size-grows, size-steps, size-most}
-use Rattle.bound.proofs.Growth.{disturbers-cover, added-few, total-small}
-use Rattle.summary.proofs.Rules.Ceiling.{ceiling-level, ceiling-higher, spillover-level}
-use Rattle.summary.proofs.Level.{Level}
-use Rattle.summary.proofs.Event.{Reach}
+use Rattle.bound.proofs.Totals.Size.{size-first, size-positive, size-grows, size-steps, size-le}
+use Rattle.bound.proofs.Totals.Bound.{disturbers-cover, added-le}
+use Rattle.bound.proofs.Totals.Total.{total-le}
+use Rattle.summary.proofs.Steps.Level.{ceiling-level, spillover-level, Level}
+use Rattle.summary.proofs.Rules.Ceiling.{ceiling-higher}
+use Rattle.summary.proofs.Steps.Event.{Reach}
 use Rattle.summary.specs.Steps.{Summary}
 use Rattle.tracker.specs.Calls.{victims-in}
 use Rattle.tracker.proofs.Refusals.{Held}
@@ -26,7 +26,7 @@ unfolding victims-in
 reach-victims s =
     record {
       inside = λ row h. below-ascends (victims-ascend (s .rows) (s .«blast_diameter») row h);
-      few = λ row. victims-few (s .rows) (s .«blast_diameter») row;
+      few = λ row. length-victims-le (s .rows) (s .«blast_diameter») row;
     }
 
 pub once-victims : (s : Settings) (row v : ℕ) → row < s .rows → times v (victims-in s row) ≤ 1
@@ -49,7 +49,7 @@ scheme-of s all =
       positive = size-positive (s .volume) (s .counters);
       grows = size-grows (s .volume) (s .counters);
       steps = size-steps (s .volume) (s .counters);
-      most = size-most (s .volume) (s .counters);
+      most = size-le (s .volume) (s .counters);
       reaches = reach-victims s;
       once = once-victims s;
     }
@@ -79,14 +79,14 @@ module _ (s : Settings) {all k a g : ℕ} {cur : ℕ → ℕ} {sum : Summary} (w
       let few : at .sum + s .«blast_diameter» * g ≤ 2000000000 =
       omega (
         arith,
-        total-small (c .size) added (c .grows) k 0,
+        total-le (c .size) added (c .grows) k 0,
         mul-le-mul-left (s .«blast_diameter») since-le,
-        mul-le-mul events (added-few s (ok .others)),
+        mul-le-mul events (added-le s (ok .others)),
       ) in
       record {
         sound = w .sound;
         early = early;
         within = within;
         ceiling = ceiling-higher (ceiling-level one) few;
-        spilt = le-trans (spillover-level one) few;
+        spillover-le = le-trans (spillover-level one) few;
       }

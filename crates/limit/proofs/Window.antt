@@ -8,15 +8,14 @@ use native.Mathlib.Nat.{mul-le-mul-left, add-zero, zero-add}
 use native.Mathlib.Omega.{arith}
 use borrow.Author.Tests.{eq-eqb}
 use lib.ListN.{length}
-use Rattle.device.proofs.Times.{hit, times}
+use Rattle.device.proofs.Occurrences.{hit, times}
 use Rattle.bound.specs.Totals.{total}
 use Rattle.summary.specs.Steps.{Summary, empty, estimate, activation, picked, taken-out, cleared-if, sources, event}
-use Rattle.summary.proofs.Level.{Level, level-more}
-use Rattle.summary.proofs.Rules.Ceiling.{estimate-level}
+use Rattle.summary.proofs.Steps.Level.{Level, level-more, estimate-level, level-empty}
 use Rattle.summary.specs.Rules.{Sound, Below, below-none, below-more}
 use Rattle.summary.proofs.Rules.Sound.{sound-empty}
-use Rattle.summary.proofs.Distinct.{sources-below}
-use Rattle.summary.proofs.Event.{reached, level-empty, sound-activation, level-activation, estimate-activation, estimate-activated, level-taken-out, sound-taken-out, estimate-taken-out, sound-event, level-event, estimate-event}
+use Rattle.summary.proofs.Steps.Sources.{sources-below}
+use Rattle.summary.proofs.Steps.Event.{reached, sound-activation, level-activation, estimate-activation, estimate-activated, level-taken-out, sound-taken-out, estimate-taken-out, sound-event, level-event, estimate-event}
 use Rattle.limit.proofs.Scheme.{Scheme, total-from, total-of}
 
 -- after e events, with j more to come: the size(j) largest slots sum to at most a number from which j steps lead no further than j + e from 0,

@@ -10,7 +10,7 @@ use lib.Seq.{take-at}
 use Rattle.device.specs.declared.Settings.{Settings}
 use Rattle.device.specs.Refusal.{first-failed, refuse}
 use Rattle.summary.specs.Steps.{picked}
-use Rattle.summary.proofs.Distinct.{picks-few}
+use Rattle.summary.proofs.Entries.Picks.{length-picks-le}
 use Rattle.tracker.specs.State.{State, summary-of}
 use Rattle.tracker.specs.Calls.{kept-unless, activation-tests, refresh-tests, activate, refresh}
 use Rattle.tracker.proofs.Passed.{activation-refused}
@@ -70,4 +70,4 @@ module _ {s : Settings} {st : State} (r : Reached s st) where
 -- at most V rows are named
 pub names-few : (s : Settings) (st : State) → length (picked (s .volume) (summary-of st)) ≤ s .volume
 unfolding picked
-names-few s st = picks-few (s .volume) (summary-of st .entries)
+names-few s st = length-picks-le (s .volume) (summary-of st .entries)

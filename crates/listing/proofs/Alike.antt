@@ -9,7 +9,7 @@ use lib.ListN.{length, replicate}
 use Rattle.device.specs.declared.Settings.{Settings}
 use Rattle.device.specs.Refusal.{first-failed, refuse, Outcome, accepted, refused}
 use Rattle.device.specs.Acceptance.{settings-tests}
-use Rattle.device.proofs.Accepted.{or-later}
+use Rattle.device.proofs.Refusal.{or-later}
 use Rattle.tracker.specs.declared.Position.{Position}
 use Rattle.tracker.specs.Calls.{SetUp-call, tables-long, set-up-tests, set-up, activate, refresh}
 use Rattle.tracker.proofs.Passed.{set-up-tested}

@@ -8,7 +8,7 @@ use native.Mathlib.Omega.{arith}
 use lib.ListN.{length, take, drop, length-append, length-drop, take-append-drop}
 use lib.Seq.{take-at}
 use Rattle.device.specs.declared.Settings.{Settings}
-use Rattle.device.proofs.Accepted.{accepted}
+use Rattle.device.proofs.Acceptance.{accepted-settings}
 use Rattle.laws.proofs.Cases.{split}
 use Rattle.tracker.specs.declared.Position.{Position}
 use Rattle.tracker.specs.State.{State}
@@ -36,7 +36,7 @@ module _ (m : Memory) where
 
 -- C is at most 2,048
 pub counters-most : {s : Settings} {st : State} (t : List ℕ) → Reached s st → length t ≡ 2048 → s .counters ≤ length t
-counters-most {s} t r e = omega (arith, e, accepted s (reached-accepted r) .counters .most)
+counters-most {s} t r e = omega (arith, e, accepted-settings s (reached-accepted r) .counters .most)
 
 -- a place with another position, at a line
 abbrev at-line : Place → Position → ℕ → Place

@@ -8,7 +8,7 @@ use lib.Seq.{length-take-le}
 use Rattle.device.specs.declared.Settings.{Settings}
 use Rattle.device.specs.Refusal.{first-failed, Outcome, accepted, tested}
 use Rattle.device.specs.Acceptance.{settings-tests}
-use Rattle.device.proofs.Accepted.{or-later}
+use Rattle.device.proofs.Refusal.{or-later}
 use Rattle.bound.specs.Totals.{bound-of}
 use Rattle.bound.specs.declared.Answer.{Answer}
 use Rattle.bound.specs.Answers.{outcome, bound-answer}

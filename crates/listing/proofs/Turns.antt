@@ -8,7 +8,7 @@ use native.Mathlib.Omega.{arith}
 use lib.ListN.{length, take, replicate, length-replicate}
 use Rattle.device.specs.declared.Settings.{Settings}
 use Rattle.device.specs.Refusal.{first-failed}
-use Rattle.device.proofs.Accepted.{accepted}
+use Rattle.device.proofs.Acceptance.{accepted-settings}
 use Rattle.summary.specs.Steps.{picked}
 use Rattle.tracker.specs.declared.Position.{Position}
 use Rattle.tracker.specs.declared.Refreshed.{Refreshed}
@@ -30,14 +30,14 @@ pub activation-refusal-listed : {before after : List ℕ} {at end : ℕ} (s : Se
 unfolding activation-step stood answered
 activation-refusal-listed s rows counts p row line k call printed = rw (← call) (record { printed = printed; left = refl })
 
--- an accepted one prints nothing
+-- an accepted-settings one prints nothing
 pub activation-listed : (s : Settings) (st : State) (row line : ℕ) (rows counts : List ℕ) (p : Position) (before : List ℕ) (at : ℕ) → first-failed (activation-tests s st row) ≡ 0 → given rows counts p ≡ activate s st row .state → at ≤ length before → Lists (activation-step line s (activate s st row)) s rows counts p before at before at
 unfolding activation-step stood answered
 activation-listed s st row line rows counts p before at none left h =
     rw (← activation-done s st row none left) (record { printed = prints-nothing before at h; left = refl })
 
 pub volume-most : {s : Settings} {st : State} → Reached s st → s .volume ≤ 16
-volume-most {s} r = accepted s (reached-accepted r) .others .volume .most
+volume-most {s} r = accepted-settings s (reached-accepted r) .others .volume .most
 
 pub list-long : (n : ℕ) → n ≤ length {A = ℕ} (replicate n 0)
 list-long n = let long : length {A = ℕ} (replicate n 0) ≡ n = length-replicate n 0 in omega arith

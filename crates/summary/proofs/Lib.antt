@@ -1,14 +1,7 @@
--- Laws of the summary.
-pub mod DisturbCases
+-- Laws of the summary, by the definitions that they are about.
+pub mod Entries
+pub mod Steps
 pub mod Rules
-pub mod Estimates
-pub mod Level
-pub mod Share
-pub mod Event
-pub mod Distinct
-pub mod Laid
-pub mod Places
-pub mod Columns
-pub mod Stored
-pub mod Moves
-pub mod Walks
+pub mod Tables
+pub mod Contracts
+pub mod Claims

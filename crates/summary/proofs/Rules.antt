@@ -2,4 +2,5 @@
 pub mod Floor
 pub mod Order
 pub mod Ceiling
+pub mod Room
 pub mod Sound

@@ -1,6 +1,6 @@
 -- The rules of a summary's own, as predicates: counts at least the spillover and at least 1, rows ascending below the bank's end, no more
 -- than there are places; and how high counts may be.
-use Prim.Native.Nat.{ℕ, suc, _≤_, _<_}
+use Prim.Native.Nat.{ℕ, suc, _-_, _≤_, _<_}
 use mathlib.Core.List.{List, [], _∷_}
 use lib.ListN.{length}
 use Rattle.summary.specs.Entries.{Entry}
@@ -36,4 +36,8 @@ pub record Sound (high counters : ℕ) (s : Summary) : Type 0 where
 -- no count and no spillover above a number
 pub record Room (most : ℕ) (s : Summary) : Type 0 where
   pub counts : Ceiling most (s .entries)
-  pub spilt : s .spillover ≤ most
+  pub spillover-le : s .spillover ≤ most
+
+-- room for so many more disturbances in numbers of 32 bits: each raises no count, and not the spillover, by more than 1
+abbrev pub Room-for : ℕ → Summary → Type 0
+Room-for more s = Room (4294967295 - more) s

@@ -1,14 +1,9 @@
 -- Two lent tables, rows and counts, that hold a summary.
-use Prim.Native.Nat.{ℕ, zero, suc, _+_, _-_}
-use mathlib.Core.Path.{_≡_}
+use Prim.Native.Nat.{ℕ, zero, suc, _-_}
 use mathlib.Core.List.{List, [], _∷_, _++_}
-use lib.ListN.{length, drop, replicate}
-use Rattle.summary.specs.Entries.{Entry, rows-of, counts-of, entered, picks}
-use Rattle.summary.specs.Steps.{Summary, drop-rows}
-use Rattle.summary.specs.Rules.{Sound}
-use Rattle.summary.specs.declared.Tally.{Tally}
-use denote.Ref.{RefT, now}
-use denote.Triple.Both.{Both}
+use lib.ListN.{length, replicate}
+use Rattle.summary.specs.Entries.{Entry}
+use Rattle.summary.specs.Steps.{Summary}
 
 -- a table of so many places: numbers at the front, 'all places behind hold 0'
 unfoldable pub table : ℕ → List ℕ → List ℕ
@@ -24,56 +19,3 @@ entries-of (suc k) (row ∷ rows) (count ∷ counts) = record { row = row; count
 -- the summary that two tables hold
 unfoldable pub read : List ℕ → List ℕ → ℕ → ℕ → Summary
 read rows counts tracked spillover = record { entries = entries-of tracked rows counts; spillover = spillover }
-
--- two tables of so many places that hold a summary of a bank of so many rows, with its number of entries and its spillover
-pub record Holds (places high : ℕ) (sum : Summary) (rows counts : List ℕ) (tracked spillover : ℕ) : Type 0 where
-  pub rows-laid : rows ≡ table places (rows-of (sum .entries))
-  pub counts-laid : counts ≡ table places (counts-of (sum .entries))
-  pub tracked-is : tracked ≡ length (sum .entries)
-  pub spilt-is : spillover ≡ sum .spillover
-  pub sound : Sound high places sum
-
--- two tables as the functions on them want them: they hold what is read from them. Rows are 32-bit numbers
-abbrev pub Held : List ℕ → List ℕ → ℕ → ℕ → Type 0
-Held rows counts tracked spillover =
-    Holds (length rows) 4294967296 (read rows counts tracked spillover) rows counts tracked spillover
-
--- two tables as the functions leave them: as many places as there were, holding a summary
-abbrev pub Left : List ℕ → Summary → List ℕ → List ℕ → ℕ → ℕ → Type 0
-Left rows₀ sum rows counts tracked spillover = Holds (length rows₀) 4294967296 sum rows counts tracked spillover
-
--- the same of a function's parameters: two lent tables and the tally that goes with them
-abbrev pub Slice : Type 0
-Slice = RefT (List ℕ)
-
-abbrev pub summary : Slice → Slice → Tally → Summary
-summary rows counts t = read (now rows) (now counts) (t .tracked) (t .spillover)
-
-abbrev pub Tracks : Slice → Slice → Tally → Type 0
-Tracks rows counts t = Held (now rows) (now counts) (t .tracked) (t .spillover)
-
--- the places of a table that was lent
-abbrev pub places : Both Slice Slice → ℕ
-places rows = length (now (rows .entry))
-
--- what a function makes of the summary that it was lent, in as many places
-abbrev pub Turns : Both Slice Slice → Both Slice Slice → Tally → (Summary → Summary) → Tally → Type 0
-Turns rows counts t step t′ =
-    Left (now (rows .entry)) (step (summary (rows .entry) (counts .entry) t)) (now (rows .exit)) (now (counts .exit)) (t′ .tracked) (t′ .spillover)
-
--- a row entered with one more than the spillover
-unfoldable pub entered-in : ℕ → Summary → Summary
-entered-in row sum = record { entries = entered row (sum .spillover + 1) (sum .entries); spillover = sum .spillover }
-
--- the picked rows at the front of a list, whose other places keep what they had, and their number
-pub record PickedFrom (volume : ℕ) (sum : Summary) (list₀ list : List ℕ) (count : ℕ) : Type 0 where
-  pub named : list ≡ picks volume (sum .entries) ++ drop (length (picks volume (sum .entries))) list₀
-  pub counted : count ≡ length (picks volume (sum .entries))
-
--- the same of the list that was lent
-abbrev pub Names : Both Slice Slice → ℕ → Summary → ℕ → Type 0
-Names list volume sum count = PickedFrom volume sum (now (list .entry)) (now (list .exit)) count
-
--- a summary without the rows that are picked
-abbrev pub picked-out : ℕ → Summary → Summary
-picked-out volume sum = drop-rows (picks volume (sum .entries)) sum

@@ -6,11 +6,11 @@ ghost use mathlib.Core.List.{_∷_, []};
 ghost use Prim.Native.Nat.{_-_, _≤_, _<_};
 ghost use lib.ListN.{length, take};
 ghost use Rattle.device.specs.Victims.{rows-between};
-ghost use Rattle.tables.specs.Places.{Rising, equal-place, taken-at};
-ghost use Rattle.summary.specs.Entries.{has, picks as picks-of};
-ghost use Rattle.summary.specs.Steps.{disturb as disturbed, disturb-each, drop-rows, in-rows};
-ghost use Rattle.summary.specs.Rules.{Room};
-ghost use Rattle.summary.specs.Tables.{summary, places, Tracks, Turns, entered-in, Names, picked-out};
+ghost use Rattle.tables.specs.Contracts.{Rising, equal-place, taken-at};
+ghost use Rattle.summary.specs.Entries.{has, picks};
+ghost use Rattle.summary.specs.Steps.{disturb, disturb-each, drop-rows, enter, in-rows};
+ghost use Rattle.summary.specs.Rules.{Room-for};
+ghost use Rattle.summary.specs.Contracts.{summary, places, Tracks, Turns, Names, picked-out};
 
 // The number of tracked rows and the spillover, which go with the tables.
 pub struct Tally {
@@ -75,11 +75,11 @@ pub fn drop_row(rows: &mut [u32], counts: &mut [u32], t: Tally, row: u32) -> Tal
 }
 
 // A row that is not tracked is entered with one more than the spillover; a place is free.
-fn enter(rows: &mut [u32], counts: &mut [u32], t: Tally, row: u32) -> Tally
+fn enter_row(rows: &mut [u32], counts: &mut [u32], t: Tally, row: u32) -> Tally
     requires { ⌜ Tracks rows counts t ⌝ }
-    requires { ⌜ (t .tracked < length (now rows)) × (t .spillover ≤ 4000000000) ⌝ }
+    requires { ⌜ (t .tracked < length (now rows)) × (t .spillover < 4294967295) ⌝ }
     requires { ⌜ has row (summary rows counts t .entries) ≡ false ⌝ }
-    ensures { λ r. ⌜ Turns rows counts t (entered-in row) r ⌝ }
+    ensures { λ r. ⌜ Turns rows counts t (enter row) r ⌝ }
 {
     let k = t.tracked;
     let p = tables::lower_bound(rows, k, row);
@@ -94,15 +94,15 @@ fn enter(rows: &mut [u32], counts: &mut [u32], t: Tally, row: u32) -> Tally
 // No place is free: the lowest-numbered row at the spillover makes room, or the spillover rises.
 fn disturb_full(rows: &mut [u32], counts: &mut [u32], t: Tally, row: u32) -> Tally
     requires { ⌜ Tracks rows counts t ⌝ }
-    requires { ⌜ (t .tracked ≡ length (now rows)) × (t .spillover ≤ 4000000000) ⌝ }
+    requires { ⌜ (t .tracked ≡ length (now rows)) × (t .spillover < 4294967295) ⌝ }
     requires { ⌜ has row (summary rows counts t .entries) ≡ false ⌝ }
-    ensures { λ r. ⌜ Turns rows counts t (disturbed (places rows) row) r ⌝ }
+    ensures { λ r. ⌜ Turns rows counts t (disturb (places rows) row) r ⌝ }
 {
     let k = t.tracked;
     let q = tables::first_equal(counts, k, t.spillover);
     if q < k {
         let less = remove_entry(rows, counts, t, q);
-        enter(rows, counts, less, row)
+        enter_row(rows, counts, less, row)
     } else {
         Tally {
             tracked: k,
@@ -112,10 +112,10 @@ fn disturb_full(rows: &mut [u32], counts: &mut [u32], t: Tally, row: u32) -> Tal
 }
 
 // 'Disturbing one row'.
-pub fn disturb(rows: &mut [u32], counts: &mut [u32], t: Tally, row: u32) -> Tally
+pub fn disturb_row(rows: &mut [u32], counts: &mut [u32], t: Tally, row: u32) -> Tally
     requires { ⌜ Tracks rows counts t ⌝ }
-    requires { ⌜ Room 4000000000 (summary rows counts t) ⌝ }
-    ensures { λ r. ⌜ Turns rows counts t (disturbed (places rows) row) r ⌝ }
+    requires { ⌜ Room-for 1 (summary rows counts t) ⌝ }
+    ensures { λ r. ⌜ Turns rows counts t (disturb (places rows) row) r ⌝ }
 {
     let k = t.tracked;
     let p = lookup(rows, k, row);
@@ -124,7 +124,7 @@ pub fn disturb(rows: &mut [u32], counts: &mut [u32], t: Tally, row: u32) -> Tall
         return t;
     }
     if k < rows.len() {
-        enter(rows, counts, t, row)
+        enter_row(rows, counts, t, row)
     } else {
         disturb_full(rows, counts, t, row)
     }
@@ -133,13 +133,13 @@ pub fn disturb(rows: &mut [u32], counts: &mut [u32], t: Tally, row: u32) -> Tall
 // The rows from one on and below another are disturbed, ascending.
 pub fn disturb_run(rows: &mut [u32], counts: &mut [u32], t: Tally, low: u32, high: u32) -> Tally
     requires { ⌜ Tracks rows counts t ⌝ }
-    requires { ⌜ (high - low ≤ 64) × Room 3999999936 (summary rows counts t) ⌝ }
+    requires { ⌜ (high - low ≤ 64) × Room-for 64 (summary rows counts t) ⌝ }
     ensures { λ r. ⌜ Turns rows counts t (disturb-each (places rows) (rows-between low high)) r ⌝ }
 {
     let mut left = t;
     let mut row = low;
     while row < high {
-        left = disturb(rows, counts, left, row);
+        left = disturb_row(rows, counts, left, row);
         row += 1;
     }
     left
@@ -163,7 +163,7 @@ pub fn drop_run(rows: &mut [u32], counts: &mut [u32], t: Tally, low: u32, high: 
 fn take_top(rows: &mut [u32], counts: &mut [u32], t: Tally) -> Taken
     requires { ⌜ Tracks rows counts t ⌝ }
     requires { ⌜ 0 < t .tracked ⌝ }
-    ensures { λ r. ⌜ (r .row ∷ [] ≡ picks-of 1 (summary (rows .entry) (counts .entry) t .entries)) × Turns rows counts t (drop-rows (r .row ∷ [])) (r .tally) ⌝ }
+    ensures { λ r. ⌜ (r .row ∷ [] ≡ picks 1 (summary (rows .entry) (counts .entry) t .entries)) × Turns rows counts t (drop-rows (r .row ∷ [])) (r .tally) ⌝ }
 {
     let at = tables::first_highest(counts, t.tracked);
     let row = rows[at];

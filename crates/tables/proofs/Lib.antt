@@ -1,3 +1,4 @@
--- Laws of the operations on one table of numbers.
-pub mod Shifts
+-- Laws of the operations on one table.
 pub mod Searches
+pub mod Shifts
+pub mod Scans

@@ -6,7 +6,7 @@ use native.Mathlib.Numerals.{add-one}
 use native.Mathlib.Omega.{arith}
 use lib.ListN.{length, getD, take, drop, set, length-drop, length-set}
 use lib.Seq.{take-set-le, drop-set-lt, drop-set-add, set-split, take-suc, drop-cons, take-suc-set, getD-drop, getD-set-same}
-use Rattle.tables.specs.Places.{put-in, taken-at}
+use Rattle.tables.specs.Contracts.{put-in, taken-at}
 
 pub put-in-last : (t : List ℕ) (n x : ℕ) → n < length t → set t n x ≡ put-in t n n x
 unfolding put-in
@@ -45,15 +45,15 @@ put-in-again t n at x h l =
     rw (one-less, from-store t n v l, before-store t at k n v (omega arith), take-set-le at t n v (omega arith), wider, more, add-one)
     (simp append-assoc)
 
-pub taken-last : (t : List ℕ) (n i : ℕ) → i + 1 ≡ n → n ≤ length t → set t i 0 ≡ taken-at t n i
+pub taken-at-last : (t : List ℕ) (n i : ℕ) → i + 1 ≡ n → n ≤ length t → set t i 0 ≡ taken-at t n i
 unfolding taken-at
-taken-last t n i e l =
+taken-at-last t n i e l =
     let none : n - (i + 1) ≡ 0 = omega arith in
     rw (none, ← e, add-one, append-assoc) (set-split t i 0 (omega arith))
 
-pub taken-again : (t : List ℕ) (n i : ℕ) → i + 1 < n → n ≤ length t → taken-at (set t i (getD t (i + 1) 0)) n (i + 1) ≡ taken-at t n i
+pub taken-at-again : (t : List ℕ) (n i : ℕ) → i + 1 < n → n ≤ length t → taken-at (set t i (getD t (i + 1) 0)) n (i + 1) ≡ taken-at t n i
 unfolding taken-at
-taken-again t n i h l =
+taken-at-again t n i h l =
     let v = getD t (i + 1) 0 in
     let k = n - (i + 1 + 1) in
     let wider : n - (i + 1) ≡ suc k = omega arith in

@@ -2,7 +2,7 @@
 ghost use mathlib.Core.Path.{_≡_};
 ghost use Prim.Native.Nat.{_≤_, _<_};
 ghost use lib.ListN.{length, take, replicate};
-ghost use Rattle.tables.specs.Places.{Rising, lower-place, equal-place, highest-place, put-in, taken-at};
+ghost use Rattle.tables.specs.Contracts.{Rising, lower-place, equal-place, highest-place, put-in, taken-at};
 
 // Where x belongs among the used places, which ascend: how many of them are below x. By bisection.
 pub fn lower_bound(t: &[u32], used: usize, x: u32) -> usize

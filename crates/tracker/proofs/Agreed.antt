@@ -10,10 +10,11 @@ use lib.ListN.{length}
 use Rattle.device.specs.declared.Settings.{Settings}
 use Rattle.device.specs.Refusal.{unless, refuse, first-failed, Outcome, refused, accepted as accepted-with, tested}
 use Rattle.device.specs.Acceptance.{settings-tests}
-use Rattle.device.proofs.Accepted.{accepted, both, or-later, settings-then}
-use Rattle.device.proofs.Tested.{tested-passed, tested-failed}
-use Rattle.summary.specs.Tables.{read, Holds}
-use Rattle.summary.proofs.Stored.{long-rows}
+use Rattle.device.proofs.Acceptance.{accepted-settings, both, settings-then}
+use Rattle.device.proofs.Refusal.{or-later, tested-passed, tested-failed}
+use Rattle.summary.specs.Tables.{read}
+use Rattle.summary.specs.Contracts.{Holds}
+use Rattle.summary.proofs.Contracts.Holds.{long-rows}
 use Rattle.tracker.specs.State.{State, summary-of, valid}
 use Rattle.tracker.specs.Calls.{tables-long, agreement-tests, agree, same-estimates}
 use Rattle.tracker.proofs.Valid.{Facts, valid-facts}

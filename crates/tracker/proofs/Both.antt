@@ -5,7 +5,8 @@ use mathlib.Core.List.{List}
 use Prim.Native.Nat.{ℕ, _+_, _≤_, _<_, min}
 use native.Mathlib.Omega.{arith}
 use lib.ListN.{length}
-use Rattle.summary.specs.Tables.{read, Holds}
+use Rattle.summary.specs.Tables.{read}
+use Rattle.summary.specs.Contracts.{Holds}
 use Rattle.tracker.specs.Calls.{same-estimates}
 use Rattle.tracker.specs.Walk.{next-row, figure-at, place-after}
 use Rattle.tracker.proofs.Rows.{differ, alike}

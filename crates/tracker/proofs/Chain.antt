@@ -9,11 +9,11 @@ use lib.Seq.{take-at}
 use Rattle.summary.specs.Entries.{Entry, picks}
 use Rattle.summary.specs.Steps.{Summary, empty, disturb-each, spread, besides, picked, taken-out, cleared-if, sources, event}
 use Rattle.summary.specs.Rules.{Room, bare, Below, below-none, below-more, Ordered}
-use Rattle.summary.specs.Tables.{read, Holds, PickedFrom}
-use Rattle.summary.proofs.Laid.{held-read}
-use Rattle.summary.proofs.Rules.Ceiling.{room-more, room-each, room-drop}
-use Rattle.summary.proofs.Stored.{long-rows}
-use Rattle.summary.proofs.Distinct.{picks-below, picks-few}
+use Rattle.summary.specs.Tables.{read}
+use Rattle.summary.specs.Contracts.{Holds, PickedFrom}
+use Rattle.summary.proofs.Contracts.Holds.{held-read, long-rows}
+use Rattle.summary.proofs.Rules.Room.{room-more, room-each, room-drop}
+use Rattle.summary.proofs.Entries.Picks.{picks-below, length-picks-le}
 
 spread-append : (counters : ℕ) (victims-of : ℕ → List ℕ) (xs ys : List ℕ) (s : Summary) → spread counters victims-of (xs ++ ys) s ≡ spread counters victims-of ys (spread counters victims-of xs s)
 unfolding spread
@@ -26,7 +26,7 @@ room-taken-out volume block {sum} r = room-drop (picked volume sum ++ block) r
 
 pub room-cleared : {most : ℕ} (last : Bool) {sum : Summary} → Room most sum → Room most (cleared-if last sum)
 unfolding cleared-if empty
-room-cleared true r = record { counts = bare; spilt = omega arith }
+room-cleared true r = record { counts = bare; spillover-le = omega arith }
 room-cleared false r = r
 
 pub room-spread : {most : ℕ} (counters : ℕ) (victims-of : ℕ → List ℕ) → ((row : ℕ) → length (victims-of row) ≤ 4) → (rows : List ℕ) (sum : Summary) → Room most sum → Room (most + 4 * length rows) (spread counters victims-of rows sum)
@@ -51,7 +51,7 @@ module _ {volume : ℕ} {sum : Summary} {list₀ list : List ℕ} {count : ℕ} 
       (take-at (picks volume (sum .entries)) (drop (length (picks volume (sum .entries))) list₀) (length (picks volume (sum .entries))) refl)
 
   pub named-few : count ≤ volume
-  named-few = rw (p .counted) (picks-few volume (sum .entries))
+  named-few = rw (p .counted) (length-picks-le volume (sum .entries))
 
   pub named-below : {high : ℕ} → Ordered high 0 (sum .entries) → high ≤ 65536 → Below 65536 (take count list)
   unfolding picked

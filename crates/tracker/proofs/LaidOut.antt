@@ -12,7 +12,8 @@ use Rattle.device.specs.declared.Settings.{Settings}
 use Rattle.summary.specs.Entries.{Entry, rows-of, counts-of}
 use Rattle.summary.specs.Steps.{Summary}
 use Rattle.summary.specs.Tables.{table, read}
-use Rattle.summary.proofs.Laid.{length-rows, length-counts, length-table, entries-back}
+use Rattle.summary.proofs.Entries.Lengths.{length-rows, length-counts}
+use Rattle.summary.proofs.Tables.{length-table, entries-back}
 use Rattle.summary.specs.Rules.{Floor, Ceiling, bare, under, Ordered, ordered-none, ordered-more, Sound}
 use Rattle.summary.proofs.Rules.Floor.{floor-parts}
 use Rattle.tracker.specs.State.{State, summary-of, state-of, zeros, ascending, counts-allowed, valid}
@@ -51,7 +52,7 @@ counts-fine {spill} (under x c h) f p =
 -- the rules hold
 pub valid-state : (s : Settings) (e a : ℕ) (sum : Summary) → Sound (s .rows) (s .counters) sum → e < s .window → a ≤ s .interval → Ceiling 2000000000 (sum .entries) → sum .spillover ≤ 2000000000 → valid s (state-of s e a sum) ≡ true
 unfolding valid state-of table
-valid-state s e a sum k he ha ceiling spilt =
+valid-state s e a sum k he ha ceiling spillover-le =
     let rows = rows-of (sum .entries) in
     let counts = counts-of (sum .entries) in
     rw (
@@ -67,4 +68,4 @@ valid-state s e a sum k he ha ceiling spilt =
       zeros-behind (s .counters - length counts),
       counts-fine ceiling (k .floor) (k .positive),
     )
-    (le-leb (sum .spillover) 2000000000 spilt)
+    (le-leb (sum .spillover) 2000000000 spillover-le)

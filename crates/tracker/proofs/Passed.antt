@@ -12,12 +12,14 @@ use lib.ListN.{length, replicate}
 use Rattle.device.specs.declared.Settings.{Settings}
 use Rattle.device.specs.Refusal.{Test, unless, refuse, first-failed, refused, accepted as accepted-with, tested}
 use Rattle.device.specs.Acceptance.{settings-tests}
-use Rattle.device.proofs.Accepted.{Accepted, accepted, both, or-later, settings-then}
+use Rattle.device.proofs.Acceptance.{Accepted, accepted-settings, both, settings-then}
+use Rattle.device.proofs.Refusal.{or-later}
 use Rattle.summary.specs.Entries.{Entry, rows-of, counts-of}
 use Rattle.summary.specs.Steps.{Summary, empty, picked, event}
 use Rattle.summary.specs.Rules.{Room, Ordered, ordered-none, ordered-more, Sound}
-use Rattle.summary.specs.Tables.{table, Holds, Held, PickedFrom}
-use Rattle.summary.proofs.Moves.{held-again}
+use Rattle.summary.specs.Tables.{table}
+use Rattle.summary.specs.Contracts.{Holds, Held, PickedFrom}
+use Rattle.summary.proofs.Contracts.Holds.{held-again}
 use Rattle.tracker.specs.declared.Position.{Position}
 use Rattle.tracker.specs.State.{State, summary-of, state-of, valid}
 use Rattle.tracker.specs.Calls.{tables-long, set-up-tests, activation-tests, refresh-tests, kept-unless, set-up, activate, refresh, victims-in, block-rows, ends-window, next-event}
@@ -102,7 +104,7 @@ pub record Ready (s : Settings) (st : State) : Type 0 where
 ready : (s : Settings) (st : State) → first-failed (set-up-tests s (st .rows) (st .counts)) ≡ 0 → valid s st ≡ true → Ready s st
 ready s st e v =
     let o = open-tables s (st .rows) (st .counts) e in
-    record { fitting = o; settings = accepted s (o .settled); facts = valid-facts s st (o .long) v }
+    record { fitting = o; settings = accepted-settings s (o .settled); facts = valid-facts s st (o .long) v }
 
 pub activation-ready : (s : Settings) (st : State) (row : ℕ) → first-failed (activation-tests s st row) ≡ 0 → Ready s st × (row < s .rows) × (st .position .activations < s .interval)
 activation-ready s st row e =
@@ -132,7 +134,7 @@ ready-held {s} {st} r =
       rows-laid = h .rows-laid;
       counts-laid = h .counts-laid;
       tracked-is = h .tracked-is;
-      spilt-is = h .spilt-is;
+      spillover-is = h .spillover-is;
       sound = record {
         floor = h .sound .floor;
         positive = h .sound .positive;
@@ -149,13 +151,13 @@ state-made s e a h =
     λ i. record {
       rows = h .rows-laid i;
       counts = h .counts-laid i;
-      position = record { events = e; activations = a; tracked = h .tracked-is i; spillover = h .spilt-is i };
+      position = record { events = e; activations = a; tracked = h .tracked-is i; spillover = h .spillover-is i };
     }
 
 pub diameter-four : {s : Settings} → Accepted s → s .«blast_diameter» ≤ 4
 diameter-four ok = ⊎-elim (λ e. omega (arith, e)) (λ e. omega (arith, e)) (ok .others .diameter)
 
--- each call refused, and accepted
+-- each call refused, and accepted-settings
 pub set-up-refused : (s : Settings) (rows counts : List ℕ) (k : ℕ) → k ≡ first-failed (set-up-tests s rows counts) → (k ≡ 0 → ⊥) → record { answer = refused k; rows = rows; counts = counts } ≡ set-up s rows counts
 unfolding set-up kept-unless tested
 set-up-refused s rows counts zero e h = absurd (h refl)
@@ -181,7 +183,7 @@ unfolding refresh kept-unless
 refresh-refused s st picks zero e h = absurd (h refl)
 refresh-refused s st picks (suc k) e h = rw (← e, ne-eqb (suc k) 0 h)
 
--- an accepted event, from what was picked and what the tables hold
+-- an accepted-settings event, from what was picked and what the tables hold
 pub refresh-done : (s : Settings) (st : State) (list₀ : List ℕ) {rows counts list : List ℕ} {count e k spill : ℕ} → first-failed (refresh-tests s st list₀) ≡ 0 → PickedFrom (s .volume) (summary-of st) list₀ list count → Holds (length (st .rows)) 4294967296 (event (length (st .rows)) (victims-in s) (s .volume) (block-rows s (st .position .events)) (ends-window s (st .position .events)) (summary-of st)) rows counts k spill → e ≡ next-event s (st .position .events) → record { accepts = true; refusal = 0; count = count; state = given rows counts (record { events = e; activations = 0; tracked = k; spillover = spill }); picks = list } ≡ refresh s st list₀
 unfolding refresh kept-unless picked
 refresh-done s st list₀ none x h ee =

@@ -8,7 +8,8 @@ use lib.ListN.{length}
 use Rattle.device.specs.declared.Settings.{Settings}
 use Rattle.device.specs.Refusal.{first-failed, unless, refuse}
 use Rattle.device.specs.Acceptance.{settings-tests}
-use Rattle.device.proofs.Accepted.{or-later, settings-then}
+use Rattle.device.proofs.Refusal.{or-later}
+use Rattle.device.proofs.Acceptance.{settings-then}
 use Rattle.summary.specs.Steps.{Summary}
 use Rattle.summary.specs.Rules.{Ceiling, Sound}
 use Rattle.tracker.specs.State.{State, state-of, valid}
@@ -21,14 +22,14 @@ pub record Held (s : Settings) (e a : ℕ) (sum : Summary) : Type 0 where
   pub early : e < s .window
   pub within : a ≤ s .interval
   pub ceiling : Ceiling 2000000000 (sum .entries)
-  pub spilt : sum .spillover ≤ 2000000000
+  pub spillover-le : sum .spillover ≤ 2000000000
 
 module _ (s : Settings) (e a : ℕ) (sum : Summary) (ok : first-failed (settings-tests s) ≡ 0) (h : Held s e a sum) where
   long : tables-long s (state-of s e a sum .rows) (state-of s e a sum .counts) ≡ true
   long = long-enough s e a sum (h .sound .fits)
 
   pub held-valid : valid s (state-of s e a sum) ≡ true
-  held-valid = valid-state s e a sum (h .sound) (h .early) (h .within) (h .ceiling) (h .spilt)
+  held-valid = valid-state s e a sum (h .sound) (h .early) (h .within) (h .ceiling) (h .spillover-le)
 
   pub activation-refusals : (row : ℕ) → first-failed (activation-tests s (state-of s e a sum) row) ≡ refuse (not (ltb row (s .rows))) 9 (refuse (not (ltb a (s .interval))) 22 0)
   unfolding activation-tests first-failed unless or-later refuse state-of

@@ -7,18 +7,17 @@ use native.Mathlib.Omega.{arith}
 use lib.ListN.{length, getD, replicate}
 use Rattle.device.specs.declared.Settings.{Settings}
 use Rattle.device.specs.Victims.{rows-between, victims}
-use Rattle.device.proofs.Neighbours.{between-length, victims-few}
+use Rattle.device.proofs.Victims.{between-length, length-victims-le}
 use Rattle.laws.proofs.Cases.{split}
 use Rattle.summary.specs.Steps.{Summary, disturb, disturb-each, spread, in-rows, besides, drop-rows, picked, taken-out, empty}
 use Rattle.summary.specs.Rules.{Room, Below, below-none, below-more}
-use Rattle.summary.specs.Tables.{table, read, Holds, Held}
+use Rattle.summary.specs.Tables.{table, read}
+use Rattle.summary.specs.Contracts.{Holds, Held}
 use Rattle.summary.specs.Entries.{rows-of, counts-of, picks}
-use Rattle.summary.proofs.Event.{without-append}
+use Rattle.summary.proofs.Steps.Event.{without-append}
 use Rattle.summary.proofs.Rules.Sound.{sound-empty}
-use Rattle.summary.proofs.Laid.{held-read}
-use Rattle.summary.proofs.Stored.{long-rows}
-use Rattle.summary.proofs.Moves.{held-again}
-use Rattle.summary.proofs.Rules.Ceiling.{room-more, room-each}
+use Rattle.summary.proofs.Contracts.Holds.{held-read, long-rows, held-again}
+use Rattle.summary.proofs.Rules.Room.{room-more, room-each}
 use Rattle.tracker.specs.Calls.{victims-in}
 
 each-append : (counters : ℕ) (xs ys : List ℕ) (s : Summary) → disturb-each counters (xs ++ ys) s ≡ disturb-each counters ys (disturb-each counters xs s)
@@ -34,7 +33,7 @@ victims-split s counters row sum {low} {high} el eh =
     (each-append counters (rows-between (row - s .«blast_diameter» / 2) row) (rows-between (row + 1) (min (row + 1 + s .«blast_diameter» / 2) (s .rows))) sum)
 
 -- a short run raises counts by little
-pub room-between : (counters low high : ℕ) (sum : Summary) → Room 3999999000 sum → high - low ≤ 64 → Room 3999999936 (disturb-each counters (rows-between low high) sum)
+pub room-between : (counters low high : ℕ) (sum : Summary) → Room 3999999000 sum → high - low ≤ 64 → Room 4294967231 (disturb-each counters (rows-between low high) sum)
 room-between counters low high sum r few =
     room-more (room-each counters (rows-between low high) sum r) (omega (arith, between-length low high))
 
@@ -67,7 +66,7 @@ spreading-again {places} {victims-of} row l few x =
 -- the victims of an accepted device's row are at most four
 pub victims-four : (s : Settings) (row : ℕ) → s .«blast_diameter» ≤ 4 → length (victims-in s row) ≤ 4
 unfolding victims-in
-victims-four s row h = omega (arith, victims-few (s .rows) (s .«blast_diameter») row)
+victims-four s row h = omega (arith, length-victims-le (s .rows) (s .«blast_diameter») row)
 
 -- a row that is listed is passed over
 besides-one : (names : List ℕ) (row : ℕ) (rest : List ℕ) (counters : ℕ) (victims-of : ℕ → List ℕ) (sum : Summary) → spread counters victims-of (besides names (row ∷ rest)) sum ≡ spread counters victims-of (besides names rest) (spread counters victims-of (besides names (row ∷ [])) sum)
@@ -108,4 +107,4 @@ taken-out-split volume block sum = rw (without-append (picks volume (sum .entrie
 pub holds-empty : (places : ℕ) {rows counts : List ℕ} → rows ≡ replicate places 0 → counts ≡ replicate places 0 → Holds places 4294967296 empty rows counts 0 0
 unfolding empty table rows-of counts-of
 holds-empty places er ec =
-    record { rows-laid = rw (er, sub-zero places); counts-laid = rw (ec, sub-zero places); tracked-is = refl; spilt-is = refl; sound = sound-empty }
+    record { rows-laid = rw (er, sub-zero places); counts-laid = rw (ec, sub-zero places); tracked-is = refl; spillover-is = refl; sound = sound-empty }

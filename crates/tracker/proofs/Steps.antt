@@ -13,9 +13,11 @@ use lib.Seq.{drop-cons}
 use Rattle.laws.proofs.Cases.{split, le-or-lt}
 use Rattle.summary.specs.Entries.{Entry, counts-of, count-or}
 use Rattle.summary.specs.Steps.{estimate}
-use Rattle.summary.specs.Tables.{entries-of, read, Holds}
+use Rattle.summary.specs.Tables.{entries-of, read}
+use Rattle.summary.specs.Contracts.{Holds}
 use Rattle.summary.specs.Rules.{Ordered, ordered-none, ordered-more}
-use Rattle.summary.proofs.Laid.{length-counts, length-table}
+use Rattle.summary.proofs.Entries.Lengths.{length-counts}
+use Rattle.summary.proofs.Tables.{length-table}
 use Rattle.tracker.specs.Walk.{next-row, at-row, figure-at, place-after}
 
 -- the entries from a place of the tables on

@@ -9,11 +9,12 @@ use lib.Dec.{leb, ltb, eqb}
 use lib.ListN.{length, take, drop, replicate, take-append-drop, length-drop}
 use lib.Seq.{length-take-le}
 use Rattle.device.specs.declared.Settings.{Settings}
-use Rattle.device.proofs.Accepted.{both}
+use Rattle.device.proofs.Acceptance.{both}
 use Rattle.summary.specs.Entries.{Entry, rows-of, counts-of}
-use Rattle.summary.specs.Tables.{table, entries-of, read, Holds}
+use Rattle.summary.specs.Tables.{table, entries-of, read}
+use Rattle.summary.specs.Contracts.{Holds}
 use Rattle.summary.specs.Rules.{Floor, floor-none, floor-more, Ceiling, bare, under, Ordered, ordered-none, ordered-more, Room}
-use Rattle.summary.proofs.Laid.{length-rows}
+use Rattle.summary.proofs.Entries.Lengths.{length-rows}
 use Rattle.tracker.specs.State.{State, summary-of, zeros, ascending, counts-allowed, valid}
 use Rattle.tracker.specs.Calls.{tables-long}
 
@@ -118,7 +119,7 @@ valid-facts s st long e =
         rows-laid = rw (rows-read k (st .rows) (st .counts) in-rows in-counts) (laid (s .counters) k (st .rows) rows-long fits (p4 .1));
         counts-laid = rw (counts-read k (st .rows) (st .counts) in-rows in-counts) (laid (s .counters) k (st .counts) counts-long fits (p5 .1));
         tracked-is = sym read-length;
-        spilt-is = refl;
+        spillover-is = refl;
         sound = record {
           floor = allowed .floor;
           positive = allowed .positive;
@@ -126,5 +127,5 @@ valid-facts s st long e =
           fits = omega arith;
         };
       };
-      room = record { counts = allowed .ceiling; spilt = leb-true (st .position .spillover) 2000000000 (p7 .1) };
+      room = record { counts = allowed .ceiling; spillover-le = leb-true (st .position .spillover) 2000000000 (p7 .1) };
     }

@@ -2,7 +2,8 @@
 ghost use mathlib.Core.Path.{_≡_};
 ghost use Prim.Native.Nat.{_≤_, min};
 ghost use lib.ListN.{length};
-ghost use Rattle.summary.specs.Tables.{read, Holds};
+ghost use Rattle.summary.specs.Tables.{read};
+ghost use Rattle.summary.specs.Contracts.{Holds};
 ghost use Rattle.tracker.specs.Calls.{same-estimates as all-same};
 ghost use Rattle.tracker.specs.Walk.{next-row, at-row, figure-at, place-after};
 

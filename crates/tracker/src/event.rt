@@ -9,7 +9,7 @@ ghost use lib.ListN.{length, take};
 ghost use Rattle.device.specs.Victims.{rows-between};
 ghost use Rattle.summary.specs.Steps.{spread, besides, taken-out, cleared-if, event};
 ghost use Rattle.summary.specs.Rules.{Room, Below, Ordered};
-ghost use Rattle.summary.specs.Tables.{summary, places, Tracks, Turns, Names};
+ghost use Rattle.summary.specs.Contracts.{summary, places, Tracks, Turns, Names};
 ghost use Rattle.tracker.specs.Calls.{victims-in, block-rows, ends-window};
 
 // The picked rows are named at the list's front and dropped, and so are the block's.

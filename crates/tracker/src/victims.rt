@@ -6,7 +6,7 @@ ghost use Prim.Native.Nat.{_-_, _≤_, _<_, min};
 ghost use lib.ListN.{length};
 ghost use Rattle.summary.specs.Steps.{disturb-each, activation};
 ghost use Rattle.summary.specs.Rules.{Room};
-ghost use Rattle.summary.specs.Tables.{summary, places, Tracks, Turns};
+ghost use Rattle.summary.specs.Contracts.{summary, places, Tracks, Turns};
 ghost use Rattle.tracker.specs.Calls.{victims-in};
 
 // a - b, not below 0.

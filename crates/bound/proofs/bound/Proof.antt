@@ -1,10 +1,10 @@
 -- `bound::bound` meets its contract.
-use mathlib.Core.Path.{_≡_, _∙_, ap, sym}
+use mathlib.Core.Path.{_≡_, _∙_, sym}
 use borrow.Author.Needs.{needs}
 use Rattle.device.specs.Refusal.{first-failed, accepted as accepted-with}
 use Rattle.device.specs.Acceptance.{settings-tests}
-use Rattle.device.proofs.Accepted.{accepted, accepted-skipping}
-use Rattle.device.proofs.Tested.{tested-passed, tested-failed}
+use Rattle.device.proofs.Acceptance.{accepted-settings, accepted-skipping}
+use Rattle.device.proofs.Refusal.{tested-passed, tested-failed}
 use Rattle.bound.specs.Totals.{bound-of}
 use Rattle.bound.specs.Least.{with-counters}
 use Rattle.bound.specs.Answers.{outcome, bound-answer}
@@ -15,7 +15,7 @@ bound-with-requires : tie.Need-bound-with-requires
 bound-with-requires c κs =
     let s = c .before .before .args .s in
     let zero : first-failed (settings-tests s) ≡ 0 = sym (c .before .settings-refusal .ensures) ∙ c .if1 .taken in
-    (accepted-skipping s zero, accepted s zero .counters .most)
+    (accepted-skipping s zero, accepted-settings s zero .counters .most)
 
 returns : tie.Need-returns
 unfolding outcome bound-answer with-counters

@@ -3,7 +3,7 @@ use mathlib.Core.Path.{_≡_, _∙_, sym}
 use borrow.Author.Needs.{needs}
 use Rattle.device.specs.Refusal.{first-failed}
 use Rattle.device.specs.Acceptance.{settings-tests-but-counters}
-use Rattle.device.proofs.Tested.{tested-passed, tested-failed}
+use Rattle.device.proofs.Refusal.{tested-passed, tested-failed}
 use Rattle.bound.specs.Least.{least-of}
 use Rattle.bound.specs.Answers.{outcome, least-answer}
 use Rattle.bound.proofs.least_counters.Statement.{statement}

@@ -4,7 +4,7 @@ use mir.Syntax.{w64}
 use mir.ValLaws.{toZ-ofZ}
 use borrow.Author.Needs.{needs}
 use Rattle.bound.specs.Answers.{signed, settings-of}
-use Rattle.bound.proofs.Narrow.{bound-answer-small}
+use Rattle.bound.proofs.Answers.{small-bound-answer}
 use Rattle.bound.proofs.row_tracker_bound.Statement.{statement}
 use Rattle.bound.proofs.row_tracker_bound.Tie as tie
 
@@ -12,7 +12,7 @@ signed-number-requires : tie.Need-signed-number-requires
 unfolding settings-of
 signed-number-requires c κs =
     let a = c .before .args in
-    rw (c .bound .ensures) (bound-answer-small (settings-of (a .rows) (a .blast-diameter) (a .volume) (a .counters) (a .interval) (a .window) (a .block)))
+    rw (c .bound .ensures) (small-bound-answer (settings-of (a .rows) (a .blast-diameter) (a .volume) (a .counters) (a .interval) (a .window) (a .block)))
 
 returns : tie.Need-returns
 unfolding settings-of

@@ -4,7 +4,7 @@ use mir.Syntax.{w64}
 use mir.ValLaws.{toZ-ofZ}
 use borrow.Author.Needs.{needs}
 use Rattle.bound.specs.Answers.{signed, settings-of}
-use Rattle.bound.proofs.Narrow.{least-answer-small}
+use Rattle.bound.proofs.Answers.{small-least-answer}
 use Rattle.bound.proofs.row_tracker_least_counters.Statement.{statement}
 use Rattle.bound.proofs.row_tracker_least_counters.Tie as tie
 
@@ -12,7 +12,7 @@ signed-number-requires : tie.Need-signed-number-requires
 unfolding settings-of
 signed-number-requires c κs =
     let a = c .before .args in
-    rw (c .least-counters .ensures) (least-answer-small (settings-of (a .rows) (a .blast-diameter) (a .volume) 0 (a .interval) (a .window) (a .block)) (a .threshold))
+    rw (c .least-counters .ensures) (small-least-answer (settings-of (a .rows) (a .blast-diameter) (a .volume) 0 (a .interval) (a .window) (a .block)) (a .threshold))
 
 returns : tie.Need-returns
 unfolding settings-of

@@ -1,16 +1,16 @@
 -- `bound::search` meets its contract. The invariant: the search from c on finds what the whole search finds.
 use mathlib.Core.Path.{_≡_, refl, _∙_, sym}
 use mathlib.Core.Bool.{true, false}
-use Prim.Native.Nat.{ℕ, _+_, _-_, _*_, _≤_, _<_}
+use Prim.Native.Nat.{ℕ, _+_, _-_, _≤_, _<_}
 use native.Mathlib.Omega.{arith}
 use borrow.Author.Tests.{lt-ltb, le-ltb}
 use Rattle.device.specs.declared.Settings.{Settings}
 use Rattle.device.specs.Refusal.{refused}
-use Rattle.device.proofs.Accepted.{accepted-but-counters}
+use Rattle.device.proofs.Acceptance.{accepted-but-counters}
 use Rattle.bound.specs.Least.{meets, first-from, least-of}
 use Rattle.bound.specs.Answers.{outcome}
-use Rattle.bound.proofs.Growth.{bound-small}
-use Rattle.bound.proofs.Smallest.{found-here, not-here}
+use Rattle.bound.proofs.Totals.Bound.{bound-lt}
+use Rattle.bound.proofs.Least.{first-from-here, first-from-next}
 use Rattle.bound.proofs.search.Statement.{statement}
 use Rattle.bound.proofs.search.Tie as tie
 
@@ -40,7 +40,7 @@ bound-with-requires c κs = (c .before .before .pre, omega arith)
 mul-if1 : tie.Need-mul-if1 Inv-loop μ-loop
 mul-if1 c =
     let a = c .before .before .before in
-    omega (arith, c .bound-with .ensures, bound-small (a .args .s) (c .before .before .loop .c) (accepted-but-counters (a .args .s) (a .pre)))
+    omega (arith, c .bound-with .ensures, bound-lt (a .args .s) (c .before .before .loop .c) (accepted-but-counters (a .args .s) (a .pre)))
 
 cast-t7 : tie.Need-cast-t7 Inv-loop μ-loop
 cast-t7 c = omega (arith, c .before .before .before .loop .inv .most)
@@ -51,7 +51,7 @@ returns c =
     let a = c .before .before .before .before .args in
     let l = c .before .before .before .loop in
     let passed : meets (a .s) (a .threshold) (l .c) ≡ true = rw (← c .before .bound-with .ensures) (lt-ltb _ _ (c .if1 .taken)) in
-    sym (found-here (meets (a .s) (a .threshold)) (2049 - l .c) (l .c) (omega arith) passed) ∙ l .inv .same
+    sym (first-from-here (meets (a .s) (a .threshold)) (2049 - l .c) (l .c) (omega arith) passed) ∙ l .inv .same
 
 add-c : tie.Need-add-c Inv-loop μ-loop
 add-c c = omega (arith, c .before .before .before .loop .inv .most)
@@ -67,7 +67,7 @@ loop-again c =
     let failed : meets (a .s) (a .threshold) (l .c) ≡ false = rw (← c .before .bound-with .ensures) (le-ltb _ _ (c .if1 .left)) in
     let one-fewer : 2049 - l .c - 1 ≡ 2049 - (l .c + 1) = omega arith in
     record {
-      same = rw (← one-fewer) (sym (not-here (meets (a .s) (a .threshold)) (2049 - l .c) (l .c) (omega arith) failed) ∙ l .inv .same);
+      same = rw (← one-fewer) (sym (first-from-next (meets (a .s) (a .threshold)) (2049 - l .c) (l .c) (omega arith) failed) ∙ l .inv .same);
       most = omega arith;
     }
 

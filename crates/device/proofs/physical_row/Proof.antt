@@ -5,7 +5,7 @@ use lib.Dec.{lit<}
 use native.Mathlib.Omega.{arith}
 use borrow.Author.Needs.{needs}
 use Rattle.device.specs.Remap.{physical}
-use Rattle.device.proofs.Permutation.{entry-below}
+use Rattle.device.proofs.Remap.{entry-below}
 use Rattle.device.proofs.physical_row.Statement.{statement}
 use Rattle.device.proofs.physical_row.Tie as tie
 

@@ -6,11 +6,11 @@ use Rattle.device.proofs.rows_in_range.Tie as tie
 
 returns : tie.Need-returns
 unfolding rows-allowed
-returns c = simp (← c .before .within .ensures, c .if1 .taken)
+returns c = simp (← c .before .is-within .ensures, c .if1 .taken)
 
 returns-2 : tie.Need-returns-2
 unfolding rows-allowed
-returns-2 c = simp (← c .before .within .ensures, c .if1 .left)
+returns-2 c = simp (← c .before .is-within .ensures, c .if1 .left)
 
 pub rows-in-range-spec : {M : Type 1} → statement M
 rows-in-range-spec = tie.close (tie.spec (λ c κs. search needs) returns returns-2)

@@ -6,7 +6,7 @@ use Rattle.device.proofs.settings_refusal.Tie as tie
 
 returns : tie.Need-returns
 unfolding settings-tests
-returns c = rw (c .before .within .ensures) at (c .refusal-with .ensures)
+returns c = rw (c .before .is-within .ensures) at (c .refusal-with .ensures)
 
 pub settings-refusal-spec : {M : Type 1} → statement M
 settings-refusal-spec = tie.close (tie.spec (λ c κs. search needs) (λ c κs. search needs) returns)

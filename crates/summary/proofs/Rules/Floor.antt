@@ -1,14 +1,15 @@
 -- Counts that are nowhere below a number, through every step on the entries.
-use mathlib.Core.Path.{_≡_, refl}
-use mathlib.Core.Bool.{Bool, true, false, _||_}
+use mathlib.Core.Path.{_≡_}
+use mathlib.Core.Bool.{false}
 use mathlib.Core.List.{List, [], _∷_}
-use Prim.Native.Nat.{ℕ, suc, _+_, _≤_, _<_}
+use Prim.Native.Nat.{ℕ, suc, _+_, _≤_}
 use native.Mathlib.Omega.{arith}
 use borrow.Author.Tests.{eqb-false}
 use lib.Dec.{eqb, ltb}
 use Rattle.laws.proofs.Cases.{split}
 use Rattle.summary.specs.Rules.{Floor, floor-none, floor-more}
-use Rattle.summary.specs.Entries.{Entry, has, without, without-all, raised, entered, has-count, without-count}
+use Rattle.summary.specs.Entries.{Entry, without, without-all, raised, entered, has-count, without-count}
+use Rattle.summary.proofs.Entries.Tracked.{neither}
 
 pub floor-parts : {low : ℕ} {x : Entry} {xs : List Entry} → Floor low (x ∷ xs) → (low ≤ x .count) × Floor low xs
 floor-parts (floor-more x f l) = (l, f)
@@ -17,13 +18,8 @@ pub floor-lower : {low low′ : ℕ} {es : List Entry} → low′ ≤ low → Fl
 floor-lower h floor-none = floor-none
 floor-lower h (floor-more x f l) = floor-more x (floor-lower h f) (omega arith)
 
--- of a test and a later one, neither holds
-pub neither : (a b : Bool) → (a || b) ≡ false → (a ≡ false) × (b ≡ false)
-neither true b e = absurd (let z : _≡_ {A = ℕ} 0 1 = cc in omega arith)
-neither false b e = (refl, e)
-
 module _ {low : ℕ} where
-  pub floor-without : (row : ℕ) {es : List Entry} → Floor low es → Floor low (without row es)
+  floor-without : (row : ℕ) {es : List Entry} → Floor low es → Floor low (without row es)
   unfolding without
   floor-without row floor-none = floor-none
   floor-without row (floor-more x {xs} f l) = split (eqb (x .row) row) (λ e. rw e f) (λ e. rw e (floor-more x (floor-without row f) l))

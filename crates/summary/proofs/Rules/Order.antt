@@ -1,6 +1,6 @@
 -- The tracked rows ascend below the bank's end, through every step on the entries; so no row is tracked twice.
-use mathlib.Core.Path.{_≡_, refl, ap}
-use mathlib.Core.Bool.{Bool, true, false, _||_}
+use mathlib.Core.Path.{_≡_, ap}
+use mathlib.Core.Bool.{false}
 use mathlib.Core.Logic.{⊎-elim}
 use mathlib.Core.List.{List, [], _∷_, List·Memᴰ, List·Memᴰ·not-nil, List·Memᴰ·cases-cons}
 use Prim.Native.Nat.{ℕ, suc, _+_, _≤_, _<_}
@@ -8,13 +8,16 @@ use native.Mathlib.Omega.{arith}
 use borrow.Author.Tests.{eqb-false, ltb-true, ltb-false}
 use lib.Dec.{eqb, ltb}
 use Rattle.laws.proofs.Cases.{split}
-use Rattle.summary.specs.Entries.{Entry, has, without, without-all, raised, entered, has-count, without-count}
+use Rattle.summary.specs.Entries.{Entry, has, without, without-all, raised, entered, without-count}
 use Rattle.summary.specs.Rules.{Ordered, ordered-none, ordered-more}
-use Rattle.summary.proofs.Rules.Floor.{neither}
+use Rattle.summary.proofs.Entries.Tracked.{neither}
 
 pub ordered-from : {high low : ℕ} (low′ : ℕ) {es : List Entry} → Ordered high low es → low′ ≤ low → Ordered high low′ es
 ordered-from low′ ordered-none h = ordered-none
 ordered-from low′ (ordered-more low x o l b) h = ordered-more low′ x o (omega arith) b
+
+pub ordered-parts : {high low : ℕ} {x : Entry} {xs : List Entry} → Ordered high low (x ∷ xs) → Ordered high (suc (x .row)) xs × (low ≤ x .row)
+ordered-parts (ordered-more low x o l b) = (o, l)
 
 module _ {high : ℕ} where
   pub ordered-without : (row : ℕ) {low : ℕ} {es : List Entry} → Ordered high low es → Ordered high low (without row es)
@@ -58,16 +61,6 @@ module _ {high : ℕ} where
       (λ t.
       let behind = ltb-false row (x .row) t in
       rw t (ordered-more low x (ordered-entered row count o (parts .1) (omega arith) b) lx bx))
-
--- a row that is not tracked is not tracked after another is dropped
-pub untracked-without-count : (row count : ℕ) (es : List Entry) → has row es ≡ false → has row (without-count count es) ≡ false
-unfolding has without-count
-untracked-without-count row count [] e = e
-untracked-without-count row count (x ∷ xs) e =
-    let parts = neither (eqb (x .row) row) (has row xs) e in
-    split (eqb (x .count) count)
-    (λ t. rw t (parts .1))
-    (λ t. rw (t, parts .0) (untracked-without-count row count xs (parts .1)))
 
 -- a tracked row is in the range
 pub ordered-member : {high low : ℕ} {es : List Entry} → Ordered high low es → (x : Entry) → List·Memᴰ x es → (low ≤ x .row) × (x .row < high)

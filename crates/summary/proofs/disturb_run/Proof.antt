@@ -1,12 +1,12 @@
 -- `summary::disturb_run` meets its contract, by the loop's laws.
-use mathlib.Core.Path.{_≡_, refl, sym, _∙_}
+use mathlib.Core.Path.{refl, sym, _∙_}
 use Prim.Native.Nat.{_-_}
 use native.Mathlib.Omega.{arith}
 use lib.ListN.{length}
 use Rattle.summary.specs.Tables.{read}
-use Rattle.summary.proofs.Rules.Ceiling.{room-more}
-use Rattle.summary.proofs.Stored.{long-rows, long-counts}
-use Rattle.summary.proofs.Walks.{Disturbing, disturbing-ready, disturbing-again, disturbing-done}
+use Rattle.summary.proofs.Rules.Room.{room-more}
+use Rattle.summary.proofs.Contracts.Holds.{long-rows, long-counts}
+use Rattle.summary.proofs.Contracts.Runs.{Disturbing, disturbing-ready, disturbing-again, disturbing-done}
 use Rattle.summary.proofs.disturb_run.Statement.{statement}
 use Rattle.summary.proofs.disturb_run.Tie as tie
 
@@ -20,17 +20,27 @@ abbrev μ-loop : tie.MeasureT-loop
 loop-holds : tie.Need-loop-holds Inv-loop μ-loop
 loop-holds c = let a = c .before .before in record { sum = read (a .args .rows .now) (a .args .counts .now) (a .args .t .tracked) (a .args .t .spillover); holds = a .pre .0; same = refl; room = room-more (a .pre .1 .1) (omega arith); behind = omega arith }
 
-disturb-requires : tie.Need-disturb-requires Inv-loop μ-loop
-disturb-requires c κs = disturbing-ready (c .before .before .before .loop .inv) (c .before .before .loop-test .taken) (c .before .before .before .before .before .before .pre .1 .0)
+disturb-row-requires : tie.Need-disturb-row-requires Inv-loop μ-loop
+disturb-row-requires c κs =
+    let start = c .before .before .before .before .before .before in
+    disturbing-ready (c .before .before .before .loop .inv) (c .before .before .loop-test .taken) (start .pre .1 .0)
 
 add-row : tie.Need-add-row Inv-loop μ-loop
-add-row c = omega (arith, c .before .before .before .before .before .before .before .loop-test .taken, c .before .before .before .before .before .before .before .before .before .before .before .fits .high)
+add-row c =
+    let loop-test = c .before .before .before .before .before .before .before .loop-test in
+    let start = c .before .before .before .before .before .before .before .before .before .before .before in
+    omega (arith, loop-test .taken, start .fits .high)
 
 loop-less : tie.Need-loop-less Inv-loop μ-loop
-loop-less c = omega (arith, c .before .before .before .before .before .before .before .loop-test .taken)
+loop-less c =
+    let loop-test = c .before .before .before .before .before .before .before .loop-test in
+    omega (arith, loop-test .taken)
 
 loop-again : tie.Need-loop-again Inv-loop μ-loop
-loop-again c = disturbing-again (c .before .before .before .before .before .before .before .before .loop .inv) (c .before .before .before .before .before .before .before .loop-test .taken) (c .before .before .before .before .disturb .ensures)
+loop-again c =
+    let loop = c .before .before .before .before .before .before .before .before .loop in
+    let loop-test = c .before .before .before .before .before .before .before .loop-test in
+    disturbing-again (loop .inv) (loop-test .taken) (c .before .before .before .before .disturb-row .ensures)
 
 same-length : tie.Need-same-length Inv-loop μ-loop
 same-length c = long-rows (c .before .loop .inv .holds)
@@ -48,7 +58,7 @@ disturb-run-spec =
     Inv-loop
     μ-loop
     loop-holds
-    disturb-requires
+    disturb-row-requires
     add-row
     loop-less
     loop-again

@@ -1,11 +1,11 @@
 -- `summary::drop_run` meets its contract, by the loop's laws.
-use mathlib.Core.Path.{_≡_, refl, sym, _∙_}
+use mathlib.Core.Path.{refl, sym, _∙_}
 use Prim.Native.Nat.{_-_}
 use native.Mathlib.Omega.{arith}
 use lib.ListN.{length}
 use Rattle.summary.specs.Tables.{read}
-use Rattle.summary.proofs.Stored.{long-rows, long-counts}
-use Rattle.summary.proofs.Walks.{Dropping, dropping-ready, dropping-again, dropping-done}
+use Rattle.summary.proofs.Contracts.Holds.{long-rows, long-counts}
+use Rattle.summary.proofs.Contracts.Runs.{Dropping, dropping-ready, dropping-again, dropping-done}
 use Rattle.summary.proofs.drop_run.Statement.{statement}
 use Rattle.summary.proofs.drop_run.Tie as tie
 
@@ -23,13 +23,21 @@ drop-row-requires : tie.Need-drop-row-requires Inv-loop μ-loop
 drop-row-requires c κs = dropping-ready (c .before .before .before .loop .inv)
 
 add-row : tie.Need-add-row Inv-loop μ-loop
-add-row c = omega (arith, c .before .before .before .before .before .before .before .loop-test .taken, c .before .before .before .before .before .before .before .before .before .before .before .fits .high)
+add-row c =
+    let loop-test = c .before .before .before .before .before .before .before .loop-test in
+    let start = c .before .before .before .before .before .before .before .before .before .before .before in
+    omega (arith, loop-test .taken, start .fits .high)
 
 loop-less : tie.Need-loop-less Inv-loop μ-loop
-loop-less c = omega (arith, c .before .before .before .before .before .before .before .loop-test .taken)
+loop-less c =
+    let loop-test = c .before .before .before .before .before .before .before .loop-test in
+    omega (arith, loop-test .taken)
 
 loop-again : tie.Need-loop-again Inv-loop μ-loop
-loop-again c = dropping-again (c .before .before .before .before .before .before .before .before .loop .inv) (c .before .before .before .before .before .before .before .loop-test .taken) (c .before .before .before .before .drop-row .ensures)
+loop-again c =
+    let loop = c .before .before .before .before .before .before .before .before .loop in
+    let loop-test = c .before .before .before .before .before .before .before .loop-test in
+    dropping-again (loop .inv) (loop-test .taken) (c .before .before .before .before .drop-row .ensures)
 
 same-length : tie.Need-same-length Inv-loop μ-loop
 same-length c = long-rows (c .before .loop .inv .holds)

@@ -1,11 +1,8 @@
 -- `summary::is_listed` meets its contract: a row is in a list where its first place is among the used ones.
-use mathlib.Core.Path.{_≡_, _∙_, sym, ap}
-use Prim.Native.Nat.{ℕ}
 use borrow.Author.Needs.{needs}
-use lib.Dec.{ltb}
 use lib.ListN.{take}
 use lib.Seq.{length-take-le}
-use Rattle.summary.proofs.Places.{in-rows-place}
+use Rattle.summary.proofs.Entries.Columns.{in-rows-place}
 use Rattle.summary.proofs.is_listed.Statement.{statement}
 use Rattle.summary.proofs.is_listed.Tie as tie
 

@@ -8,8 +8,8 @@ use borrow.Author.Needs.{needs}
 use borrow.Author.Tests.{eqb-true, eqb-false}
 use lib.ListN.{length, getD, take}
 use lib.Seq.{getD-take, length-take-le}
-use Rattle.tables.specs.Places.{Rising, lower-place, equal-place}
-use Rattle.summary.proofs.Places.{found-place, missing-place}
+use Rattle.tables.specs.Contracts.{Rising, lower-place, equal-place}
+use Rattle.tables.proofs.Searches.{equal-place-found, equal-place-missing}
 use Rattle.summary.proofs.lookup.Statement.{statement}
 use Rattle.summary.proofs.lookup.Tie as tie
 
@@ -17,13 +17,13 @@ found : (xs : List ℕ) (k row p : ℕ) → k ≤ length xs → p ≡ lower-plac
 found xs k row p fits e less at =
     let all = length-take-le k xs fits in
     let here : getD (take k xs) (lower-place row (take k xs)) 0 ≡ row = rw (← e) (getD-take k xs p 0 less ∙ at) in
-    e ∙ sym (found-place row (take k xs) (omega (arith, e, all)) here)
+    e ∙ sym (equal-place-found row (take k xs) (omega (arith, e, all)) here)
 
 missed : (xs : List ℕ) (k row p : ℕ) → k ≤ length xs → Rising (take k xs) → p ≡ lower-place row (take k xs) → (p < k → getD xs p 0 ≡ row → ⊥) → k ≡ equal-place row (take k xs)
 missed xs k row p fits rising e no-match =
     let all = length-take-le k xs fits in
     sym
-    (missing-place row (take k xs) rising
+    (equal-place-missing row (take k xs) rising
     (λ less at.
     let inside : p < k = omega (arith, e, all) in
     no-match inside (sym (getD-take k xs p 0 inside) ∙ rw (← e) at at)) ∙ all)

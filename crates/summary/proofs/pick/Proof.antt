@@ -1,15 +1,14 @@
 -- `summary::pick` meets its contract, by the loop's laws.
-use mathlib.Core.Path.{_≡_, refl, sym, _∙_}
+use mathlib.Core.Path.{refl, sym, _∙_}
 use mathlib.Core.List.{[]}
-use Prim.Native.Nat.{_-_, _≤_, _<_}
+use Prim.Native.Nat.{_-_}
 use native.Mathlib.Nat.{sub-zero}
 use native.Mathlib.Omega.{arith}
 use borrow.Author.Tests.{ltb-true, ltb-false}
-use lib.ListN.{length, length-set}
+use lib.ListN.{length}
 use Rattle.summary.specs.Tables.{read}
-use Rattle.summary.proofs.Stored.{long-rows, long-counts}
-use Rattle.summary.proofs.Moves.{held-again}
-use Rattle.summary.proofs.Walks.{Picking, picking-long, picking-again, picking-full, picking-empty}
+use Rattle.summary.proofs.Contracts.Holds.{long-rows, long-counts, held-again}
+use Rattle.summary.proofs.Contracts.Picking.{Picking, picking-long, picking-again, picking-full, picking-empty}
 use Rattle.summary.proofs.pick.Statement.{statement}
 use Rattle.summary.proofs.pick.Tie as tie
 
@@ -35,36 +34,56 @@ loop-holds c =
     }
 
 take-top-requires : tie.Need-take-top-requires Inv-loop μ-loop
-take-top-requires c κs = (held-again (c .before .before .before .before .before .loop .inv .holds), ltb-true 0 (c .before .before .before .before .before .loop .left .tracked) (c .before .before .if1 .taken))
+take-top-requires c κs =
+    let loop = c .before .before .before .before .before .loop in
+    (held-again (loop .inv .holds), ltb-true 0 (loop .left .tracked) (c .before .before .if1 .taken))
 
 mul-list : tie.Need-mul-list Inv-loop μ-loop
-mul-list c = omega (arith, c .before .before .before .before .before .before .before .before .before .loop-test .taken, c .before .before .before .before .before .before .before .before .before .before .before .before .before .before .pre .1, c .before .before .before .before .before .before .before .before .before .before .before .before .before .before .good)
+mul-list c =
+    let loop-test = c .before .before .before .before .before .before .before .before .before .loop-test in
+    let start = c .before .before .before .before .before .before .before .before .before .before .before .before .before .before in
+    let good = c .before .before .before .before .before .before .before .before .before .before .before .before .before .before .good in
+    omega (arith, loop-test .taken, start .pre .1, good)
 
 slice-write-list : tie.Need-slice-write-list Inv-loop μ-loop
 slice-write-list c =
+    let loop-test = c .before .before .before .before .before .before .before .before .before .loop-test in
     let l = c .before .before .before .before .before .before .before .before .before .before .loop .inv in
     let a = c .before .before .before .before .before .before .before .before .before .before .before .before .before .before in
-    omega (arith, c .before .before .before .before .before .before .before .before .before .loop-test .taken, a .pre .1, picking-long l (omega (arith, l .most, a .pre .1)))
+    omega (arith, loop-test .taken, a .pre .1, picking-long l (omega (arith, l .most, a .pre .1)))
 
 add-i : tie.Need-add-i Inv-loop μ-loop
-add-i c = omega (arith, c .before .before .before .before .before .before .before .before .before .before .loop-test .taken, c .before .before .before .before .before .before .before .before .before .before .before .before .before .before .before .fits .volume)
+add-i c =
+    let loop-test = c .before .before .before .before .before .before .before .before .before .before .loop-test in
+    let start = c .before .before .before .before .before .before .before .before .before .before .before .before .before .before .before in
+    omega (arith, loop-test .taken, start .fits .volume)
 
 loop-less : tie.Need-loop-less Inv-loop μ-loop
-loop-less c = omega (arith, c .before .before .before .before .before .before .before .before .before .before .loop-test .taken)
+loop-less c =
+    let loop-test = c .before .before .before .before .before .before .before .before .before .before .loop-test in
+    omega (arith, loop-test .taken)
 
 loop-again : tie.Need-loop-again Inv-loop μ-loop
 loop-again c =
+    let loop = c .before .before .before .before .before .before .before .before .before .before .before .loop in
+    let loop-test = c .before .before .before .before .before .before .before .before .before .before .loop-test in
+    let start = c .before .before .before .before .before .before .before .before .before .before .before .before .before .before .before in
+    let if1 = c .before .before .before .before .before .before .before .before .if1 in
     let t = c .before .before .before .before .before .take-top in
-    picking-again (c .before .before .before .before .before .before .before .before .before .before .before .loop .inv) (c .before .before .before .before .before .before .before .before .before .before .loop-test .taken) (c .before .before .before .before .before .before .before .before .before .before .before .before .before .before .before .pre .1) (ltb-true 0 (c .before .before .before .before .before .before .before .before .before .before .before .loop .left .tracked) (c .before .before .before .before .before .before .before .before .if1 .taken)) (t .ensures .0) (t .ensures .1)
+    picking-again (loop .inv) (loop-test .taken) (start .pre .1) (ltb-true 0 (loop .left .tracked) (if1 .taken)) (t .ensures .0) (t .ensures .1)
 
 same-length : tie.Need-same-length Inv-loop μ-loop
 same-length c = long-rows (c .before .before .before .loop .inv .holds)
 
 same-length-2 : tie.Need-same-length-2 Inv-loop μ-loop
-same-length-2 c = long-counts (c .before .before .before .loop .inv .holds) ∙ sym (long-counts (c .before .before .before .before .before .before .before .pre .0))
+same-length-2 c =
+    let start = c .before .before .before .before .before .before .before in
+    long-counts (c .before .before .before .loop .inv .holds) ∙ sym (long-counts (start .pre .0))
 
 same-length-3 : tie.Need-same-length-3 Inv-loop μ-loop
-same-length-3 c = picking-long (c .before .before .before .loop .inv) (omega (arith, c .before .before .before .loop .inv .most, c .before .before .before .before .before .before .before .pre .1))
+same-length-3 c =
+    let start = c .before .before .before .before .before .before .before in
+    picking-long (c .before .before .before .loop .inv) (omega (arith, c .before .before .before .loop .inv .most, start .pre .1))
 
 returns : tie.Need-returns Inv-loop μ-loop
 returns c = picking-empty (c .before .before .before .loop .inv) (ltb-false 0 (c .before .before .before .loop .left .tracked) (c .if1 .left))
@@ -73,10 +92,14 @@ same-length-4 : tie.Need-same-length-4 Inv-loop μ-loop
 same-length-4 c = long-rows (c .before .loop .inv .holds)
 
 same-length-5 : tie.Need-same-length-5 Inv-loop μ-loop
-same-length-5 c = long-counts (c .before .loop .inv .holds) ∙ sym (long-counts (c .before .before .before .before .before .pre .0))
+same-length-5 c =
+    let start = c .before .before .before .before .before in
+    long-counts (c .before .loop .inv .holds) ∙ sym (long-counts (start .pre .0))
 
 same-length-6 : tie.Need-same-length-6 Inv-loop μ-loop
-same-length-6 c = picking-long (c .before .loop .inv) (omega (arith, c .before .loop .inv .most, c .before .before .before .before .before .pre .1))
+same-length-6 c =
+    let start = c .before .before .before .before .before in
+    picking-long (c .before .loop .inv) (omega (arith, c .before .loop .inv .most, start .pre .1))
 
 returns-2 : tie.Need-returns-2 Inv-loop μ-loop
 returns-2 c = picking-full (c .before .loop .inv) (c .loop-test .left)

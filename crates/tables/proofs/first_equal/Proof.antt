@@ -5,8 +5,8 @@ use Prim.Native.Nat.{ℕ, _+_, _-_, _≤_, _<_}
 use native.Mathlib.Omega.{arith}
 use lib.ListN.{length, getD, take, drop, drop-of-length-le}
 use lib.Seq.{getD-take, length-take-le}
-use Rattle.tables.specs.Places.{equal-place}
-use Rattle.tables.proofs.Searches.{equal-here, equal-on}
+use Rattle.tables.specs.Contracts.{equal-place}
+use Rattle.tables.proofs.Searches.{equal-place-here, equal-place-next}
 use Rattle.tables.proofs.first_equal.Statement.{statement}
 use Rattle.tables.proofs.first_equal.Tie as tie
 
@@ -24,13 +24,13 @@ found : {t : List ℕ} {used x i : ℕ} → Left t used x i → used ≤ length 
 found {t} {used} {x} {i} l fits h e =
     let all = length-take-le used t fits in
     let here : getD (take used t) i 0 ≡ x = rw (getD-take used t i 0 h) e in
-    omega (arith, l .same, equal-here x (take used t) i (omega arith) here)
+    omega (arith, l .same, equal-place-here x (take used t) i (omega arith) here)
 
 again : {t : List ℕ} {used x i : ℕ} → Left t used x i → used ≤ length t → i < used → (getD t i 0 ≡ x → ⊥) → Left t used x (i + 1)
 again {t} {used} {x} {i} l fits h e =
     let all = length-take-le used t fits in
-    let not-here : getD (take used t) i 0 ≡ x → ⊥ = rw (getD-take used t i 0 h) e in
-    record { same = omega (arith, l .same, equal-on x (take used t) i (omega arith) not-here); most = omega arith }
+    let first-from-next : getD (take used t) i 0 ≡ x → ⊥ = rw (getD-take used t i 0 h) e in
+    record { same = omega (arith, l .same, equal-place-next x (take used t) i (omega arith) first-from-next); most = omega arith }
 
 done : {t : List ℕ} {used x i : ℕ} → Left t used x i → used ≤ length t → used ≤ i → i ≡ equal-place x (take used t)
 unfolding equal-place

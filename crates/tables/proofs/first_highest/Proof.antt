@@ -7,8 +7,8 @@ use native.Mathlib.Omega.{arith}
 use borrow.Author.Tests.{lt-ltb, le-ltb}
 use lib.ListN.{length, getD, take, drop, drop-of-length-le}
 use lib.Seq.{getD-take, length-take-le}
-use Rattle.tables.specs.Places.{highest-from, highest-place}
-use Rattle.tables.proofs.Searches.{highest-start, highest-on}
+use Rattle.tables.specs.Contracts.{highest-from, highest-place}
+use Rattle.tables.proofs.Searches.{highest-place-start, highest-from-next}
 use Rattle.tables.proofs.first_highest.Statement.{statement}
 use Rattle.tables.proofs.first_highest.Tie as tie
 
@@ -26,20 +26,20 @@ start : (t : List ℕ) (used : ℕ) → 0 < used → used ≤ length t → Left 
 start t used h fits =
     let all = length-take-le used t fits in
     record {
-      same = rw (← getD-take used t 0 0 h) (highest-start (take used t) (omega arith));
+      same = rw (← getD-take used t 0 0 h) (highest-place-start (take used t) (omega arith));
       most = omega arith;
     }
 
 higher : {t : List ℕ} {used place best i : ℕ} → Left t used place best i → used ≤ length t → i < used → best < getD t i 0 → Left t used i (getD t i 0) (i + 1)
 higher {t} {used} {place} {best} {i} l fits h e =
     let all = length-take-le used t fits in
-    let on = highest-on (take used t) place best i (omega arith) in
+    let on = highest-from-next (take used t) place best i (omega arith) in
     record { same = sym (rw (getD-take used t i 0 h, lt-ltb best (getD t i 0) e) at on) ∙ l .same; most = omega arith }
 
 not-higher : {t : List ℕ} {used place best i : ℕ} → Left t used place best i → used ≤ length t → i < used → getD t i 0 ≤ best → Left t used place best (i + 1)
 not-higher {t} {used} {place} {best} {i} l fits h e =
     let all = length-take-le used t fits in
-    let on = highest-on (take used t) place best i (omega arith) in
+    let on = highest-from-next (take used t) place best i (omega arith) in
     record { same = sym (rw (getD-take used t i 0 h, le-ltb best (getD t i 0) e) at on) ∙ l .same; most = omega arith }
 
 done : {t : List ℕ} {used place best i : ℕ} → Left t used place best i → used ≤ length t → used ≤ i → place ≡ highest-place (take used t)

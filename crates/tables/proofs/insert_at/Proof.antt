@@ -4,7 +4,7 @@ use mathlib.Core.List.{List}
 use Prim.Native.Nat.{ℕ, _-_, _≤_, _<_}
 use native.Mathlib.Omega.{arith}
 use lib.ListN.{length, getD, set, length-set}
-use Rattle.tables.specs.Places.{put-in}
+use Rattle.tables.specs.Contracts.{put-in}
 use Rattle.tables.proofs.Shifts.{put-in-last, put-in-again}
 use Rattle.tables.proofs.insert_at.Statement.{statement}
 use Rattle.tables.proofs.insert_at.Tie as tie

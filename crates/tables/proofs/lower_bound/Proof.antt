@@ -7,8 +7,8 @@ use native.Mathlib.Omega.{arith}
 use lib.ListN.{length, getD, take}
 use lib.Seq.{getD-take, length-take-le}
 use Rattle.laws.proofs.Cases.{le-or-lt}
-use Rattle.tables.specs.Places.{Rising, lower-place}
-use Rattle.tables.proofs.Searches.{lower-most, lower-before, lower-at}
+use Rattle.tables.specs.Contracts.{Rising, lower-place}
+use Rattle.tables.proofs.Searches.{lower-place-le, lower-before, lower-at}
 use Rattle.tables.proofs.lower_bound.Statement.{statement}
 use Rattle.tables.proofs.lower_bound.Tie as tie
 
@@ -66,7 +66,7 @@ loop-holds c =
     let t = c .args .t .now in
     let used = c .args .used in
     let all = length-take-le used t (c .pre .0) in
-    record { least = omega arith; most = omega (arith, lower-most (c .args .x) (take used t)); inside = omega arith }
+    record { least = omega arith; most = omega (arith, lower-place-le (c .args .x) (take used t)); inside = omega arith }
 
 sub-middle : tie.Need-sub-middle Inv-loop μ-loop
 sub-middle c = omega arith

@@ -4,8 +4,8 @@ use mathlib.Core.List.{List}
 use Prim.Native.Nat.{ℕ, _+_, _-_, _≤_, _<_}
 use native.Mathlib.Omega.{arith}
 use lib.ListN.{length, getD, set, length-set}
-use Rattle.tables.specs.Places.{taken-at}
-use Rattle.tables.proofs.Shifts.{taken-last, taken-again}
+use Rattle.tables.specs.Contracts.{taken-at}
+use Rattle.tables.proofs.Shifts.{taken-at-last, taken-at-again}
 use Rattle.tables.proofs.remove_at.Statement.{statement}
 use Rattle.tables.proofs.remove_at.Tie as tie
 
@@ -23,13 +23,13 @@ abbrev μ-loop : tie.MeasureT-loop
 again : {t₀ t : List ℕ} {used at i : ℕ} → Left t₀ used at t i → used ≤ length t₀ → i + 1 < used → Left t₀ used at (set t i (getD t (i + 1) 0)) (i + 1)
 again {t₀} {t} {used} {at} {i} l fits h =
     record {
-      same = taken-again t used i h (omega arith) ∙ l .same;
+      same = taken-at-again t used i h (omega arith) ∙ l .same;
       kept = rw length-set (l .kept);
       most = h;
     }
 
 done : {t₀ t : List ℕ} {used at i : ℕ} → Left t₀ used at t i → used ≤ length t₀ → used ≤ i + 1 → set t i 0 ≡ taken-at t₀ used at
-done {t₀} {t} {used} {at} {i} l fits h = taken-last t used i (omega arith) (omega arith) ∙ l .same
+done {t₀} {t} {used} {at} {i} l fits h = taken-at-last t used i (omega arith) (omega arith) ∙ l .same
 
 loop-holds : tie.Need-loop-holds Inv-loop μ-loop
 loop-holds c = record { same = refl; kept = refl; most = omega arith }

@@ -6,11 +6,11 @@ use native.Mathlib.Omega.{arith}
 use borrow.Author.Needs.{needs}
 use Rattle.device.specs.declared.Settings.{Settings}
 use Rattle.device.specs.Remap.{physical}
-use Rattle.device.proofs.Permutation.{physical-below}
+use Rattle.device.proofs.Remap.{physical-below}
 use Rattle.summary.specs.Steps.{Summary, activation}
-use Rattle.summary.specs.Tables.{Holds}
-use Rattle.summary.proofs.Rules.Ceiling.{room-more}
-use Rattle.summary.proofs.Stored.{tracked-few}
+use Rattle.summary.specs.Contracts.{Holds}
+use Rattle.summary.proofs.Rules.Room.{room-more}
+use Rattle.summary.proofs.Contracts.Holds.{tracked-le}
 use Rattle.tracker.specs.State.{summary-of, state-of}
 use Rattle.tracker.specs.Calls.{activate, kept-unless, victims-in}
 use Rattle.tracker.specs.Answers.{given}
@@ -44,7 +44,7 @@ unfolding given
 cast-t15 c =
     let a = c .before .before .before .before .before .before .before .before .before .before .before .before .before in
     let r = activation-ready (a .args .s) (given (a .args .rows .now) (a .args .counts .now) (a .args .p)) (a .args .row) (a .pre) in
-    omega (arith, tracked-few (c .before .before .before .before .before .before .activate-row .ensures), r .0 .fitting .rows-long, r .0 .settings .counters .most)
+    omega (arith, tracked-le (c .before .before .before .before .before .before .activate-row .ensures), r .0 .fitting .rows-long, r .0 .settings .counters .most)
 
 -- the state that an activation leaves, by a row that is the physical one
 made-by : (s : Settings) (e a : ℕ) (sum : Summary) (at row : ℕ) {rows counts : List ℕ} {k spill : ℕ} → at ≡ physical row → Holds (s .counters) 4294967296 (activation (s .counters) (victims-in s) at sum) rows counts k spill → given rows counts (record { events = e; activations = a; tracked = k; spillover = spill }) ≡ state-of s e a (activation (s .counters) (victims-in s) (physical row) sum)

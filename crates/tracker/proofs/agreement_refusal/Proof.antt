@@ -6,7 +6,7 @@ use borrow.Author.Tests.{not-true, not-false, eqb-true}
 use lib.Dec.{eqb}
 use lib.ListN.{length}
 use Rattle.device.specs.Refusal.{refuse}
-use Rattle.device.proofs.Accepted.{both}
+use Rattle.device.proofs.Acceptance.{both}
 use Rattle.tracker.specs.Answers.{given}
 use Rattle.tracker.specs.Calls.{tables-long}
 use Rattle.tracker.proofs.Passed.{or-later-first, or-later-zero, tables-fit}

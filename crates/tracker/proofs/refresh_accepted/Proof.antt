@@ -3,7 +3,7 @@ use mathlib.Core.Path.{_≡_}
 use Prim.Native.Nat.{_≤_, _<_}
 use native.Mathlib.Omega.{arith}
 use borrow.Author.Needs.{needs}
-use Rattle.summary.proofs.Stored.{tracked-few}
+use Rattle.summary.proofs.Contracts.Holds.{tracked-le}
 use Rattle.tracker.specs.State.{summary-of}
 use Rattle.tracker.specs.Answers.{refresh-call, refresh-accepts, refresh-refusal, refresh-count, refresh-position, given}
 use Rattle.tracker.proofs.Chain.{named-few}
@@ -44,7 +44,7 @@ unfolding given
 cast-t18 c =
     let a = c .before .before .before .before .before .before .before .before .before .before .before .before .before .before .before .before .before .before in
     let r = refresh-ready (a .args .s) (given (a .args .rows .now) (a .args .counts .now) (a .args .p)) (a .args .list .now) (a .pre) in
-    omega (arith, tracked-few (c .before .before .before .before .before .before .before .before .before .before .event-tables .ensures .1), r .0 .fitting .rows-long, r .0 .settings .counters .most)
+    omega (arith, tracked-le (c .before .before .before .before .before .before .before .before .before .before .event-tables .ensures .1), r .0 .fitting .rows-long, r .0 .settings .counters .most)
 
 returns : tie.Need-returns
 unfolding refresh-call refresh-accepts refresh-refusal refresh-count refresh-position given summary-of

@@ -3,8 +3,8 @@ use mathlib.Core.Path.{sym, _∙_}
 use native.Mathlib.Omega.{arith}
 use borrow.Author.Needs.{needs}
 use lib.ListN.{take}
-use Rattle.device.proofs.Accepted.{accepted}
-use Rattle.bound.proofs.Narrow.{bound-answer-small}
+use Rattle.device.proofs.Acceptance.{accepted-settings}
+use Rattle.bound.proofs.Answers.{small-bound-answer}
 use Rattle.tracker.specs.Answers.{given}
 use Rattle.listing.specs.Memory.{memory, stood, carried, stored}
 use Rattle.listing.proofs.Carries.{front-put}
@@ -15,7 +15,7 @@ use Rattle.listing.proofs.line.list_settings.Tie as tie
 print-settings-requires : tie.Need-print-settings-requires
 print-settings-requires c κs =
     let a = c .before .before .before .before .before in
-    (omega (arith, a .pre .0), rw (c .bound .ensures) (bound-answer-small (a .args .s)))
+    (omega (arith, a .pre .0), rw (c .bound .ensures) (small-bound-answer (a .args .s)))
 
 returns : tie.Need-returns
 unfolding stored
@@ -31,7 +31,7 @@ returns c =
 front-set-up-requires : tie.Need-front-set-up-requires
 front-set-up-requires c κs =
     let a = c .before .before .before .before .before .before .before .before .before .before .before .before in
-    let ok = accepted (a .args .s) (sym (c .before .before .before .settings-refusal .ensures) ∙ c .before .before .if1 .left) in
+    let ok = accepted-settings (a .args .s) (sym (c .before .before .before .settings-refusal .ensures) ∙ c .before .before .if1 .left) in
     (omega (arith, a .pre .1, ok .counters .most), omega (arith, a .pre .2, ok .counters .most))
 
 returns-2 : tie.Need-returns-2
@@ -45,7 +45,7 @@ returns-2 c =
     let rows = f .last .1 .0 in
     let counts = f .last .1 .1 .0 in
     let e = sym (c .before .before .before .before .before .before .before .before .settings-refusal .ensures) ∙ c .before .before .before .before .before .before .before .if1 .left in
-    let ok = accepted s e in
+    let ok = accepted-settings s e in
     record {
       printed = settings-printed (a .args .line) s (carried m) (b .result) (b .ensures) (c .before .before .before .before .before .before .before .before .before .before .before .print-settings .ensures);
       left =

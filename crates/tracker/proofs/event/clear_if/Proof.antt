@@ -5,7 +5,7 @@ use Prim.Native.Nat.{ℕ}
 use borrow.Author.Needs.{needs}
 use lib.ListN.{length, replicate}
 use Rattle.summary.specs.Steps.{cleared-if}
-use Rattle.summary.proofs.Stored.{long-counts}
+use Rattle.summary.proofs.Contracts.Holds.{long-counts}
 use Rattle.tracker.proofs.Spread.{holds-empty}
 use Rattle.tracker.proofs.event.clear_if.Statement.{statement}
 use Rattle.tracker.proofs.event.clear_if.Tie as tie

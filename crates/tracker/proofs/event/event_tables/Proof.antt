@@ -8,8 +8,7 @@ use lib.ListN.{length, take}
 use lib.Seq.{length-take-le}
 use Rattle.device.specs.Victims.{rows-between}
 use Rattle.summary.specs.Tables.{read}
-use Rattle.summary.proofs.Stored.{long-rows, long-counts}
-use Rattle.summary.proofs.Moves.{held-again}
+use Rattle.summary.proofs.Contracts.Holds.{long-rows, long-counts, held-again}
 use Rattle.tracker.specs.Calls.{victims-in, block-rows, ends-window}
 use Rattle.tracker.proofs.Spread.{victims-four}
 use Rattle.tracker.proofs.Chain.{named-rows, named-few, named-below, begun-room, spread-room, event-done}

@@ -6,9 +6,9 @@ use native.Mathlib.Omega.{arith}
 use lib.ListN.{length, getD, take, drop}
 use lib.Seq.{getD-take, length-take-le}
 use Rattle.summary.specs.Tables.{read}
-use Rattle.summary.proofs.Columns.{used-step, used-none}
-use Rattle.summary.proofs.Rules.Ceiling.{room-more}
-use Rattle.summary.proofs.Stored.{long-rows, long-counts}
+use Rattle.tables.proofs.Scans.{used-step, left-none}
+use Rattle.summary.proofs.Rules.Room.{room-more}
+use Rattle.summary.proofs.Contracts.Holds.{long-rows, long-counts}
 use Rattle.tracker.specs.Calls.{victims-in}
 use Rattle.tracker.proofs.Spread.{Spreading, spreading-ready, spreading-again, spreading-done, spreading-more, victims-four, below-at}
 use Rattle.tracker.proofs.event.spread_list.Statement.{statement}
@@ -84,7 +84,7 @@ same-length-2 c = long-counts (c .before .loop .inv .0 .holds) ∙ sym (long-cou
 returns : tie.Need-returns Inv-loop μ-loop
 returns c =
     let a = c .before .before .before .before .before in
-    spreading-done (c .before .loop .inv .0) (used-none (a .args .list .now) (a .args .used) (c .before .loop .i) (a .pre .1 .0 .2) (c .loop-test .left))
+    spreading-done (c .before .loop .inv .0) (left-none (a .args .list .now) (a .args .used) (c .before .loop .i) (a .pre .1 .0 .2) (c .loop-test .left))
 
 pub spread-list-spec : {M : Type 1} → statement M
 spread-list-spec =

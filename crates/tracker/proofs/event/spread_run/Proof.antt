@@ -5,11 +5,11 @@ use Prim.Native.Nat.{_+_, _-_, _*_, _≤_, _<_}
 use native.Mathlib.Omega.{arith}
 use lib.ListN.{length, take}
 use Rattle.device.specs.Victims.{rows-between}
-use Rattle.device.proofs.Neighbours.{between-step, between-none}
+use Rattle.device.proofs.Victims.{between-step, between-none}
 use Rattle.summary.specs.Steps.{besides}
 use Rattle.summary.specs.Tables.{read}
-use Rattle.summary.proofs.Rules.Ceiling.{room-more}
-use Rattle.summary.proofs.Stored.{long-rows, long-counts}
+use Rattle.summary.proofs.Rules.Room.{room-more}
+use Rattle.summary.proofs.Contracts.Holds.{long-rows, long-counts}
 use Rattle.tracker.specs.Calls.{victims-in}
 use Rattle.tracker.proofs.Spread.{Spreading, spreading-ready, spreading-beside, spreading-done, spreading-more, victims-four}
 use Rattle.tracker.proofs.event.spread_run.Statement.{statement}

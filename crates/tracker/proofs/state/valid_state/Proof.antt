@@ -9,7 +9,7 @@ use borrow.Author.Tests.{leb-true, not-true, not-false}
 use lib.Dec.{leb, ltb}
 use lib.ListN.{take, drop}
 use Rattle.device.specs.declared.Settings.{Settings}
-use Rattle.device.proofs.Accepted.{both}
+use Rattle.device.proofs.Acceptance.{both}
 use Rattle.tracker.specs.declared.Position.{Position}
 use Rattle.tracker.specs.State.{zeros, ascending, counts-allowed, valid}
 use Rattle.tracker.proofs.state.valid_state.Statement.{statement}

@@ -3,10 +3,8 @@ use mathlib.Core.Path.{_≡_}
 use mathlib.Core.List.{[], _∷_}
 use borrow.Author.Needs.{needs}
 use Rattle.summary.specs.Steps.{activation}
-use Rattle.summary.proofs.Laid.{held-read}
-use Rattle.summary.proofs.Rules.Ceiling.{room-drop}
-use Rattle.summary.proofs.Stored.{long-rows}
-use Rattle.summary.proofs.Moves.{held-again}
+use Rattle.summary.proofs.Contracts.Holds.{held-read, long-rows, held-again}
+use Rattle.summary.proofs.Rules.Room.{room-drop}
 use Rattle.tracker.proofs.victims.activate_row.Statement.{statement}
 use Rattle.tracker.proofs.victims.activate_row.Tie as tie
 

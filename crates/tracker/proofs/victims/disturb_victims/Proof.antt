@@ -5,10 +5,8 @@ use native.Mathlib.Omega.{arith}
 use borrow.Author.Needs.{needs}
 use lib.ListN.{length}
 use Rattle.summary.specs.Tables.{read}
-use Rattle.summary.proofs.Laid.{held-read}
-use Rattle.summary.proofs.Rules.Ceiling.{room-more}
-use Rattle.summary.proofs.Stored.{long-rows}
-use Rattle.summary.proofs.Moves.{held-again}
+use Rattle.summary.proofs.Contracts.Holds.{held-read, long-rows, held-again}
+use Rattle.summary.proofs.Rules.Room.{room-more}
 use Rattle.tracker.proofs.Spread.{room-between, victims-split}
 use Rattle.tracker.proofs.victims.disturb_victims.Statement.{statement}
 use Rattle.tracker.proofs.victims.disturb_victims.Tie as tie

@@ -1,0 +1,4 @@
+-- Laws of specs/Totals.antt.
+pub mod Size
+pub mod Total
+pub mod Bound

@@ -1,0 +1,126 @@
+-- What it says of the settings that they are accepted, as facts about numbers; their refusals are 1 to 7.
+use mathlib.Core.Path.{_≡_, refl}
+use mathlib.Core.Bool.{Bool, true, false, _&&_, _||_, not}
+use mathlib.Core.Logic.{_⊎_, inl, inr, ⊎-map}
+use mathlib.Core.List.{List, _++_}
+use Prim.Native.Nat.{ℕ, _*_, _%_, _≤_}
+use borrow.Author.Tests.{leb-true, eqb-true}
+use lib.Dec.{leb, eqb, lit≤}
+use Rattle.laws.proofs.Cases.{zero-one}
+use Rattle.device.specs.declared.Settings.{Settings}
+use Rattle.device.specs.Refusal.{Test, first-failed, unless}
+use Rattle.device.specs.Acceptance.{most-rows, most-counters, within, rows-allowed, diameter-allowed, block-allowed, settings-tests-with, settings-tests, settings-tests-but-counters}
+use Rattle.device.proofs.Refusal.{refuse-passed, refuse-le, or-later, later-refuse}
+
+-- a number from low to high
+pub record Between (low high x : ℕ) : Type 0 where
+  pub least : low ≤ x
+  pub most : x ≤ high
+
+-- accepted-settings settings, whatever the counter count
+pub record InRange (s : Settings) : Type 0 where
+  pub rows : Between 16 most-rows (s .rows)
+  pub rows-whole : s .rows % 16 ≡ 0
+  pub diameter : (s .«blast_diameter» ≡ 2) ⊎ (s .«blast_diameter» ≡ 4)
+  pub volume : Between 1 16 (s .volume)
+  pub interval : Between 1 4096 (s .interval)
+  pub window : Between 1 8192 (s .window)
+  pub block : Between 1 64 (s .block)
+  pub covered : s .rows ≤ s .block * s .window
+
+-- accepted-settings settings
+pub record Accepted (s : Settings) : Type 0 where
+  pub others : InRange s
+  pub counters : Between (s .volume) most-counters (s .counters)
+
+pub both : (a b : Bool) → (a && b) ≡ true → (a ≡ true) × (b ≡ true)
+both true b e = (refl, e)
+both false b e = zero-one (cc)
+
+or-true-either : (a b : Bool) → (a || b) ≡ true → (a ≡ true) ⊎ (b ≡ true)
+or-true-either true b e = inl refl
+or-true-either false b e = inr e
+
+within-between : (low high x : ℕ) → within low high x ≡ true → Between low high x
+unfolding within
+within-between low high x e =
+    let parts = both (leb low x) (leb x high) e in
+    record { least = leb-true low x (parts .0); most = leb-true x high (parts .1) }
+
+diameter-of : (b : ℕ) → diameter-allowed b ≡ true → (b ≡ 2) ⊎ (b ≡ 4)
+unfolding diameter-allowed
+diameter-of b e = ⊎-map (eqb-true b 2) (eqb-true b 4) (or-true-either (eqb b 2) (eqb b 4) e)
+
+tests-passed : (counters-allowed : Bool) (s : Settings) → first-failed (settings-tests-with counters-allowed s) ≡ 0 → (counters-allowed ≡ true) × InRange s
+unfolding first-failed unless settings-tests-with rows-allowed block-allowed
+tests-passed counters-allowed s e =
+    let p1 = refuse-passed (rows-allowed (s .rows)) 0 _ e in
+    let p2 = refuse-passed (diameter-allowed (s .«blast_diameter»)) 1 _ (p1 .1) in
+    let p3 = refuse-passed (within 1 16 (s .volume)) 2 _ (p2 .1) in
+    let p4 = refuse-passed counters-allowed 3 _ (p3 .1) in
+    let p5 = refuse-passed (within 1 4096 (s .interval)) 4 _ (p4 .1) in
+    let p6 = refuse-passed (within 1 8192 (s .window)) 5 _ (p5 .1) in
+    let p7 = refuse-passed (block-allowed (s .block) (s .window) (s .rows)) 6 _ (p6 .1) in
+    let whole = both (within 16 most-rows (s .rows)) (eqb (s .rows % 16) 0) (p1 .0) in
+    let regular = both (within 1 64 (s .block)) (leb (s .rows) (s .block * s .window)) (p7 .0) in (
+      p4 .0,
+      record {
+        rows = within-between 16 most-rows (s .rows) (whole .0);
+        rows-whole = eqb-true (s .rows % 16) 0 (whole .1);
+        diameter = diameter-of (s .«blast_diameter») (p2 .0);
+        volume = within-between 1 16 (s .volume) (p3 .0);
+        interval = within-between 1 4096 (s .interval) (p5 .0);
+        window = within-between 1 8192 (s .window) (p6 .0);
+        block = within-between 1 64 (s .block) (regular .0);
+        covered = leb-true (s .rows) (s .block * s .window) (regular .1);
+      },
+    )
+
+pub accepted-settings : (s : Settings) → first-failed (settings-tests s) ≡ 0 → Accepted s
+unfolding settings-tests
+accepted-settings s e =
+    let parts = tests-passed (within (s .volume) most-counters (s .counters)) s e in
+    record { others = parts .1; counters = within-between (s .volume) most-counters (s .counters) (parts .0) }
+
+pub accepted-but-counters : (s : Settings) → first-failed (settings-tests-but-counters s) ≡ 0 → InRange s
+unfolding settings-tests-but-counters
+accepted-but-counters s e = tests-passed true s e .1
+
+-- accepted-settings settings pass the tests that skip the counter count
+pub accepted-skipping : (s : Settings) → first-failed (settings-tests s) ≡ 0 → first-failed (settings-tests-but-counters s) ≡ 0
+unfolding settings-tests settings-tests-but-counters
+accepted-skipping s e = rw (tests-passed (within (s .volume) most-counters (s .counters)) s e .0) at e
+
+-- the settings' refusals-le are 1 to 7
+refusals-with-le : (counters-allowed : Bool) (s : Settings) → first-failed (settings-tests-with counters-allowed s) ≤ 7
+unfolding first-failed unless settings-tests-with
+refusals-with-le counters-allowed s =
+    refuse-le (not (rows-allowed (s .rows))) 1 (lit≤ tt)
+    (refuse-le (not (diameter-allowed (s .«blast_diameter»))) 2 (lit≤ tt)
+    (refuse-le (not (within 1 16 (s .volume))) 3 (lit≤ tt)
+    (refuse-le (not counters-allowed) 4 (lit≤ tt)
+    (refuse-le (not (within 1 4096 (s .interval))) 5 (lit≤ tt)
+    (refuse-le (not (within 1 8192 (s .window))) 6 (lit≤ tt)
+    (refuse-le (not (block-allowed (s .block) (s .window) (s .rows))) 7 (lit≤ tt) (lit≤ tt)))))))
+
+pub refusals-le : (s : Settings) → first-failed (settings-tests s) ≤ 7
+unfolding settings-tests
+refusals-le s = refusals-with-le (within (s .volume) most-counters (s .counters)) s
+
+pub refusals-but-counters-le : (s : Settings) → first-failed (settings-tests-but-counters s) ≤ 7
+unfolding settings-tests-but-counters
+refusals-but-counters-le s = refusals-with-le true s
+
+-- tests behind the settings' are heard where the settings are accepted-settings
+pub settings-then : (s : Settings) (later : List Test) → first-failed (settings-tests s ++ later) ≡ or-later (first-failed (settings-tests s)) (first-failed later)
+unfolding first-failed unless settings-tests settings-tests-with or-later
+settings-then s later =
+    simp (
+      later-refuse (not (rows-allowed (s .rows))) 0,
+      later-refuse (not (diameter-allowed (s .«blast_diameter»))) 1,
+      later-refuse (not (within 1 16 (s .volume))) 2,
+      later-refuse (not (within (s .volume) most-counters (s .counters))) 3,
+      later-refuse (not (within 1 4096 (s .interval))) 4,
+      later-refuse (not (within 1 8192 (s .window))) 5,
+      later-refuse (not (block-allowed (s .block) (s .window) (s .rows))) 6,
+    )

@@ -1,0 +1,36 @@
+-- Refusals: an answer behind the tests stands where they say 0 and is refused with their number where they do not; tests behind others.
+use mathlib.Core.Path.{_≡_, refl}
+use mathlib.Core.Bool.{Bool, true, false, not}
+use Prim.Native.Nat.{ℕ, zero, suc, _≤_}
+use native.Mathlib.Omega.{arith}
+use Rattle.device.specs.Refusal.{Outcome, refused, tested, refuse}
+
+pub tested-passed : {A : Type 0} {k : ℕ} (answer : Outcome A) → k ≡ 0 → tested k answer ≡ answer
+unfolding tested
+tested-passed answer e = rw e
+
+pub tested-failed : {A : Type 0} (k : ℕ) (answer : Outcome A) → (k ≡ 0 → ⊥) → tested k answer ≡ refused k
+unfolding tested
+tested-failed zero answer h = absurd (h refl)
+tested-failed (suc k) answer h = refl
+
+-- a test that is not the last word: it refuse-passed, and so did the later ones
+pub refuse-passed : (allowed : Bool) (k later : ℕ) → refuse (not allowed) (suc k) later ≡ 0 → (allowed ≡ true) × (later ≡ 0)
+unfolding refuse
+refuse-passed true k later e = (refl, e)
+refuse-passed false k later e = absurd (omega arith)
+
+pub refuse-le : (failed : Bool) (k : ℕ) {later most : ℕ} → k ≤ most → later ≤ most → refuse failed k later ≤ most
+unfolding refuse
+refuse-le true k h later = h
+refuse-le false k h later = later
+
+-- a refusal, or where there is none what later tests say
+unfoldable pub or-later : ℕ → ℕ → ℕ
+or-later zero later = later
+or-later (suc k) later = suc k
+
+pub later-refuse : (failed : Bool) (k l later : ℕ) → or-later (refuse failed (suc k) l) later ≡ refuse failed (suc k) (or-later l later)
+unfolding refuse or-later
+later-refuse true k l later = refl
+later-refuse false k l later = refl

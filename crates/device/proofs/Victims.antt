@@ -1,0 +1,125 @@
+-- The victims of a row: exactly the other rows of the bank within reach, ascending, so none twice, and at most as many as the blast diameter.
+use mathlib.Core.Path.{_≡_, sym}
+use mathlib.Core.Logic.{⊎-elim}
+use mathlib.Core.List.{List, [], _∷_, _++_, List·Memᴰ, List·Memᴰ·head, List·Memᴰ·tail, List·Memᴰ·append-cases, List·Memᴰ·not-nil, List·Memᴰ·cases-cons, Memᴰ·append-left, Memᴰ·append-right}
+use Prim.Native.Nat.{ℕ, zero, suc, _+_, _-_, _/_, _≤_, _<_, min}
+use native.Mathlib.Nat.{eq-or-lt-of-le}
+use native.Mathlib.Numerals.{add-one}
+use native.Mathlib.Omega.{arith}
+use lib.ListN.{length, getD, length-append}
+use Rattle.laws.proofs.Cases.{le-or-lt}
+use Rattle.device.specs.Victims.{rows-from, rows-between, victims}
+use Rattle.device.specs.Claims.{distance}
+
+-- rows from low on and below high, each above the one before
+pub data Ascends : ℕ → ℕ → List ℕ → Type 0 where
+  ascends-none : {low high : ℕ} → Ascends low high []
+  ascends-more : {low high row : ℕ} {rows : List ℕ} → Ascends (suc row) high rows → low ≤ row → row < high → Ascends low high (row ∷ rows)
+
+ascends-widen : {low high low′ high′ : ℕ} {rows : List ℕ} → Ascends low high rows → low′ ≤ low → high ≤ high′ → Ascends low′ high′ rows
+ascends-widen ascends-none l h = ascends-none
+ascends-widen {low′} {high′} (ascends-more {row} later from below) l h =
+    ascends-more {low = low′} {high = high′} {row = row} (ascends-widen later (omega arith) h) (omega arith) (omega arith)
+
+ascends-append : {low middle high : ℕ} {front back : List ℕ} → Ascends low middle front → Ascends middle high back → low ≤ middle → middle ≤ high → Ascends low high (front ++ back)
+ascends-append ascends-none back l h = ascends-widen back l (omega arith)
+ascends-append {low} {high} (ascends-more {row} later from below) back l h =
+    ascends-more {low = low} {high = high} {row = row} (ascends-append later back (omega arith) h) from (omega arith)
+
+-- a number of ascending ones is from low on, and below those behind it
+from-low : {low high : ℕ} {rows : List ℕ} → Ascends low high rows → (i : ℕ) → i < length rows → low ≤ getD rows i 0
+from-low ascends-none i h = absurd (omega arith)
+from-low (ascends-more later from below) zero h = from
+from-low (ascends-more later from below) (suc i) h = omega (arith, from-low later i (omega arith))
+
+pub ascends-at : {low high : ℕ} {rows : List ℕ} → Ascends low high rows → (i j : ℕ) → i < j → j < length rows → getD rows i 0 < getD rows j 0
+ascends-at ascends-none i j h l = absurd (omega arith)
+ascends-at (ascends-more later from below) i zero h l = absurd (omega arith)
+ascends-at (ascends-more later from below) zero (suc j) h l = from-low later j (omega arith)
+ascends-at (ascends-more later from below) (suc i) (suc j) h l = ascends-at later i j (omega arith) (omega arith)
+
+from-ascends : (k low high : ℕ) → low + k ≤ high → Ascends low high (rows-from k low)
+unfolding rows-from
+from-ascends zero low high h = ascends-none
+from-ascends (suc k) low high h =
+    ascends-more {low = low} {high = high} {row = low} (from-ascends k (suc low) high (omega arith)) (omega arith) (omega arith)
+
+from-length : (k low : ℕ) → length (rows-from k low) ≡ k
+unfolding rows-from
+from-length zero low = omega arith
+from-length (suc k) low = omega (arith, from-length k (suc low))
+
+-- a run of rows below a row ascends, and is as long as the rows are apart
+pub between-ascends : (low high : ℕ) {top : ℕ} → high ≤ top → Ascends low top (rows-between low high)
+unfolding rows-between rows-from
+between-ascends low high {top} h =
+    ⊎-elim
+    (λ apart. from-ascends (high - low) low top (omega arith))
+    (λ past. let nothing : high - low ≡ 0 = omega arith in rw nothing ascends-none)
+    (le-or-lt low high)
+
+pub between-length : (low high : ℕ) → length (rows-between low high) ≡ high - low
+unfolding rows-between
+between-length low high = from-length (high - low) low
+
+-- membership: exactly the rows from low on and below low + k
+in-from : (k low v : ℕ) → List·Memᴰ v (rows-from k low) → (low ≤ v) × (v < low + k)
+unfolding rows-from
+in-from zero low v m = absurd (List·Memᴰ·not-nil m)
+in-from (suc k) low v m = ⊎-elim (λ e. omega arith) (λ m. let r = in-from k (suc low) v m in omega arith) (List·Memᴰ·cases-cons m)
+
+from-in : (k low v : ℕ) → low ≤ v → v < low + k → List·Memᴰ v (rows-from k low)
+unfolding rows-from
+from-in zero low v l h = absurd (omega arith)
+from-in (suc k) low v l h =
+    ⊎-elim (λ e. List·Memᴰ·head (sym e)) (λ below. List·Memᴰ·tail (from-in k (suc low) v below (omega arith))) (eq-or-lt-of-le l)
+
+module _ (rows diameter row : ℕ) where
+  -- 'neighbours at distance 1 to B/2 that exist'
+  pub victim-near : row < rows → (v : ℕ) → List·Memᴰ v (victims rows diameter row) → (v < rows) × (1 ≤ distance v row) × (distance v row ≤ diameter / 2)
+  unfolding victims rows-between
+  victim-near h v m =
+      ⊎-elim
+      (λ below. let r = in-from (row - (row - diameter / 2)) (row - diameter / 2) v below in omega arith)
+      (λ above. let r = in-from (min (row + 1 + diameter / 2) rows - (row + 1)) (row + 1) v above in omega arith)
+      (List·Memᴰ·append-cases (rows-from (row - (row - diameter / 2)) (row - diameter / 2)) m)
+
+  pub near-victim : (v : ℕ) → v < rows → 1 ≤ distance v row → distance v row ≤ diameter / 2 → List·Memᴰ v (victims rows diameter row)
+  unfolding victims rows-between
+  near-victim v h far near = ⊎-elim below above (le-or-lt v row)
+    where
+      below : v ≤ row → List·Memᴰ v (victims rows diameter row)
+      below l =
+          Memᴰ·append-left (rows-between (row + 1) (min (row + 1 + diameter / 2) rows))
+          (from-in (row - (row - diameter / 2)) (row - diameter / 2) v (omega arith) (omega arith))
+
+      above : row < v → List·Memᴰ v (victims rows diameter row)
+      above l =
+          Memᴰ·append-right (rows-between (row - diameter / 2) row)
+          (from-in (min (row + 1 + diameter / 2) rows - (row + 1)) (row + 1) v (omega arith) (omega arith))
+
+  -- ascending and below the bank's end, so ascends-none twice
+  pub victims-ascend : row < rows → Ascends 0 rows (victims rows diameter row)
+  unfolding victims rows-between
+  victims-ascend h =
+      ascends-append {middle = row + 1}
+      (ascends-widen (from-ascends (row - (row - diameter / 2)) (row - diameter / 2) row (omega arith)) (omega arith) (omega arith))
+      (from-ascends (min (row + 1 + diameter / 2) rows - (row + 1)) (row + 1) rows (omega arith))
+      (omega arith)
+      (omega arith)
+
+  -- at most as many as the blast diameter
+  pub length-victims-le : length (victims rows diameter row) ≤ diameter
+  unfolding victims rows-between
+  length-victims-le = simp (length-append, from-length) (omega arith)
+
+-- a run of rows, one row further, and ascends-none
+pub between-step : (row high : ℕ) → row < high → rows-between row high ≡ row ∷ rows-between (row + 1) high
+unfolding rows-between rows-from
+between-step row high h =
+    let one : high - row ≡ suc (high - (row + 1)) = omega arith in
+    rw (one, add-one row)
+
+pub between-none : (row high : ℕ) → high ≤ row → rows-between row high ≡ []
+unfolding rows-between rows-from
+between-none row high h = let nothing : high - row ≡ 0 = omega arith in rw nothing
