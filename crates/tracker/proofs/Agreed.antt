@@ -15,7 +15,7 @@ use Rattle.device.proofs.Tested.{tested-passed, tested-failed}
 use Rattle.summary.specs.Tables.{read, Holds}
 use Rattle.summary.proofs.Stored.{long-rows}
 use Rattle.tracker.specs.State.{State, summary-of, valid}
-use Rattle.tracker.specs.Calls.{tables-long, agreement-tests, agree, same-estimates}
+use Rattle.tracker.specs.Calls.{tables-long, agreement-tests, agreement-of, same-estimates}
 use Rattle.tracker.proofs.Valid.{Facts, valid-facts}
 use Rattle.tracker.proofs.Passed.{or-later-none, passed-test}
 
@@ -52,14 +52,14 @@ module _ (s : Settings) (st : State) (s′ : Settings) (st′ : State) where
   answer : Bool
   answer = eqb (s .rows) (s′ .rows) && same-estimates (s .rows) (summary-of st) (summary-of st′)
 
-  pub agreement-refused : (k : ℕ) → k ≡ first-failed (agreement-tests s st s′ st′) → (k ≡ 0 → ⊥) → refused k ≡ agree s st s′ st′
-  unfolding agree answer
+  pub agreement-refused : (k : ℕ) → k ≡ first-failed (agreement-tests s st s′ st′) → (k ≡ 0 → ⊥) → refused k ≡ agreement-of s st s′ st′
+  unfolding agreement-of answer
   agreement-refused k e h = rw (← e) (sym (tested-failed k (accepted-with answer) h))
 
-  pub agreement-differs : first-failed (agreement-tests s st s′ st′) ≡ 0 → (s .rows ≡ s′ .rows → ⊥) → accepted-with false ≡ agree s st s′ st′
-  unfolding agree tested
+  pub agreement-differs : first-failed (agreement-tests s st s′ st′) ≡ 0 → (s .rows ≡ s′ .rows → ⊥) → accepted-with false ≡ agreement-of s st s′ st′
+  unfolding agreement-of tested
   agreement-differs e h = rw (e, ne-eqb (s .rows) (s′ .rows) h)
 
-  pub agreement-same : {b : Bool} → first-failed (agreement-tests s st s′ st′) ≡ 0 → s .rows ≡ s′ .rows → b ≡ same-estimates (s .rows) (summary-of st) (summary-of st′) → accepted-with b ≡ agree s st s′ st′
-  unfolding agree tested
+  pub agreement-same : {b : Bool} → first-failed (agreement-tests s st s′ st′) ≡ 0 → s .rows ≡ s′ .rows → b ≡ same-estimates (s .rows) (summary-of st) (summary-of st′) → accepted-with b ≡ agreement-of s st s′ st′
+  unfolding agreement-of tested
   agreement-same e h same = rw (e, eq-eqb (s .rows) (s′ .rows) h, same)

@@ -7,7 +7,7 @@ use native.Mathlib.Omega.{arith}
 use lib.ListN.{length}
 use Rattle.summary.specs.Tables.{read, Holds}
 use Rattle.tracker.specs.Calls.{same-estimates}
-use Rattle.tracker.specs.Walk.{next-row, figure-at, place-after}
+use Rattle.tracker.specs.Contracts.{next-row, estimate-at, place-after}
 use Rattle.tracker.proofs.Rows.{differ, alike}
 use Rattle.tracker.proofs.Steps.{Walked, begun, next-in, skipped-to, absent, figure-is, walked-past}
 
@@ -57,12 +57,12 @@ module _ {rows counts : List ℕ} {tracked spillover : ℕ} {rows′ counts′ :
       }
 
   -- the row that both walks have come to
-  pub row-differs : {row i j : ℕ} → Both rows counts tracked spillover rows′ counts′ tracked′ spillover′ high row i j → row < high → (figure-at rows counts tracked spillover row i ≡ figure-at rows′ counts′ tracked′ spillover′ row j → ⊥) → same-estimates high (read rows counts tracked spillover) (read rows′ counts′ tracked′ spillover′) ≡ false
+  pub row-differs : {row i j : ℕ} → Both rows counts tracked spillover rows′ counts′ tracked′ spillover′ high row i j → row < high → (estimate-at rows counts tracked spillover row i ≡ estimate-at rows′ counts′ tracked′ spillover′ row j → ⊥) → same-estimates high (read rows counts tracked spillover) (read rows′ counts′ tracked′ spillover′) ≡ false
   row-differs {row} w h ne =
       differ (read rows counts tracked spillover) (read rows′ counts′ tracked′ spillover′) high row h
       (λ e. ne (sym (figure-is (w .first)) ∙ e ∙ figure-is (w .second)))
 
-  pub row-passed : {row i j : ℕ} → Both rows counts tracked spillover rows′ counts′ tracked′ spillover′ high row i j → row < high → figure-at rows counts tracked spillover row i ≡ figure-at rows′ counts′ tracked′ spillover′ row j → Both rows counts tracked spillover rows′ counts′ tracked′ spillover′ high (row + 1) (place-after rows tracked row i) (place-after rows′ tracked′ row j)
+  pub row-passed : {row i j : ℕ} → Both rows counts tracked spillover rows′ counts′ tracked′ spillover′ high row i j → row < high → estimate-at rows counts tracked spillover row i ≡ estimate-at rows′ counts′ tracked′ spillover′ row j → Both rows counts tracked spillover rows′ counts′ tracked′ spillover′ high (row + 1) (place-after rows tracked row i) (place-after rows′ tracked′ row j)
   row-passed {row} w h e =
       record {
         first = walked-past (w .first);

@@ -65,14 +65,14 @@ module _
     begun : Holds places 4294967296 (cleared-if last (taken-out volume block sum)) rows₂ counts₂ k₂ spill₂
     begun = rw (held-read x₁, long-rows x₁) at x₂
 
-    pub begun-room : Room 2000000000 sum → Room 2000000000 (read rows₂ counts₂ k₂ spill₂)
+    pub begun-room : {most : ℕ} → Room most sum → Room most (read rows₂ counts₂ k₂ spill₂)
     begun-room r = rw (held-read begun) (room-cleared last (room-taken-out volume block r))
 
     module _ {rows₃ counts₃ : List ℕ} {k₃ spill₃ : ℕ} (x₃ : Holds (length rows₂) 4294967296 (spread (length rows₂) victims-of names (read rows₂ counts₂ k₂ spill₂)) rows₃ counts₃ k₃ spill₃) where
       spread-named : Holds places 4294967296 (spread places victims-of names (cleared-if last (taken-out volume block sum))) rows₃ counts₃ k₃ spill₃
       spread-named = rw (held-read begun, long-rows begun) at x₃
 
-      pub spread-room : ((row : ℕ) → length (victims-of row) ≤ 4) → length names ≤ 16 → Room 2000000000 sum → Room 2000000100 (read rows₃ counts₃ k₃ spill₃)
+      pub spread-room : ((row : ℕ) → length (victims-of row) ≤ 4) → length names ≤ 16 → Room 3999999552 sum → Room 3999999616 (read rows₃ counts₃ k₃ spill₃)
       spread-room four few r =
           rw (held-read spread-named)
           (room-more

@@ -20,7 +20,7 @@ use Rattle.summary.specs.Tables.{table, Holds, Held, PickedFrom}
 use Rattle.summary.proofs.Moves.{held-again}
 use Rattle.tracker.specs.declared.Position.{Position}
 use Rattle.tracker.specs.State.{State, summary-of, state-of, valid}
-use Rattle.tracker.specs.Calls.{tables-long, set-up-tests, activation-tests, refresh-tests, kept-unless, set-up, activate, refresh, victims-in, block-rows, ends-window, next-event}
+use Rattle.tracker.specs.Calls.{tables-long, set-up-tests, activation-tests, refresh-tests, kept-unless, set-up, activation-on, refresh-on, victims-in, block-rows, ends-window, next-event}
 use Rattle.tracker.specs.Answers.{given}
 use Rattle.tracker.proofs.Valid.{Facts, valid-facts}
 
@@ -167,23 +167,23 @@ set-up-done s rows counts e er ec =
     let o = open-tables s rows counts e in
     rw (e, er, ec, o .rows-long, o .counts-long, sub-zero (s .counters))
 
-pub activation-refused : (s : Settings) (st : State) (row k : ℕ) → k ≡ first-failed (activation-tests s st row) → (k ≡ 0 → ⊥) → record { accepts = false; refusal = k; state = st } ≡ activate s st row
-unfolding activate kept-unless
+pub activation-refused : (s : Settings) (st : State) (row k : ℕ) → k ≡ first-failed (activation-tests s st row) → (k ≡ 0 → ⊥) → record { accepts = false; refusal = k; state = st } ≡ activation-on s st row
+unfolding activation-on kept-unless
 activation-refused s st row zero e h = absurd (h refl)
 activation-refused s st row (suc k) e h = rw (← e, ne-eqb (suc k) 0 h)
 
-pub activation-done : (s : Settings) (st : State) (row : ℕ) {st′ : State} → first-failed (activation-tests s st row) ≡ 0 → st′ ≡ activate s st row .state → record { accepts = true; refusal = 0; state = st′ } ≡ activate s st row
-unfolding activate
+pub activation-done : (s : Settings) (st : State) (row : ℕ) {st′ : State} → first-failed (activation-tests s st row) ≡ 0 → st′ ≡ activation-on s st row .state → record { accepts = true; refusal = 0; state = st′ } ≡ activation-on s st row
+unfolding activation-on
 activation-done s st row e same = λ i. record { accepts = eqb (sym e i) 0; refusal = sym e i; state = same i }
 
-pub refresh-refused : (s : Settings) (st : State) (picks : List ℕ) (k : ℕ) → k ≡ first-failed (refresh-tests s st picks) → (k ≡ 0 → ⊥) → record { accepts = false; refusal = k; count = 0; state = st; picks = picks } ≡ refresh s st picks
-unfolding refresh kept-unless
+pub refresh-refused : (s : Settings) (st : State) (picks : List ℕ) (k : ℕ) → k ≡ first-failed (refresh-tests s st picks) → (k ≡ 0 → ⊥) → record { accepts = false; refusal = k; count = 0; state = st; picks = picks } ≡ refresh-on s st picks
+unfolding refresh-on kept-unless
 refresh-refused s st picks zero e h = absurd (h refl)
 refresh-refused s st picks (suc k) e h = rw (← e, ne-eqb (suc k) 0 h)
 
 -- an accepted event, from what was picked and what the tables hold
-pub refresh-done : (s : Settings) (st : State) (list₀ : List ℕ) {rows counts list : List ℕ} {count e k spill : ℕ} → first-failed (refresh-tests s st list₀) ≡ 0 → PickedFrom (s .volume) (summary-of st) list₀ list count → Holds (length (st .rows)) 4294967296 (event (length (st .rows)) (victims-in s) (s .volume) (block-rows s (st .position .events)) (ends-window s (st .position .events)) (summary-of st)) rows counts k spill → e ≡ next-event s (st .position .events) → record { accepts = true; refusal = 0; count = count; state = given rows counts (record { events = e; activations = 0; tracked = k; spillover = spill }); picks = list } ≡ refresh s st list₀
-unfolding refresh kept-unless picked
+pub refresh-done : (s : Settings) (st : State) (list₀ : List ℕ) {rows counts list : List ℕ} {count e k spill : ℕ} → first-failed (refresh-tests s st list₀) ≡ 0 → PickedFrom (s .volume) (summary-of st) list₀ list count → Holds (length (st .rows)) 4294967296 (event (length (st .rows)) (victims-in s) (s .volume) (block-rows s (st .position .events)) (ends-window s (st .position .events)) (summary-of st)) rows counts k spill → e ≡ next-event s (st .position .events) → record { accepts = true; refusal = 0; count = count; state = given rows counts (record { events = e; activations = 0; tracked = k; spillover = spill }); picks = list } ≡ refresh-on s st list₀
+unfolding refresh-on kept-unless picked
 refresh-done s st list₀ none x h ee =
     let r = refresh-ready s st list₀ none in
     let made = state-made s (next-event s (st .position .events)) 0 (rw (r .0 .fitting .rows-long) at h) in

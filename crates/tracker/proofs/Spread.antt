@@ -34,7 +34,7 @@ victims-split s counters row sum {low} {high} el eh =
     (each-append counters (rows-between (row - s .«blast_diameter» / 2) row) (rows-between (row + 1) (min (row + 1 + s .«blast_diameter» / 2) (s .rows))) sum)
 
 -- a short run raises counts by little
-pub room-between : (counters low high : ℕ) (sum : Summary) → Room 3999999000 sum → high - low ≤ 64 → Room 3999999936 (disturb-each counters (rows-between low high) sum)
+pub room-between : (counters low high : ℕ) (sum : Summary) → Room 3999999872 sum → high - low ≤ 64 → Room 3999999936 (disturb-each counters (rows-between low high) sum)
 room-between counters low high sum r few =
     room-more (room-each counters (rows-between low high) sum r) (omega (arith, between-length low high))
 
@@ -46,7 +46,7 @@ pub record Spreading (places : ℕ) (victims-of : ℕ → List ℕ) (whole rest 
   pub room : Room most sum
 
 module _ {places : ℕ} {victims-of : ℕ → List ℕ} {whole rest : List ℕ} {start : Summary} {rows counts : List ℕ} {k spill most : ℕ} (l : Spreading places victims-of whole rest start rows counts k spill most) where
-  pub spreading-ready : most ≤ 3999999000 → Held rows counts k spill × Room 3999999000 (read rows counts k spill)
+  pub spreading-ready : most ≤ 3999999872 → Held rows counts k spill × Room 3999999872 (read rows counts k spill)
   spreading-ready few = (held-again (l .holds), rw (held-read (l .holds)) (room-more (l .room) few))
 
   pub spreading-done : rest ≡ [] → Holds places 4294967296 (spread places victims-of whole start) rows counts k spill

@@ -16,7 +16,7 @@ use Rattle.summary.specs.Steps.{estimate}
 use Rattle.summary.specs.Tables.{entries-of, read, Holds}
 use Rattle.summary.specs.Rules.{Ordered, ordered-none, ordered-more}
 use Rattle.summary.proofs.Laid.{length-counts, length-table}
-use Rattle.tracker.specs.Walk.{next-row, at-row, figure-at, place-after}
+use Rattle.tracker.specs.Contracts.{next-row, at-row, estimate-at, place-after}
 
 -- the entries from a place of the tables on
 unfoldable pub rest-of : List ℕ → List ℕ → ℕ → ℕ → List Entry
@@ -147,8 +147,8 @@ module _ {high : ℕ} {rows counts : List ℕ} {tracked spillover : ℕ} where
       let other = eqb-false (getD rows i 0) row (rw (lt-ltb i tracked more) at off) in
       omega (arith, ahead w more)
 
-  pub figure-is : {row i : ℕ} → Walked high rows counts tracked spillover row i → estimate (read rows counts tracked spillover) row ≡ figure-at rows counts tracked spillover row i
-  unfolding figure-at
+  pub figure-is : {row i : ℕ} → Walked high rows counts tracked spillover row i → estimate (read rows counts tracked spillover) row ≡ estimate-at rows counts tracked spillover row i
+  unfolding estimate-at
   figure-is {row} {i} w =
       split (at-row rows tracked row i)
       (λ on. rw on (let t = stands rows tracked row i on in here w (t .0) (t .1)))

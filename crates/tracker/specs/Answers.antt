@@ -2,9 +2,10 @@
 use Prim.Native.Nat.{ℕ}
 use mathlib.Core.Bool.{Bool, true, false}
 use mathlib.Core.List.{List}
-use denote.Ref.{RefT, now}
+use denote.Ref.{now}
 use denote.Triple.Both.{Both}
 use Rattle.device.specs.Refusal.{Outcome, accepted, refused}
+use Rattle.summary.specs.Tables.{Slice}
 use Rattle.tracker.specs.declared.Position.{Position}
 use Rattle.tracker.specs.State.{State}
 use Rattle.tracker.specs.Calls.{SetUp-call, Activation-call, Refresh-call}
@@ -82,9 +83,6 @@ refresh-call r rows counts picks =
     }
 
 -- the same of a call's parameters: what the caller lent, and a call's answer with what it left there
-abbrev pub Slice : Type 0
-Slice = RefT (List ℕ)
-
 abbrev pub lent : Slice → Slice → Position → State
 lent rows counts p = given (now rows) (now counts) p
 

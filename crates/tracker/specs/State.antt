@@ -16,6 +16,10 @@ pub record State : Type 0 where
   pub counts : List ℕ
   pub position : Position
 
+-- no count and no spillover of a valid state 'exceeds 2,000,000,000'
+abbrev pub most-count : ℕ
+most-count = 2000000000
+
 -- the summary that a state holds
 unfoldable pub summary-of : State → Summary
 summary-of st = read (st .rows) (st .counts) (st .position .tracked) (st .position .spillover)
@@ -44,11 +48,11 @@ unfoldable pub ascending : ℕ → ℕ → List ℕ → Bool
 ascending low high [] = true
 ascending low high (row ∷ rows) = leb low row && ltb row high && ascending (suc row) high rows
 
--- no count 'is 0 or below the spill' or 'exceeds 2,000,000,000'
+-- no count 'is 0 or below the spill' or too high
 unfoldable pub counts-allowed : ℕ → List ℕ → Bool
 counts-allowed spillover [] = true
 counts-allowed spillover (count ∷ counts) =
-    leb 1 count && leb spillover count && leb count 2000000000 && counts-allowed spillover counts
+    leb 1 count && leb spillover count && leb count most-count && counts-allowed spillover counts
 
 -- the rules of a valid state, of which 21 is the breach
 unfoldable pub valid : Settings → State → Bool
@@ -60,4 +64,4 @@ valid s st =
     zeros (drop (st .position .tracked) (st .rows)) &&
     zeros (drop (st .position .tracked) (st .counts)) &&
     counts-allowed (st .position .spillover) (take (st .position .tracked) (st .counts)) &&
-    leb (st .position .spillover) 2000000000
+    leb (st .position .spillover) most-count

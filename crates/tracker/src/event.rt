@@ -8,9 +8,10 @@ ghost use Prim.Native.Nat.{_-_, _≤_, _<_};
 ghost use lib.ListN.{length, take};
 ghost use Rattle.device.specs.Victims.{rows-between};
 ghost use Rattle.summary.specs.Steps.{spread, besides, taken-out, cleared-if, event};
-ghost use Rattle.summary.specs.Rules.{Room, Below, Ordered};
+ghost use Rattle.summary.specs.Rules.{Below, Ordered};
 ghost use Rattle.summary.specs.Tables.{summary, places, Tracks, Turns, Names};
 ghost use Rattle.tracker.specs.Calls.{victims-in, block-rows, ends-window};
+ghost use Rattle.tracker.specs.Contracts.{Room-for, Ranges};
 
 // The picked rows are named at the list's front and dropped, and so are the block's.
 fn take_out(
@@ -64,7 +65,7 @@ fn spread_list(
 ) -> Tally
     requires { ⌜ Tracks rows counts t ⌝ }
     requires { ⌜ (s .«blast_diameter» ≤ 4) × (used ≤ 16) × (used ≤ length (now list)) × Below 65536 (take used (now list)) ⌝ }
-    requires { ⌜ Room 2000000000 (summary rows counts t) ⌝ }
+    requires { ⌜ Room-for 192 (summary rows counts t) ⌝ }
     ensures { λ r. ⌜ Turns rows counts t (spread (places rows) (victims-in s) (take used (now (list .entry)))) r ⌝ }
 {
     let mut left = t;
@@ -88,7 +89,7 @@ fn spread_unlisted(
 ) -> Tally
     requires { ⌜ Tracks rows counts t ⌝ }
     requires { ⌜ (s .«blast_diameter» ≤ 4) × (row < 65536) × (used ≤ length (now list)) ⌝ }
-    requires { ⌜ Room 3999999000 (summary rows counts t) ⌝ }
+    requires { ⌜ Room-for 128 (summary rows counts t) ⌝ }
     ensures { λ r. ⌜ Turns rows counts t (spread (places rows) (victims-in s) (besides (take used (now (list .entry))) (row ∷ []))) r ⌝ }
 {
     if summary::is_listed(list, used, row) {
@@ -111,7 +112,7 @@ fn spread_run(
 ) -> Tally
     requires { ⌜ Tracks rows counts t ⌝ }
     requires { ⌜ (s .«blast_diameter» ≤ 4) × (used ≤ length (now list)) × (high ≤ 65536) × (high - low ≤ 64) ⌝ }
-    requires { ⌜ Room 2000000100 (summary rows counts t) ⌝ }
+    requires { ⌜ Room-for 384 (summary rows counts t) ⌝ }
     ensures { λ r. ⌜ Turns rows counts t (spread (places rows) (victims-in s) (besides (take used (now (list .entry))) (rows-between low high))) r ⌝ }
 {
     let mut left = t;
@@ -133,8 +134,8 @@ pub fn event_tables(
     list: &mut [u32],
 ) -> Picked
     requires { ⌜ Tracks rows counts t ⌝ }
-    requires { ⌜ (s .«blast_diameter» ≤ 4) × (s .rows ≤ 65536) × (s .volume ≤ 16) × (s .block ≤ 64) × (1 ≤ s .window) × (e ≤ 8192) × (s .volume ≤ length (now list)) ⌝ }
-    requires { ⌜ Room 2000000000 (summary rows counts t) × Ordered (s .rows) 0 (summary rows counts t .entries) ⌝ }
+    requires { ⌜ Ranges s e (length (now list)) ⌝ }
+    requires { ⌜ Room-for 448 (summary rows counts t) × Ordered (s .rows) 0 (summary rows counts t .entries) ⌝ }
     ensures { λ r. ⌜ Names list (s .volume) (summary (rows .entry) (counts .entry) t) (r .count) ⌝ }
     ensures { λ r. ⌜ Turns rows counts t (event (places rows) (victims-in s) (s .volume) (block-rows s e) (ends-window s e)) (r .tally) ⌝ }
 {

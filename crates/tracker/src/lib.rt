@@ -11,7 +11,7 @@ ghost use mathlib.Core.Path.{_≡_};
 ghost use mathlib.Core.Bool.{_&&_};
 ghost use Prim.Native.Nat.{_≤_};
 ghost use Rattle.device.specs.Refusal.{first-failed};
-ghost use Rattle.tracker.specs.Calls.{next-event as event-after, tables-long, set-up-tests, activation-tests, refresh-tests, agreement-tests, set-up, activate as activated, refresh as refreshed, agree as agreed};
+ghost use Rattle.tracker.specs.Calls.{next-event, tables-long, set-up-tests, activation-tests, refresh-tests, agreement-tests, set-up, activation-on, refresh-on, agreement-of};
 ghost use Rattle.tracker.specs.Answers.{lent, set-up-left, activation-left, refresh-left, agreement-outcome};
 
 // Where a tracker stands: events so far in this window, activations since the last event, tracked rows, spillover.
@@ -123,7 +123,7 @@ pub fn activate_accepted(
     row: u32,
 ) -> Position
     requires { ⌜ first-failed (activation-tests s (lent rows counts p) row) ≡ 0 ⌝ }
-    ensures { λ r. ⌜ lent (rows .exit) (counts .exit) r ≡ activated s (lent (rows .entry) (counts .entry) p) row .state ⌝ }
+    ensures { λ r. ⌜ lent (rows .exit) (counts .exit) r ≡ activation-on s (lent (rows .entry) (counts .entry) p) row .state ⌝ }
 {
     let t = Tally {
         tracked: p.tracked as usize,
@@ -147,7 +147,7 @@ pub fn activate(
     p: Position,
     row: u32,
 ) -> Activation
-    ensures { λ r. ⌜ activation-left r rows counts ≡ activated s (lent (rows .entry) (counts .entry) p) row ⌝ }
+    ensures { λ r. ⌜ activation-left r rows counts ≡ activation-on s (lent (rows .entry) (counts .entry) p) row ⌝ }
 {
     let k = activation_refusal(s, rows, counts, p, row);
     if k != 0 {
@@ -159,7 +159,7 @@ pub fn activate(
 // The events in the window after one more.
 fn next_event(s: Settings, e: u32) -> u32
     requires { ⌜ (1 ≤ s .window) × (e ≤ 8192) ⌝ }
-    ensures { λ r. ⌜ r ≡ event-after s e ⌝ }
+    ensures { λ r. ⌜ r ≡ next-event s e ⌝ }
 {
     if e == s.window - 1 { 0 } else { e + 1 }
 }
@@ -173,7 +173,7 @@ pub fn refresh_accepted(
     list: &mut [u32],
 ) -> Refreshed
     requires { ⌜ first-failed (refresh-tests s (lent rows counts p) (now list)) ≡ 0 ⌝ }
-    ensures { λ r. ⌜ refresh-left r rows counts list ≡ refreshed s (lent (rows .entry) (counts .entry) p) (now (list .entry)) ⌝ }
+    ensures { λ r. ⌜ refresh-left r rows counts list ≡ refresh-on s (lent (rows .entry) (counts .entry) p) (now (list .entry)) ⌝ }
 {
     let t = Tally {
         tracked: p.tracked as usize,
@@ -200,7 +200,7 @@ pub fn refresh(
     p: Position,
     list: &mut [u32],
 ) -> Refreshed
-    ensures { λ r. ⌜ refresh-left r rows counts list ≡ refreshed s (lent (rows .entry) (counts .entry) p) (now (list .entry)) ⌝ }
+    ensures { λ r. ⌜ refresh-left r rows counts list ≡ refresh-on s (lent (rows .entry) (counts .entry) p) (now (list .entry)) ⌝ }
 {
     let k = refresh_refusal(s, rows, counts, p, list);
     if k != 0 {
@@ -253,7 +253,7 @@ pub fn agree(
     counts2: &[u32],
     p2: Position,
 ) -> Agreement
-    ensures { λ r. ⌜ agreement-outcome r ≡ agreed s (lent (rows .entry) (counts .entry) p) s2 (lent (rows2 .entry) (counts2 .entry) p2) ⌝ }
+    ensures { λ r. ⌜ agreement-outcome r ≡ agreement-of s (lent (rows .entry) (counts .entry) p) s2 (lent (rows2 .entry) (counts2 .entry) p2) ⌝ }
 {
     let k = agreement_refusal(s, rows, counts, p, s2, rows2, counts2, p2);
     if k != 0 {
@@ -262,15 +262,13 @@ pub fn agree(
     if s.rows != s2.rows {
         return Agreement::Same(false);
     }
-    Agreement::Same(estimates::same_estimates(
-        rows,
-        counts,
-        p.tracked as usize,
-        p.spillover,
-        rows2,
-        counts2,
-        p2.tracked as usize,
-        p2.spillover,
-        s.rows,
-    ))
+    let t = Tally {
+        tracked: p.tracked as usize,
+        spillover: p.spillover,
+    };
+    let t2 = Tally {
+        tracked: p2.tracked as usize,
+        spillover: p2.spillover,
+    };
+    Agreement::Same(estimates::same_estimates(rows, counts, t, rows2, counts2, t2, s.rows))
 }

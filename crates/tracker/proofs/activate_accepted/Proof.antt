@@ -12,7 +12,7 @@ use Rattle.summary.specs.Tables.{Holds}
 use Rattle.summary.proofs.Rules.Ceiling.{room-more}
 use Rattle.summary.proofs.Stored.{tracked-few}
 use Rattle.tracker.specs.State.{summary-of, state-of}
-use Rattle.tracker.specs.Calls.{activate, kept-unless, victims-in}
+use Rattle.tracker.specs.Calls.{activation-on, kept-unless, victims-in}
 use Rattle.tracker.specs.Answers.{given}
 use Rattle.tracker.proofs.Passed.{activation-ready, ready-held, state-made, diameter-four}
 use Rattle.tracker.proofs.activate_accepted.Statement.{statement}
@@ -51,7 +51,7 @@ made-by : (s : Settings) (e a : ℕ) (sum : Summary) (at row : ℕ) {rows counts
 made-by s e a sum at row same h = state-made s e a h ∙ ap (λ x. state-of s e a (activation (s .counters) (victims-in s) x sum)) same
 
 returns : tie.Need-returns
-unfolding activate kept-unless given summary-of
+unfolding activation-on kept-unless given summary-of
 returns c =
     let a = c .before .before .before .before .before .before .before .before .before .before .before .before .before in
     let st = given (a .args .rows .now) (a .args .counts .now) (a .args .p) in

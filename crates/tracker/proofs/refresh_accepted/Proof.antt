@@ -3,6 +3,7 @@ use mathlib.Core.Path.{_≡_}
 use Prim.Native.Nat.{_≤_, _<_}
 use native.Mathlib.Omega.{arith}
 use borrow.Author.Needs.{needs}
+use Rattle.summary.proofs.Rules.Ceiling.{room-more}
 use Rattle.summary.proofs.Stored.{tracked-few}
 use Rattle.tracker.specs.State.{summary-of}
 use Rattle.tracker.specs.Answers.{refresh-call, refresh-accepts, refresh-refusal, refresh-count, refresh-position, given}
@@ -20,7 +21,7 @@ event-tables-requires c κs =
       ready-held (r .0),
       (
         (diameter-four (r .0 .settings), o .rows .most, o .volume .most, o .block .most, o .window .least, omega (arith, r .0 .facts .early, o .window .most), r .1),
-        (r .0 .facts .room, r .0 .facts .holds .sound .ordered),
+        (room-more (r .0 .facts .room) (omega arith), r .0 .facts .holds .sound .ordered),
       ),
     )
 

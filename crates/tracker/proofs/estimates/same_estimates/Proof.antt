@@ -9,11 +9,11 @@ use Rattle.tracker.proofs.estimates.same_estimates.Statement.{statement
 use Rattle.tracker.proofs.estimates.same_estimates.Tie as tie
 
 abbrev Inv-loop : tie.InvT-loop
-Inv-loop rows counts tracked spillover rows2 counts2 tracked2 spillover2 high low₀ i₀ j₀ low i j =
-    Both rows counts tracked spillover rows2 counts2 tracked2 spillover2 high low i j
+Inv-loop rows counts t rows2 counts2 t2 high low₀ i₀ j₀ low i j =
+    Both rows counts (t .tracked) (t .spillover) rows2 counts2 (t2 .tracked) (t2 .spillover) high low i j
 
 abbrev μ-loop : tie.MeasureT-loop
-μ-loop rows counts tracked spillover rows2 counts2 tracked2 spillover2 high low₀ i₀ j₀ low i j = high - low
+μ-loop rows counts t rows2 counts2 t2 high low₀ i₀ j₀ low i j = high - low
 
 loop-holds : tie.Need-loop-holds Inv-loop μ-loop
 loop-holds c = both-begun (c .before .before .before .before .pre .0) (c .before .before .before .before .pre .1)
@@ -22,27 +22,29 @@ lower-row-requires : tie.Need-lower-row-requires Inv-loop μ-loop
 lower-row-requires c κs = (c .before .loop .inv .first .rows-long, c .before .loop .inv .second .rows-long)
 
 returns : tie.Need-returns Inv-loop μ-loop
-returns c = sym (gap-differs (c .before .before .lower-row .result) (c .before .before .before .before .loop .inv) (c .before .before .lower-row .ensures) (c .before .if1 .taken) (c .if2 .taken))
+returns c =
+    let come = c .before .before .before .before in
+    sym (gap-differs (come .lower-row .result) (come .before .before .loop .inv) (come .lower-row .ensures) (c .before .before .before .if1 .taken) (c .if2 .taken))
 
 returns-2 : tie.Need-returns-2 Inv-loop μ-loop
 returns-2 c =
     let come =
     gap-passed (c .before .before .lower-row .result) (c .before .before .before .before .loop .inv) (c .before .before .lower-row .ensures)
-    (λ h. ⊎-elim (λ w. w .1 .left) (λ w. absurd (omega arith)) (c .before .if1 .came)) in
+    (λ h. ⊎-elim (λ w. w .3 .left) (λ w. absurd (omega arith)) (c .before .if1 .came)) in
     sym (rw (c .if3 .taken) at (come .same))
 
-figure-at-requires : tie.Need-figure-at-requires Inv-loop μ-loop
-figure-at-requires c κs = (c .before .before .before .before .loop .inv .first .rows-long, c .before .before .before .before .loop .inv .first .counts-long)
+estimate-at-requires : tie.Need-estimate-at-requires Inv-loop μ-loop
+estimate-at-requires c κs = (c .before .before .before .before .loop .inv .first .rows-long, c .before .before .before .before .loop .inv .first .counts-long)
 
-figure-at-requires-2 : tie.Need-figure-at-requires-2 Inv-loop μ-loop
-figure-at-requires-2 c κs = (c .before .before .before .before .before .loop .inv .second .rows-long, c .before .before .before .before .before .loop .inv .second .counts-long)
+estimate-at-requires-2 : tie.Need-estimate-at-requires-2 Inv-loop μ-loop
+estimate-at-requires-2 c κs = (c .before .before .before .before .before .loop .inv .second .rows-long, c .before .before .before .before .before .loop .inv .second .counts-long)
 
 returns-3 : tie.Need-returns-3 Inv-loop μ-loop
 returns-3 c =
     let come =
     gap-passed (c .before .before .before .before .before .lower-row .result) (c .before .before .before .before .before .before .before .loop .inv) (c .before .before .before .before .before .lower-row .ensures)
-    (λ h. ⊎-elim (λ w. w .1 .left) (λ w. absurd (omega arith)) (c .before .before .before .before .if1 .came)) in
-    sym (row-differs come (omega (arith, come .within)) (λ e. c .if4 .taken (c .before .before .figure-at .ensures ∙ e ∙ sym (c .before .figure-at2 .ensures))))
+    (λ h. ⊎-elim (λ w. w .3 .left) (λ w. absurd (omega arith)) (c .before .before .before .before .if1 .came)) in
+    sym (row-differs come (omega (arith, come .within)) (λ e. c .if4 .taken (c .before .before .estimate-at .ensures ∙ e ∙ sym (c .before .estimate-at2 .ensures))))
 
 place-after-requires : tie.Need-place-after-requires Inv-loop μ-loop
 place-after-requires c κs = c .before .before .before .before .before .before .before .loop .inv .first .rows-long
@@ -60,9 +62,9 @@ loop-again : tie.Need-loop-again Inv-loop μ-loop
 loop-again c =
     let come =
     gap-passed (c .before .before .before .before .before .before .before .lower-row .result) (c .before .before .before .before .before .before .before .before .before .loop .inv) (c .before .before .before .before .before .before .before .lower-row .ensures)
-    (λ h. ⊎-elim (λ w. w .1 .left) (λ w. absurd (omega arith)) (c .before .before .before .before .before .before .if1 .came)) in
+    (λ h. ⊎-elim (λ w. w .3 .left) (λ w. absurd (omega arith)) (c .before .before .before .before .before .before .if1 .came)) in
     rw (c .place-after2 .ensures, c .before .place-after .ensures)
-    (row-passed come (omega (arith, come .within)) (sym (c .before .before .before .before .figure-at .ensures) ∙ c .before .before .if4 .left ∙ c .before .before .before .figure-at2 .ensures))
+    (row-passed come (omega (arith, come .within)) (sym (c .before .before .before .before .estimate-at .ensures) ∙ c .before .before .if4 .left ∙ c .before .before .before .estimate-at2 .ensures))
 
 returns-4 : tie.Need-returns-4 Inv-loop μ-loop
 returns-4 c =
@@ -79,8 +81,8 @@ same-estimates-spec =
     lower-row-requires
     returns
     returns-2
-    figure-at-requires
-    figure-at-requires-2
+    estimate-at-requires
+    estimate-at-requires-2
     returns-3
     place-after-requires
     place-after-requires-2

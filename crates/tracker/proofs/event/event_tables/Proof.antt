@@ -8,6 +8,7 @@ use lib.ListN.{length, take}
 use lib.Seq.{length-take-le}
 use Rattle.device.specs.Victims.{rows-between}
 use Rattle.summary.specs.Tables.{read}
+use Rattle.summary.proofs.Rules.Ceiling.{room-more}
 use Rattle.summary.proofs.Stored.{long-rows, long-counts}
 use Rattle.summary.proofs.Moves.{held-again}
 use Rattle.tracker.specs.Calls.{victims-in, block-rows, ends-window}
@@ -42,7 +43,7 @@ spread-list-requires c κs =
       held-again (c .before .before .before .before .before .before .before .clear-if .ensures),
       (
         (p .0, omega (arith, named-few x, p .2), omega (arith, named-few x, p .6, t .kept .1 .1 .1 .1 .1 .1 .0), named-below x (a .pre .1 .1 .1) (p .1)),
-        begun-room (a .args .s .volume) (victims-in (a .args .s)) _ (ends-window (a .args .s) (a .args .e)) sum (take (t .result .count) (t .last .1 .1 .1 .1 .1 .1 .0)) (named-rows x) (t .ensures .1) (c .before .before .before .before .before .before .before .clear-if .ensures) (a .pre .1 .1 .0),
+        begun-room (a .args .s .volume) (victims-in (a .args .s)) _ (ends-window (a .args .s) (a .args .e)) sum (take (t .result .count) (t .last .1 .1 .1 .1 .1 .1 .0)) (named-rows x) (t .ensures .1) (c .before .before .before .before .before .before .before .clear-if .ensures) (room-more (a .pre .1 .1 .0) (omega arith)),
       ),
     )
 

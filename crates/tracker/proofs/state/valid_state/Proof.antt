@@ -12,12 +12,9 @@ use Rattle.device.specs.declared.Settings.{Settings}
 use Rattle.device.proofs.Accepted.{both}
 use Rattle.tracker.specs.declared.Position.{Position}
 use Rattle.tracker.specs.State.{zeros, ascending, counts-allowed, valid}
+use Rattle.tracker.specs.Contracts.{position-allowed}
 use Rattle.tracker.proofs.state.valid_state.Statement.{statement}
 use Rattle.tracker.proofs.state.valid_state.Tie as tie
-
-abbrev position-allowed : Settings → Position → Bool
-position-allowed s p =
-    ltb (p .events) (s .window) && leb (p .activations) (s .interval) && leb (p .tracked) (s .counters) && leb (p .spillover) 2000000000
 
 regroup : (x d e f g h : Bool) → (x && d && e && f && g && h) ≡ (x && h && (d && e) && (f && g))
 regroup false d e f g h = refl
