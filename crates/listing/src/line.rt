@@ -6,7 +6,6 @@ use crate::print;
 use bound::Answer;
 use device::Settings;
 use tracker::Position;
-use tracker::Refreshed;
 use tracker::SetUp;
 ghost use mathlib.Core.Path.{_≡_};
 ghost use Prim.Native.Nat.{_+_, _≤_};
@@ -14,31 +13,11 @@ ghost use lib.ListN.{length, take, replicate};
 ghost use Rattle.bound.specs.Answers.{outcome, Small};
 ghost use Rattle.trace.specs.declared.Record.the-variants.{Set};
 ghost use Rattle.tracker.specs.Calls.{set-up, activate as activated, refresh as refreshed};
-ghost use Rattle.tracker.specs.Answers.{given, set-up-call, refresh-count, refresh-position};
+ghost use Rattle.tracker.specs.Answers.{given, set-up-call};
 ghost use Rattle.limit.specs.Reachable.{Reached};
 ghost use Rattle.listing.specs.Steps.{record-step, activation-step, refresh-step};
 ghost use Rattle.listing.specs.Output.{Prints};
 ghost use Rattle.listing.specs.Carried.{memory, carried, Lists, Behind, Leaves, settings-line};
-
-// The number picked.
-fn count_of(answer: Refreshed) -> u32
-    ensures { λ r. ⌜ r ≡ refresh-count answer ⌝ }
-{
-    match answer {
-        Refreshed::Accepted(count, _) => count,
-        Refreshed::Refused(_, _) => 0,
-    }
-}
-
-// The position after an event.
-fn position_of(answer: Refreshed) -> Position
-    ensures { λ r. ⌜ r ≡ refresh-position answer ⌝ }
-{
-    match answer {
-        Refreshed::Accepted(_, p) => p,
-        Refreshed::Refused(_, p) => p,
-    }
-}
 
 // An activation line, on tables of C places.
 fn list_activation(
@@ -80,9 +59,9 @@ fn list_event(
     ensures { λ r. ⌜ Lists (refresh-step line s (p .events) (refreshed s (given (now (rows .entry)) (now (counts .entry)) p) (replicate (s .volume) 0))) s (now (rows .exit)) (now (counts .exit)) (r .position) (now (out .entry)) at (now (out .exit)) (r .end) ⌝ }
 {
     let mut list = [0; 16];
-    let answer = tracker::refresh_accepted(s, rows, counts, p, &mut list);
-    let position = position_of(answer);
-    let end = print::print_refresh(out, at, p.events, &list, count_of(answer) as usize);
+    let after = tracker::refresh_accepted(s, rows, counts, p, &mut list);
+    let position = after.position;
+    let end = print::print_refresh(out, at, p.events, &list, after.count as usize);
     Moved { position, end }
 }
 

@@ -15,6 +15,7 @@ use Rattle.tracker.specs.declared.Activation.{Activation}
 use Rattle.tracker.specs.declared.Activation.the-variants.{Accepted as Activation-accepted, Refused as Activation-refused}
 use Rattle.tracker.specs.declared.Refreshed.{Refreshed}
 use Rattle.tracker.specs.declared.Refreshed.the-variants.{Accepted as Refresh-accepted, Refused as Refresh-refused}
+use Rattle.tracker.specs.declared.AfterEvent.{AfterEvent}
 use Rattle.tracker.specs.declared.Agreement.{Agreement}
 use Rattle.tracker.specs.declared.Agreement.the-variants.{Same, Refused as Agreement-refused}
 
@@ -94,3 +95,7 @@ activation-left r rows counts = activation-call r (now (rows .exit)) (now (count
 
 abbrev pub refresh-left : Refreshed → Both Slice Slice → Both Slice Slice → Both Slice Slice → Refresh-call
 refresh-left r rows counts list = refresh-call r (now (rows .exit)) (now (counts .exit)) (now (list .exit))
+
+-- an event that no test refuses
+abbrev pub event-left : AfterEvent → Both Slice Slice → Both Slice Slice → Both Slice Slice → Refresh-call
+event-left r rows counts list = refresh-left (Refresh-accepted (r .count) (r .position)) rows counts list

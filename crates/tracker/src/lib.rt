@@ -12,7 +12,7 @@ ghost use mathlib.Core.Bool.{_&&_};
 ghost use Prim.Native.Nat.{_≤_};
 ghost use Rattle.device.specs.Refusal.{first-failed};
 ghost use Rattle.tracker.specs.Calls.{next-event, tables-long, set-up-tests, activation-tests, refresh-tests, agreement-tests, set-up, activation-on, refresh-on, agreement-of};
-ghost use Rattle.tracker.specs.Answers.{lent, set-up-left, activation-left, refresh-left, agreement-outcome};
+ghost use Rattle.tracker.specs.Answers.{lent, set-up-left, activation-left, refresh-left, event-left, agreement-outcome};
 
 // Where a tracker stands: events so far in this window, activations since the last event, tracked rows, spillover.
 pub struct Position {
@@ -38,6 +38,12 @@ pub enum Activation {
 pub enum Refreshed {
     Accepted(u32, Position),
     Refused(u32, Position),
+}
+
+// What a refresh event that is accepted leaves: the number picked and the position after it.
+pub struct AfterEvent {
+    pub count: u32,
+    pub position: Position,
 }
 
 // What agreement answers: yes or no, or the refusal.
@@ -171,9 +177,9 @@ pub fn refresh_accepted(
     counts: &mut [u32],
     p: Position,
     list: &mut [u32],
-) -> Refreshed
+) -> AfterEvent
     requires { ⌜ first-failed (refresh-tests s (lent rows counts p) (now list)) ≡ 0 ⌝ }
-    ensures { λ r. ⌜ refresh-left r rows counts list ≡ refresh-on s (lent (rows .entry) (counts .entry) p) (now (list .entry)) ⌝ }
+    ensures { λ r. ⌜ event-left r rows counts list ≡ refresh-on s (lent (rows .entry) (counts .entry) p) (now (list .entry)) ⌝ }
 {
     let t = Tally {
         tracked: p.tracked as usize,
@@ -181,15 +187,15 @@ pub fn refresh_accepted(
     };
     let picked = event::event_tables(s, rows, counts, t, p.events, list);
     let after = picked.tally;
-    Refreshed::Accepted(
-        picked.count as u32,
-        Position {
+    AfterEvent {
+        count: picked.count as u32,
+        position: Position {
             events: next_event(s, p.events),
             activations: 0,
             tracked: after.tracked as u32,
             spillover: after.spillover,
         },
-    )
+    }
 }
 
 // A refresh event; the picked rows come at the list's front.
@@ -206,7 +212,9 @@ pub fn refresh(
     if k != 0 {
         return Refreshed::Refused(k, p);
     }
-    refresh_accepted(s, rows, counts, p, list)
+    let after = refresh_accepted(s, rows, counts, p, list);
+    let position = after.position;
+    Refreshed::Accepted(after.count, position)
 }
 
 // The refusal of agreement, or 0.

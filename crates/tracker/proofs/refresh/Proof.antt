@@ -13,6 +13,11 @@ returns c =
     let k = c .before .refresh-refusal in
     refresh-refused (a .s) (given (a .rows .now) (a .counts .now) (a .p)) (a .list .now) (k .result) (k .ensures) (c .if1 .taken)
 
+returns-2 : tie.Need-returns-2
+returns-2 c =
+    let called = c .before .before .before .before .before .before .before in
+    called .refresh-accepted .ensures
+
 pub refresh-spec : {M : Type 1} → statement M
 refresh-spec =
     tie.close
@@ -26,4 +31,4 @@ refresh-spec =
     (λ c. search needs)
     (λ c. search needs)
     (λ c. search needs)
-    (λ c. c .before .before .before .before .before .before .refresh-accepted .ensures))
+    returns-2)
