@@ -1,9 +1,9 @@
 -- The calls on raw state: the refusals in document 01's order, and what each call leaves, refused or not.
 use Prim.Native.Nat.{ℕ, zero, suc, _+_, _-_, _*_, min}
-use mathlib.Core.Bool.{Bool, true, false, _&&_, cond}
+use mathlib.Core.Bool.{Bool, true, _&&_, cond}
 use mathlib.Core.List.{List, [], _∷_, _++_}
 use lib.Dec.{leb, ltb, eqb}
-use lib.ListN.{length, drop, replicate}
+use lib.ListN.{length, drop}
 use Rattle.device.specs.declared.Settings.{Settings}
 use Rattle.device.specs.Refusal.{Test, unless, first-failed, Outcome, accepted, tested}
 use Rattle.device.specs.Acceptance.{settings-tests}

@@ -1,7 +1,7 @@
 -- `tracker::activate_accepted` meets its contract.
 use mathlib.Core.Path.{_≡_, ap, _∙_}
 use mathlib.Core.List.{List}
-use Prim.Native.Nat.{ℕ, _+_, _≤_, _<_}
+use Prim.Native.Nat.{ℕ, _+_}
 use native.Mathlib.Omega.{arith}
 use borrow.Author.Needs.{needs}
 use Rattle.device.specs.declared.Settings.{Settings}
@@ -14,7 +14,8 @@ use Rattle.summary.proofs.Stored.{tracked-few}
 use Rattle.tracker.specs.State.{summary-of, state-of}
 use Rattle.tracker.specs.Calls.{activation-on, kept-unless, victims-in}
 use Rattle.tracker.specs.Answers.{given}
-use Rattle.tracker.proofs.Passed.{activation-ready, ready-held, state-made, diameter-four}
+use Rattle.tracker.proofs.States.StateOf.{state-of-holds}
+use Rattle.tracker.proofs.Calls.Ready.{activation-ready, ready-held, diameter-four}
 use Rattle.tracker.proofs.activate_accepted.Statement.{statement}
 use Rattle.tracker.proofs.activate_accepted.Tie as tie
 
@@ -48,7 +49,7 @@ cast-t15 c =
 
 -- the state that an activation leaves, by a row that is the physical one
 made-by : (s : Settings) (e a : ℕ) (sum : Summary) (at row : ℕ) {rows counts : List ℕ} {k spill : ℕ} → at ≡ physical row → Holds (s .counters) 4294967296 (activation (s .counters) (victims-in s) at sum) rows counts k spill → given rows counts (record { events = e; activations = a; tracked = k; spillover = spill }) ≡ state-of s e a (activation (s .counters) (victims-in s) (physical row) sum)
-made-by s e a sum at row same h = state-made s e a h ∙ ap (λ x. state-of s e a (activation (s .counters) (victims-in s) x sum)) same
+made-by s e a sum at row same h = state-of-holds s e a h ∙ ap (λ x. state-of s e a (activation (s .counters) (victims-in s) x sum)) same
 
 returns : tie.Need-returns
 unfolding activation-on kept-unless given summary-of

@@ -1,10 +1,11 @@
 -- `tracker::activation_refusal` meets its contract.
-use mathlib.Core.Path.{_≡_, sym, _∙_}
+use mathlib.Core.Path.{sym, _∙_}
 use borrow.Author.Needs.{needs}
 use borrow.Author.Tests.{lt-ltb, le-ltb}
 use Rattle.device.specs.Refusal.{refuse}
 use Rattle.tracker.specs.Answers.{given}
-use Rattle.tracker.proofs.Passed.{activation-tested, or-later-first, or-later-zero, open-tables}
+use Rattle.tracker.proofs.Calls.Tests.{activation-tested, or-later-first, or-later-zero}
+use Rattle.tracker.proofs.Calls.Ready.{open-tables}
 use Rattle.tracker.proofs.activation_refusal.Statement.{statement}
 use Rattle.tracker.proofs.activation_refusal.Tie as tie
 

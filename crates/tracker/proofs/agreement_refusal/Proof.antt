@@ -1,16 +1,11 @@
 -- `tracker::agreement_refusal` meets its contract.
-use mathlib.Core.Path.{_≡_, sym, _∙_}
-use mathlib.Core.Bool.{Bool, true, false, and-false}
+use mathlib.Core.Path.{sym, _∙_}
 use borrow.Author.Needs.{needs}
-use borrow.Author.Tests.{not-true, not-false, eqb-true}
-use lib.Dec.{eqb}
-use lib.ListN.{length}
+use borrow.Author.Tests.{not-true, not-false}
 use Rattle.device.specs.Refusal.{refuse}
-use Rattle.device.proofs.Accepted.{both}
 use Rattle.tracker.specs.Answers.{given}
-use Rattle.tracker.specs.Calls.{tables-long}
-use Rattle.tracker.proofs.Passed.{or-later-first, or-later-zero, tables-fit}
-use Rattle.tracker.proofs.Agreed.{agreement-tested}
+use Rattle.tracker.proofs.Calls.Tests.{or-later-first, or-later-zero, agreement-tested}
+use Rattle.tracker.proofs.Calls.Ready.{tables-long-fit}
 use Rattle.tracker.proofs.agreement_refusal.Statement.{statement}
 use Rattle.tracker.proofs.agreement_refusal.Tie as tie
 
@@ -43,7 +38,7 @@ returns-4 c =
 valid-state-requires : tie.Need-valid-state-requires
 valid-state-requires c κs =
     let a = c .before .before .before .before .before .before .before .before .before .before .before .before .args in
-    tables-fit (a .s) (a .rows .now) (a .counts .now) (sym (c .before .before .before .are-long .ensures) ∙ not-false _ (c .before .before .if3 .left))
+    tables-long-fit (a .s) (a .rows .now) (a .counts .now) (sym (c .before .before .before .are-long .ensures) ∙ not-false _ (c .before .before .if3 .left))
 
 returns-5 : tie.Need-returns-5
 unfolding given refuse
@@ -54,7 +49,7 @@ returns-5 c =
 valid-state-requires-2 : tie.Need-valid-state-requires-2
 valid-state-requires-2 c κs =
     let a = c .before .before .before .before .before .before .before .before .before .before .before .before .before .before .args in
-    tables-fit (a .s2) (a .rows2 .now) (a .counts2 .now) (sym (c .before .before .before .are-long2 .ensures) ∙ not-false _ (c .before .before .if4 .left))
+    tables-long-fit (a .s2) (a .rows2 .now) (a .counts2 .now) (sym (c .before .before .before .are-long2 .ensures) ∙ not-false _ (c .before .before .if4 .left))
 
 returns-6 : tie.Need-returns-6
 unfolding given refuse

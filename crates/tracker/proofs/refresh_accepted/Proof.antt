@@ -1,14 +1,13 @@
 -- `tracker::refresh_accepted` meets its contract.
-use mathlib.Core.Path.{_≡_}
-use Prim.Native.Nat.{_≤_, _<_}
 use native.Mathlib.Omega.{arith}
 use borrow.Author.Needs.{needs}
 use Rattle.summary.proofs.Rules.Ceiling.{room-more}
 use Rattle.summary.proofs.Stored.{tracked-few}
 use Rattle.tracker.specs.State.{summary-of}
 use Rattle.tracker.specs.Answers.{refresh-call, refresh-accepts, refresh-refusal, refresh-count, refresh-position, given}
-use Rattle.tracker.proofs.Chain.{named-few}
-use Rattle.tracker.proofs.Passed.{refresh-ready, ready-held, diameter-four, refresh-done}
+use Rattle.tracker.proofs.Calls.Ready.{refresh-ready, ready-held, diameter-four}
+use Rattle.tracker.proofs.Calls.Outcomes.{refresh-done}
+use Rattle.tracker.proofs.Steps.Event.{count-picked-le}
 use Rattle.tracker.proofs.refresh_accepted.Statement.{statement}
 use Rattle.tracker.proofs.refresh_accepted.Tie as tie
 
@@ -30,7 +29,7 @@ unfolding given
 cast-t16 c =
     let a = c .before .before .before .before .before .before .before .before .before .before .before .before .before .before .before .before in
     let r = refresh-ready (a .args .s) (given (a .args .rows .now) (a .args .counts .now) (a .args .p)) (a .args .list .now) (a .pre) in
-    omega (arith, named-few (c .before .before .before .before .before .before .before .before .event-tables .ensures .0), r .0 .settings .others .volume .most)
+    omega (arith, count-picked-le (c .before .before .before .before .before .before .before .before .event-tables .ensures .0), r .0 .settings .others .volume .most)
 
 next-event-requires : tie.Need-next-event-requires
 unfolding given

@@ -1,11 +1,12 @@
 -- `tracker::refresh_refusal` meets its contract.
-use mathlib.Core.Path.{_≡_, sym, _∙_}
+use mathlib.Core.Path.{sym, _∙_}
 use borrow.Author.Needs.{needs}
 use borrow.Author.Tests.{le-leb, lt-leb}
 use lib.ListN.{length}
 use Rattle.device.specs.Refusal.{refuse}
 use Rattle.tracker.specs.Answers.{given}
-use Rattle.tracker.proofs.Passed.{refresh-tested, or-later-first, or-later-zero, open-tables}
+use Rattle.tracker.proofs.Calls.Tests.{refresh-tested, or-later-first, or-later-zero}
+use Rattle.tracker.proofs.Calls.Ready.{open-tables}
 use Rattle.tracker.proofs.refresh_refusal.Statement.{statement}
 use Rattle.tracker.proofs.refresh_refusal.Tie as tie
 

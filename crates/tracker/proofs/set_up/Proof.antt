@@ -1,8 +1,8 @@
 -- `tracker::set_up` meets its contract.
-use mathlib.Core.Path.{_≡_, sym, _∙_}
+use mathlib.Core.Path.{sym, _∙_}
 use borrow.Author.Needs.{needs}
 use Rattle.tracker.specs.Answers.{set-up-call, set-up-outcome}
-use Rattle.tracker.proofs.Passed.{set-up-refused, set-up-done}
+use Rattle.tracker.proofs.Calls.Outcomes.{set-up-refused, set-up-done}
 use Rattle.tracker.proofs.set_up.Statement.{statement}
 use Rattle.tracker.proofs.set_up.Tie as tie
 

@@ -3,19 +3,19 @@ use mathlib.Core.Path.{_∙_, sym}
 use native.Mathlib.Omega.{arith}
 use borrow.Author.Needs.{needs}
 use Rattle.tracker.specs.Contracts.{estimate-at}
-use Rattle.tracker.proofs.Steps.{stands}
+use Rattle.tracker.proofs.Contracts.Walk.{at-row-tracked}
 use Rattle.tracker.proofs.estimates.estimate_at.Statement.{statement}
 use Rattle.tracker.proofs.estimates.estimate_at.Tie as tie
 
 mul-result : tie.Need-mul-result
 mul-result c =
     let a = c .before .before .before .before .args in
-    omega (arith, stands (a .rows .now) (a .t .tracked) (a .row) (a .i) (sym (c .before .at-row .ensures) ∙ c .if1 .taken) .0)
+    omega (arith, at-row-tracked (a .rows .now) (a .t .tracked) (a .row) (a .i) (sym (c .before .at-row .ensures) ∙ c .if1 .taken) .0)
 
 shared-slice-read-result : tie.Need-shared-slice-read-result
 shared-slice-read-result c =
     let a = c .before .before .before .before .before .args in
-    omega (arith, stands (a .rows .now) (a .t .tracked) (a .row) (a .i) (sym (c .before .before .at-row .ensures) ∙ c .before .if1 .taken) .0)
+    omega (arith, at-row-tracked (a .rows .now) (a .t .tracked) (a .row) (a .i) (sym (c .before .before .at-row .ensures) ∙ c .before .if1 .taken) .0)
 
 returns : tie.Need-returns
 unfolding estimate-at

@@ -4,19 +4,19 @@ use mathlib.Core.Path.{_≡_, _∙_, sym}
 use mathlib.Core.Logic.{⊎-elim}
 use Prim.Native.Nat.{_-_}
 use native.Mathlib.Omega.{arith}
-use Rattle.tracker.proofs.Both.{Both, both-begun, lower-in, gap-differs, gap-passed, row-differs, row-passed}
+use Rattle.tracker.proofs.Contracts.TwoWalks.{TwoWalks, walks-begin, lower-in-bank, gap-differs, walks-past-gap, row-differs, walks-past-row}
 use Rattle.tracker.proofs.estimates.same_estimates.Statement.{statement}
 use Rattle.tracker.proofs.estimates.same_estimates.Tie as tie
 
 abbrev Inv-loop : tie.InvT-loop
 Inv-loop rows counts t rows2 counts2 t2 high low₀ i₀ j₀ low i j =
-    Both rows counts (t .tracked) (t .spillover) rows2 counts2 (t2 .tracked) (t2 .spillover) high low i j
+    TwoWalks rows counts (t .tracked) (t .spillover) rows2 counts2 (t2 .tracked) (t2 .spillover) high low i j
 
 abbrev μ-loop : tie.MeasureT-loop
 μ-loop rows counts t rows2 counts2 t2 high low₀ i₀ j₀ low i j = high - low
 
 loop-holds : tie.Need-loop-holds Inv-loop μ-loop
-loop-holds c = both-begun (c .before .before .before .before .pre .0) (c .before .before .before .before .pre .1)
+loop-holds c = walks-begin (c .before .before .before .before .pre .0) (c .before .before .before .before .pre .1)
 
 lower-row-requires : tie.Need-lower-row-requires Inv-loop μ-loop
 lower-row-requires c κs = (c .before .loop .inv .first .rows-long, c .before .loop .inv .second .rows-long)
@@ -29,7 +29,7 @@ returns c =
 returns-2 : tie.Need-returns-2 Inv-loop μ-loop
 returns-2 c =
     let come =
-    gap-passed (c .before .before .lower-row .result) (c .before .before .before .before .loop .inv) (c .before .before .lower-row .ensures)
+    walks-past-gap (c .before .before .lower-row .result) (c .before .before .before .before .loop .inv) (c .before .before .lower-row .ensures)
     (λ h. ⊎-elim (λ w. w .3 .left) (λ w. absurd (omega arith)) (c .before .if1 .came)) in
     sym (rw (c .if3 .taken) at (come .same))
 
@@ -42,7 +42,7 @@ estimate-at-requires-2 c κs = (c .before .before .before .before .before .loop 
 returns-3 : tie.Need-returns-3 Inv-loop μ-loop
 returns-3 c =
     let come =
-    gap-passed (c .before .before .before .before .before .lower-row .result) (c .before .before .before .before .before .before .before .loop .inv) (c .before .before .before .before .before .lower-row .ensures)
+    walks-past-gap (c .before .before .before .before .before .lower-row .result) (c .before .before .before .before .before .before .before .loop .inv) (c .before .before .before .before .before .lower-row .ensures)
     (λ h. ⊎-elim (λ w. w .3 .left) (λ w. absurd (omega arith)) (c .before .before .before .before .if1 .came)) in
     sym (row-differs come (omega (arith, come .within)) (λ e. c .if4 .taken (c .before .before .estimate-at .ensures ∙ e ∙ sym (c .before .estimate-at2 .ensures))))
 
@@ -53,18 +53,18 @@ place-after-requires-2 : tie.Need-place-after-requires-2 Inv-loop μ-loop
 place-after-requires-2 c κs = c .before .before .before .before .before .before .before .before .loop .inv .second .rows-long
 
 add-low : tie.Need-add-low Inv-loop μ-loop
-add-low c = omega (arith, lower-in (c .before .before .before .before .before .before .before .lower-row .result) (c .before .before .before .before .before .before .before .before .before .loop .inv) (c .before .before .before .before .before .before .before .lower-row .ensures))
+add-low c = omega (arith, lower-in-bank (c .before .before .before .before .before .before .before .lower-row .result) (c .before .before .before .before .before .before .before .before .before .loop .inv) (c .before .before .before .before .before .before .before .lower-row .ensures))
 
 loop-less : tie.Need-loop-less Inv-loop μ-loop
-loop-less c = omega (arith, lower-in (c .before .before .before .before .before .before .before .lower-row .result) (c .before .before .before .before .before .before .before .before .before .loop .inv) (c .before .before .before .before .before .before .before .lower-row .ensures))
+loop-less c = omega (arith, lower-in-bank (c .before .before .before .before .before .before .before .lower-row .result) (c .before .before .before .before .before .before .before .before .before .loop .inv) (c .before .before .before .before .before .before .before .lower-row .ensures))
 
 loop-again : tie.Need-loop-again Inv-loop μ-loop
 loop-again c =
     let come =
-    gap-passed (c .before .before .before .before .before .before .before .lower-row .result) (c .before .before .before .before .before .before .before .before .before .loop .inv) (c .before .before .before .before .before .before .before .lower-row .ensures)
+    walks-past-gap (c .before .before .before .before .before .before .before .lower-row .result) (c .before .before .before .before .before .before .before .before .before .loop .inv) (c .before .before .before .before .before .before .before .lower-row .ensures)
     (λ h. ⊎-elim (λ w. w .3 .left) (λ w. absurd (omega arith)) (c .before .before .before .before .before .before .if1 .came)) in
     rw (c .place-after2 .ensures, c .before .place-after .ensures)
-    (row-passed come (omega (arith, come .within)) (sym (c .before .before .before .before .estimate-at .ensures) ∙ c .before .before .if4 .left ∙ c .before .before .before .estimate-at2 .ensures))
+    (walks-past-row come (omega (arith, come .within)) (sym (c .before .before .before .before .estimate-at .ensures) ∙ c .before .before .if4 .left ∙ c .before .before .before .estimate-at2 .ensures))
 
 returns-4 : tie.Need-returns-4 Inv-loop μ-loop
 returns-4 c =

@@ -1,12 +1,11 @@
 -- `tracker::event::clear_if` meets its contract.
-use mathlib.Core.Path.{_≡_, _∙_, ap}
-use mathlib.Core.List.{List}
+use mathlib.Core.Path.{_∙_, ap}
 use Prim.Native.Nat.{ℕ}
 use borrow.Author.Needs.{needs}
 use lib.ListN.{length, replicate}
 use Rattle.summary.specs.Steps.{cleared-if}
 use Rattle.summary.proofs.Stored.{long-counts}
-use Rattle.tracker.proofs.Spread.{holds-empty}
+use Rattle.tracker.proofs.Steps.Event.{holds-empty}
 use Rattle.tracker.proofs.event.clear_if.Statement.{statement}
 use Rattle.tracker.proofs.event.clear_if.Tie as tie
 

@@ -1,10 +1,10 @@
 -- `tracker::event::event_tables` meets its contract: its steps, one after the other, are the event.
-use mathlib.Core.Path.{_≡_, sym, _∙_}
-use Prim.Native.Nat.{_+_, _*_, _≤_, _<_, min}
+use mathlib.Core.Path.{sym, _∙_}
+use Prim.Native.Nat.{_*_}
 use native.Mathlib.Nat.{mul-le-mul}
 use native.Mathlib.Omega.{arith}
 use borrow.Author.Needs.{needs}
-use lib.ListN.{length, take}
+use lib.ListN.{take}
 use lib.Seq.{length-take-le}
 use Rattle.device.specs.Victims.{rows-between}
 use Rattle.summary.specs.Tables.{read}
@@ -12,8 +12,8 @@ use Rattle.summary.proofs.Rules.Ceiling.{room-more}
 use Rattle.summary.proofs.Stored.{long-rows, long-counts}
 use Rattle.summary.proofs.Moves.{held-again}
 use Rattle.tracker.specs.Calls.{victims-in, block-rows, ends-window}
-use Rattle.tracker.proofs.Spread.{victims-four}
-use Rattle.tracker.proofs.Chain.{named-rows, named-few, named-below, begun-room, spread-room, event-done}
+use Rattle.tracker.proofs.Calls.VictimsIn.{victims-four}
+use Rattle.tracker.proofs.Steps.Event.{take-picked, count-picked-le, take-picked-below, room-cleared-read, room-spread-read, holds-event}
 use Rattle.tracker.proofs.event.event_tables.Statement.{statement}
 use Rattle.tracker.proofs.event.event_tables.Tie as tie
 
@@ -42,8 +42,8 @@ spread-list-requires c κs =
     let x = t .ensures .0 in (
       held-again (c .before .before .before .before .before .before .before .clear-if .ensures),
       (
-        (p .0, omega (arith, named-few x, p .2), omega (arith, named-few x, p .6, t .kept .1 .1 .1 .1 .1 .1 .0), named-below x (a .pre .1 .1 .1) (p .1)),
-        begun-room (a .args .s .volume) (victims-in (a .args .s)) _ (ends-window (a .args .s) (a .args .e)) sum (take (t .result .count) (t .last .1 .1 .1 .1 .1 .1 .0)) (named-rows x) (t .ensures .1) (c .before .before .before .before .before .before .before .clear-if .ensures) (room-more (a .pre .1 .1 .0) (omega arith)),
+        (p .0, omega (arith, count-picked-le x, p .2), omega (arith, count-picked-le x, p .6, t .kept .1 .1 .1 .1 .1 .1 .0), take-picked-below x (a .pre .1 .1 .1) (p .1)),
+        room-cleared-read (a .args .s .volume) (victims-in (a .args .s)) _ (ends-window (a .args .s) (a .args .e)) sum (take (t .result .count) (t .last .1 .1 .1 .1 .1 .1 .0)) (take-picked x) (t .ensures .1) (c .before .before .before .before .before .before .before .clear-if .ensures) (room-more (a .pre .1 .1 .0) (omega arith)),
       ),
     )
 
@@ -60,8 +60,8 @@ spread-run-requires c κs =
     let long = t .kept .1 .1 .1 .1 .1 .1 .0 in (
       held-again (c .before .before .before .before .before .before .before .spread-list .ensures),
       (
-        (p .0, omega (arith, named-few x, p .6, long), omega (arith, high, p .1), omega (arith, high, p .3)),
-        spread-room (a .args .s .volume) (victims-in (a .args .s)) (rows-between (a .args .e * a .args .s .block) (c .before .before .before .before .before .before .before .before .before .before .before .before .before .before .before .before .before .before .before .before .before .before .before .before .before .before .before .before .before .before .smaller .result)) (ends-window (a .args .s) (a .args .e)) sum names (named-rows x) (t .ensures .1) (c .before .before .before .before .before .before .before .before .before .before .before .before .before .before .before .clear-if .ensures) (c .before .before .before .before .before .before .before .spread-list .ensures) (λ row. victims-four (a .args .s) row (p .0)) (omega (arith, length-take-le (t .result .count) (t .last .1 .1 .1 .1 .1 .1 .0) (omega (arith, named-few x, p .6, long)), named-few x, p .2)) (a .pre .1 .1 .0),
+        (p .0, omega (arith, count-picked-le x, p .6, long), omega (arith, high, p .1), omega (arith, high, p .3)),
+        room-spread-read (a .args .s .volume) (victims-in (a .args .s)) (rows-between (a .args .e * a .args .s .block) (c .before .before .before .before .before .before .before .before .before .before .before .before .before .before .before .before .before .before .before .before .before .before .before .before .before .before .before .before .before .before .smaller .result)) (ends-window (a .args .s) (a .args .e)) sum names (take-picked x) (t .ensures .1) (c .before .before .before .before .before .before .before .before .before .before .before .before .before .before .before .clear-if .ensures) (c .before .before .before .before .before .before .before .spread-list .ensures) (λ row. victims-four (a .args .s) row (p .0)) (omega (arith, length-take-le (t .result .count) (t .last .1 .1 .1 .1 .1 .1 .0) (omega (arith, count-picked-le x, p .6, long)), count-picked-le x, p .2)) (a .pre .1 .1 .0),
       ),
     )
 
@@ -75,7 +75,7 @@ returns c =
     let x = t .ensures .0 in (
       x,
       rw (← c .before .before .before .before .before .before .before .before .before .before .before .before .before .before .before .before .before .before .before .before .before .before .before .before .before .before .before .before .before .before .before .before .before .before .before .smaller .ensures)
-          (event-done (a .args .s .volume) (victims-in (a .args .s)) (rows-between (a .args .e * a .args .s .block) (c .before .before .before .before .before .before .before .before .before .before .before .before .before .before .before .before .before .before .before .before .before .before .before .before .before .before .before .before .before .before .before .before .before .before .before .smaller .result)) (ends-window (a .args .s) (a .args .e)) sum names (named-rows x) (t .ensures .1) (c .before .before .before .before .before .before .before .before .before .before .before .before .before .before .before .before .before .before .before .before .clear-if .ensures) (c .before .before .before .before .before .before .before .before .before .before .before .before .spread-list .ensures) (c .before .before .before .before .spread-run .ensures)),
+          (holds-event (a .args .s .volume) (victims-in (a .args .s)) (rows-between (a .args .e * a .args .s .block) (c .before .before .before .before .before .before .before .before .before .before .before .before .before .before .before .before .before .before .before .before .before .before .before .before .before .before .before .before .before .before .before .before .before .before .before .smaller .result)) (ends-window (a .args .s) (a .args .e)) sum names (take-picked x) (t .ensures .1) (c .before .before .before .before .before .before .before .before .before .before .before .before .before .before .before .before .before .before .before .before .clear-if .ensures) (c .before .before .before .before .before .before .before .before .before .before .before .before .spread-list .ensures) (c .before .before .before .before .spread-run .ensures)),
     )
 
 same-length : tie.Need-same-length

@@ -1,6 +1,6 @@
 -- `tracker::event::spread_list` meets its contract. The invariant: the rows left, on the summary as it is now.
-use mathlib.Core.Path.{_≡_, refl, sym, _∙_}
-use Prim.Native.Nat.{_+_, _-_, _*_, _≤_, _<_}
+use mathlib.Core.Path.{refl, sym, _∙_}
+use Prim.Native.Nat.{_+_, _-_, _*_, _≤_}
 use native.Mathlib.Numerals.{add-one}
 use native.Mathlib.Omega.{arith}
 use lib.ListN.{length, getD, take, drop}
@@ -10,7 +10,8 @@ use Rattle.summary.proofs.Columns.{used-step, used-none}
 use Rattle.summary.proofs.Rules.Ceiling.{room-more}
 use Rattle.summary.proofs.Stored.{long-rows, long-counts}
 use Rattle.tracker.specs.Calls.{victims-in}
-use Rattle.tracker.proofs.Spread.{Spreading, spreading-ready, spreading-again, spreading-done, spreading-more, victims-four, below-at}
+use Rattle.tracker.proofs.Calls.VictimsIn.{victims-four}
+use Rattle.tracker.proofs.Steps.Spread.{Spreading, spreading-ready, spreading-again, spreading-done, spreading-more, below-at}
 use Rattle.tracker.proofs.event.spread_list.Statement.{statement}
 use Rattle.tracker.proofs.event.spread_list.Tie as tie
 

@@ -1,7 +1,6 @@
 -- `tracker::event::spread_run` meets its contract. The invariant: the rows left, on the summary as it is now.
-use mathlib.Core.Path.{_≡_, refl, sym, _∙_}
-use mathlib.Core.List.{[], _∷_}
-use Prim.Native.Nat.{_+_, _-_, _*_, _≤_, _<_}
+use mathlib.Core.Path.{refl, sym, _∙_}
+use Prim.Native.Nat.{_+_, _-_, _*_, _≤_}
 use native.Mathlib.Omega.{arith}
 use lib.ListN.{length, take}
 use Rattle.device.specs.Victims.{rows-between}
@@ -11,7 +10,8 @@ use Rattle.summary.specs.Tables.{read}
 use Rattle.summary.proofs.Rules.Ceiling.{room-more}
 use Rattle.summary.proofs.Stored.{long-rows, long-counts}
 use Rattle.tracker.specs.Calls.{victims-in}
-use Rattle.tracker.proofs.Spread.{Spreading, spreading-ready, spreading-beside, spreading-done, spreading-more, victims-four}
+use Rattle.tracker.proofs.Calls.VictimsIn.{victims-four}
+use Rattle.tracker.proofs.Steps.Spread.{Spreading, spreading-ready, spreading-beside, spreading-done, spreading-more}
 use Rattle.tracker.proofs.event.spread_run.Statement.{statement}
 use Rattle.tracker.proofs.event.spread_run.Tie as tie
 

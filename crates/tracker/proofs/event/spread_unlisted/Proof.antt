@@ -1,5 +1,5 @@
 -- `tracker::event::spread_unlisted` meets its contract.
-use mathlib.Core.Path.{_≡_, sym, _∙_}
+use mathlib.Core.Path.{sym, _∙_}
 use borrow.Author.Needs.{needs}
 use Rattle.summary.specs.Steps.{spread, besides}
 use Rattle.tracker.proofs.event.spread_unlisted.Statement.{statement}

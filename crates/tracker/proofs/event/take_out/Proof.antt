@@ -1,12 +1,11 @@
 -- `tracker::event::take_out` meets its contract.
-use mathlib.Core.Path.{_≡_}
 use borrow.Author.Needs.{needs}
 use Rattle.device.specs.Victims.{rows-between}
 use Rattle.summary.specs.Tables.{read}
 use Rattle.summary.proofs.Laid.{held-read}
 use Rattle.summary.proofs.Stored.{long-rows}
 use Rattle.summary.proofs.Moves.{held-again}
-use Rattle.tracker.proofs.Spread.{taken-out-split}
+use Rattle.tracker.proofs.Steps.Event.{taken-out-split}
 use Rattle.tracker.proofs.event.take_out.Statement.{statement}
 use Rattle.tracker.proofs.event.take_out.Tie as tie
 

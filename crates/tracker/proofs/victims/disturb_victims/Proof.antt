@@ -1,6 +1,4 @@
 -- `tracker::victims::disturb_victims` meets its contract: the rows below the row, then those above it.
-use mathlib.Core.Path.{_≡_}
-use Prim.Native.Nat.{_-_, _/_, _≤_, _<_}
 use native.Mathlib.Omega.{arith}
 use borrow.Author.Needs.{needs}
 use lib.ListN.{length}
@@ -9,7 +7,7 @@ use Rattle.summary.proofs.Laid.{held-read}
 use Rattle.summary.proofs.Rules.Ceiling.{room-more}
 use Rattle.summary.proofs.Stored.{long-rows}
 use Rattle.summary.proofs.Moves.{held-again}
-use Rattle.tracker.proofs.Spread.{room-between, victims-split}
+use Rattle.tracker.proofs.Calls.VictimsIn.{room-between, victims-split}
 use Rattle.tracker.proofs.victims.disturb_victims.Statement.{statement}
 use Rattle.tracker.proofs.victims.disturb_victims.Tie as tie
 

@@ -1,4 +1,4 @@
--- From the tests of a valid state to facts: its tables hold the summary that is read from them, and it is the state that holds it.
+-- `valid`: from the tests of a valid state to facts. Its tables hold the summary that is read from them.
 use mathlib.Core.Path.{_≡_, refl, ap, _∙_, sym}
 use mathlib.Core.Bool.{true, _&&_}
 use mathlib.Core.List.{List, [], _∷_, _++_}
@@ -36,20 +36,20 @@ length-read : (k : ℕ) (rows counts : List ℕ) → k ≤ length rows → k ≤
 length-read k rows counts h h′ =
     sym (length-rows (entries-of k rows counts)) ∙ ap length (rows-read k rows counts h h′) ∙ length-take-le k rows h
 
-all-zeros : (t : List ℕ) → zeros t ≡ true → t ≡ replicate (length t) 0
+zeros-are : (t : List ℕ) → zeros t ≡ true → t ≡ replicate (length t) 0
 unfolding zeros
-all-zeros [] e = refl
-all-zeros (x ∷ xs) e =
+zeros-are [] e = refl
+zeros-are (x ∷ xs) e =
     let parts = both (eqb x 0) (zeros xs) e in
-    cc (eqb-true x 0 (parts .0), all-zeros xs (parts .1))
+    cc (eqb-true x 0 (parts .0), zeros-are xs (parts .1))
 
 -- a table with only zeros behind its front
-laid : (places k : ℕ) (t : List ℕ) → length t ≡ places → k ≤ places → zeros (drop k t) ≡ true → t ≡ table places (take k t)
+table-front : (places k : ℕ) (t : List ℕ) → length t ≡ places → k ≤ places → zeros (drop k t) ≡ true → t ≡ table places (take k t)
 unfolding table
-laid places k t long h e =
+table-front places k t long h e =
     let fits : k ≤ length t = omega arith in
     let left : length (drop k t) ≡ places - length (take k t) = omega (arith, length-drop k t, length-take-le k t fits) in
-    sym (take-append-drop k t) ∙ ap (λ (behind : List ℕ). take k t ++ behind) (all-zeros (drop k t) e ∙ ap (λ (n : ℕ). replicate n 0) left)
+    sym (take-append-drop k t) ∙ ap (λ (behind : List ℕ). take k t ++ behind) (zeros-are (drop k t) e ∙ ap (λ (n : ℕ). replicate n 0) left)
 
 -- the rules of the entries that are read
 ordered-read : (high low k : ℕ) (rows counts : List ℕ) → ascending low high (take k rows) ≡ true → Ordered high low (entries-of k rows counts)
@@ -115,8 +115,8 @@ valid-facts s st long e =
       early = ltb-true (st .position .events) (s .window) (p1 .0);
       within = leb-true (st .position .activations) (s .interval) (p1 .1);
       holds = record {
-        rows-laid = rw (rows-read k (st .rows) (st .counts) in-rows in-counts) (laid (s .counters) k (st .rows) rows-long fits (p4 .1));
-        counts-laid = rw (counts-read k (st .rows) (st .counts) in-rows in-counts) (laid (s .counters) k (st .counts) counts-long fits (p5 .1));
+        rows-laid = rw (rows-read k (st .rows) (st .counts) in-rows in-counts) (table-front (s .counters) k (st .rows) rows-long fits (p4 .1));
+        counts-laid = rw (counts-read k (st .rows) (st .counts) in-rows in-counts) (table-front (s .counters) k (st .counts) counts-long fits (p5 .1));
         tracked-is = sym read-length;
         spilt-is = refl;
         sound = record {
