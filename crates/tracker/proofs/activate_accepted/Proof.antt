@@ -43,9 +43,10 @@ add-t14 c =
 cast-t15 : tie.Need-cast-t15
 unfolding given
 cast-t15 c =
+    let activate-row = c .before .before .before .before .before .before .activate-row in
     let a = c .before .before .before .before .before .before .before .before .before .before .before .before .before in
     let r = activation-ready (a .args .s) (given (a .args .rows .now) (a .args .counts .now) (a .args .p)) (a .args .row) (a .pre) in
-    omega (arith, tracked-few (c .before .before .before .before .before .before .activate-row .ensures), r .0 .fitting .rows-long, r .0 .settings .counters .most)
+    omega (arith, tracked-few (activate-row .ensures), r .0 .fitting .rows-long, r .0 .settings .counters .most)
 
 -- the state that an activation leaves, by a row that is the physical one
 made-by : (s : Settings) (e a : ℕ) (sum : Summary) (at row : ℕ) {rows counts : List ℕ} {k spill : ℕ} → at ≡ physical row → Holds (s .counters) 4294967296 (activation (s .counters) (victims-in s) at sum) rows counts k spill → given rows counts (record { events = e; activations = a; tracked = k; spillover = spill }) ≡ state-of s e a (activation (s .counters) (victims-in s) (physical row) sum)
@@ -54,12 +55,13 @@ made-by s e a sum at row same h = state-of-holds s e a h ∙ ap (λ x. state-of 
 returns : tie.Need-returns
 unfolding activation-on kept-unless given summary-of
 returns c =
+    let activate-row = c .before .before .before .before .before .before .activate-row in
     let a = c .before .before .before .before .before .before .before .before .before .before .before .before .before in
     let st = given (a .args .rows .now) (a .args .counts .now) (a .args .p) in
     let r = activation-ready (a .args .s) st (a .args .row) (a .pre) in
     let f = c .before .before .before .before .before .before .before .before .before .physical-row in
     rw (a .pre)
-    (made-by (a .args .s) (a .args .p .events) (a .args .p .activations + 1) (summary-of st) (f .result) (a .args .row) (f .ensures) (rw (r .0 .fitting .rows-long) at (c .before .before .before .before .before .before .activate-row .ensures)))
+    (made-by (a .args .s) (a .args .p .events) (a .args .p .activations + 1) (summary-of st) (f .result) (a .args .row) (f .ensures) (rw (r .0 .fitting .rows-long) at (activate-row .ensures)))
 
 pub activate-accepted-spec : {M : Type 1} → statement M
 activate-accepted-spec =

@@ -25,18 +25,20 @@ returns-2 c =
 same-estimates-requires : tie.Need-same-estimates-requires
 unfolding given
 same-estimates-requires c κs =
+    let if1 = c .before .before .before .before .before .if1 in
     let a = c .before .before .before .before .before .before .before .before .before .before .before .args in
     let k = c .before .before .before .before .before .before .agreement-refusal in
-    let f = agreement-ready (a .s) (given (a .rows .now) (a .counts .now) (a .p)) (a .s2) (given (a .rows2 .now) (a .counts2 .now) (a .p2)) (sym (k .ensures) ∙ c .before .before .before .before .before .if1 .left) in
+    let f = agreement-ready (a .s) (given (a .rows .now) (a .counts .now) (a .p)) (a .s2) (given (a .rows2 .now) (a .counts2 .now) (a .p2)) (sym (k .ensures) ∙ if1 .left) in
     let same : a .s .rows ≡ a .s2 .rows = c .before .before .if2 .left in
     (holds-own-length (f .first), rw same (holds-own-length (f .second)))
 
 returns-3 : tie.Need-returns-3
 unfolding agreement-outcome given summary-of
 returns-3 c =
+    let if1 = c .before .before .before .before .before .before .if1 in
     let a = c .before .before .before .before .before .before .before .before .before .before .before .before .args in
     let k = c .before .before .before .before .before .before .before .agreement-refusal in
-    agreement-same (a .s) (given (a .rows .now) (a .counts .now) (a .p)) (a .s2) (given (a .rows2 .now) (a .counts2 .now) (a .p2)) (sym (k .ensures) ∙ c .before .before .before .before .before .before .if1 .left) (c .before .before .before .if2 .left) (c .same-estimates .ensures)
+    agreement-same (a .s) (given (a .rows .now) (a .counts .now) (a .p)) (a .s2) (given (a .rows2 .now) (a .counts2 .now) (a .p2)) (sym (k .ensures) ∙ if1 .left) (c .before .before .before .if2 .left) (c .same-estimates .ensures)
 
 pub agree-spec : {M : Type 1} → statement M
 agree-spec =

@@ -27,9 +27,10 @@ event-tables-requires c κs =
 cast-t16 : tie.Need-cast-t16
 unfolding given
 cast-t16 c =
+    let event-tables = c .before .before .before .before .before .before .before .before .event-tables in
     let a = c .before .before .before .before .before .before .before .before .before .before .before .before .before .before .before .before in
     let r = refresh-ready (a .args .s) (given (a .args .rows .now) (a .args .counts .now) (a .args .p)) (a .args .list .now) (a .pre) in
-    omega (arith, count-picked-le (c .before .before .before .before .before .before .before .before .event-tables .ensures .0), r .0 .settings .others .volume .most)
+    omega (arith, count-picked-le (event-tables .ensures .0), r .0 .settings .others .volume .most)
 
 next-event-requires : tie.Need-next-event-requires
 unfolding given
@@ -42,15 +43,17 @@ next-event-requires c κs =
 cast-t18 : tie.Need-cast-t18
 unfolding given
 cast-t18 c =
+    let event-tables = c .before .before .before .before .before .before .before .before .before .before .event-tables in
     let a = c .before .before .before .before .before .before .before .before .before .before .before .before .before .before .before .before .before .before in
     let r = refresh-ready (a .args .s) (given (a .args .rows .now) (a .args .counts .now) (a .args .p)) (a .args .list .now) (a .pre) in
-    omega (arith, tracked-few (c .before .before .before .before .before .before .before .before .before .before .event-tables .ensures .1), r .0 .fitting .rows-long, r .0 .settings .counters .most)
+    omega (arith, tracked-few (event-tables .ensures .1), r .0 .fitting .rows-long, r .0 .settings .counters .most)
 
 returns : tie.Need-returns
 unfolding refresh-call refresh-accepts refresh-refusal refresh-count refresh-position given summary-of
 returns c =
+    let event-tables = c .before .before .before .before .before .before .before .before .before .before .event-tables in
     let a = c .before .before .before .before .before .before .before .before .before .before .before .before .before .before .before .before .before .before in
-    refresh-done (a .args .s) (given (a .args .rows .now) (a .args .counts .now) (a .args .p)) (a .args .list .now) (a .pre) (c .before .before .before .before .before .before .before .before .before .before .event-tables .ensures .0) (c .before .before .before .before .before .before .before .before .before .before .event-tables .ensures .1) (c .before .next-event .ensures)
+    refresh-done (a .args .s) (given (a .args .rows .now) (a .args .counts .now) (a .args .p)) (a .args .list .now) (a .pre) (event-tables .ensures .0) (event-tables .ensures .1) (c .before .next-event .ensures)
 
 pub refresh-accepted-spec : {M : Type 1} → statement M
 refresh-accepted-spec =

@@ -37,38 +37,56 @@ estimate-at-requires : tie.Need-estimate-at-requires Inv-loop μ-loop
 estimate-at-requires c κs = (c .before .before .before .before .loop .inv .first .rows-long, c .before .before .before .before .loop .inv .first .counts-long)
 
 estimate-at-requires-2 : tie.Need-estimate-at-requires-2 Inv-loop μ-loop
-estimate-at-requires-2 c κs = (c .before .before .before .before .before .loop .inv .second .rows-long, c .before .before .before .before .before .loop .inv .second .counts-long)
+estimate-at-requires-2 c κs =
+    let turn = c .before .before .before .before .before .loop in
+    (turn .inv .second .rows-long, turn .inv .second .counts-long)
 
 returns-3 : tie.Need-returns-3 Inv-loop μ-loop
 returns-3 c =
+    let turn = c .before .before .before .before .before .before .before .loop in
+    let lower-row = c .before .before .before .before .before .lower-row in
     let come =
-    walks-past-gap (c .before .before .before .before .before .lower-row .result) (c .before .before .before .before .before .before .before .loop .inv) (c .before .before .before .before .before .lower-row .ensures)
+    walks-past-gap (lower-row .result) (turn .inv) (lower-row .ensures)
     (λ h. ⊎-elim (λ w. w .3 .left) (λ w. absurd (omega arith)) (c .before .before .before .before .if1 .came)) in
     sym (row-differs come (omega (arith, come .within)) (λ e. c .if4 .taken (c .before .before .estimate-at .ensures ∙ e ∙ sym (c .before .estimate-at2 .ensures))))
 
 place-after-requires : tie.Need-place-after-requires Inv-loop μ-loop
-place-after-requires c κs = c .before .before .before .before .before .before .before .loop .inv .first .rows-long
+place-after-requires c κs =
+    let turn = c .before .before .before .before .before .before .before .loop in
+    turn .inv .first .rows-long
 
 place-after-requires-2 : tie.Need-place-after-requires-2 Inv-loop μ-loop
-place-after-requires-2 c κs = c .before .before .before .before .before .before .before .before .loop .inv .second .rows-long
+place-after-requires-2 c κs =
+    let turn = c .before .before .before .before .before .before .before .before .loop in
+    turn .inv .second .rows-long
 
 add-low : tie.Need-add-low Inv-loop μ-loop
-add-low c = omega (arith, lower-in-bank (c .before .before .before .before .before .before .before .lower-row .result) (c .before .before .before .before .before .before .before .before .before .loop .inv) (c .before .before .before .before .before .before .before .lower-row .ensures))
+add-low c =
+    let turn = c .before .before .before .before .before .before .before .before .before .loop in
+    let lower-row = c .before .before .before .before .before .before .before .lower-row in
+    omega (arith, lower-in-bank (lower-row .result) (turn .inv) (lower-row .ensures))
 
 loop-less : tie.Need-loop-less Inv-loop μ-loop
-loop-less c = omega (arith, lower-in-bank (c .before .before .before .before .before .before .before .lower-row .result) (c .before .before .before .before .before .before .before .before .before .loop .inv) (c .before .before .before .before .before .before .before .lower-row .ensures))
+loop-less c =
+    let turn = c .before .before .before .before .before .before .before .before .before .loop in
+    let lower-row = c .before .before .before .before .before .before .before .lower-row in
+    omega (arith, lower-in-bank (lower-row .result) (turn .inv) (lower-row .ensures))
 
 loop-again : tie.Need-loop-again Inv-loop μ-loop
 loop-again c =
+    let turn = c .before .before .before .before .before .before .before .before .before .loop in
+    let lower-row = c .before .before .before .before .before .before .before .lower-row in
+    let if1 = c .before .before .before .before .before .before .if1 in
     let come =
-    walks-past-gap (c .before .before .before .before .before .before .before .lower-row .result) (c .before .before .before .before .before .before .before .before .before .loop .inv) (c .before .before .before .before .before .before .before .lower-row .ensures)
-    (λ h. ⊎-elim (λ w. w .3 .left) (λ w. absurd (omega arith)) (c .before .before .before .before .before .before .if1 .came)) in
+    walks-past-gap (lower-row .result) (turn .inv) (lower-row .ensures)
+    (λ h. ⊎-elim (λ w. w .3 .left) (λ w. absurd (omega arith)) (if1 .came)) in
     rw (c .place-after2 .ensures, c .before .place-after .ensures)
     (walks-past-row come (omega (arith, come .within)) (sym (c .before .before .before .before .estimate-at .ensures) ∙ c .before .before .if4 .left ∙ c .before .before .before .estimate-at2 .ensures))
 
 returns-4 : tie.Need-returns-4 Inv-loop μ-loop
 returns-4 c =
-    let end : c .before .loop .low ≡ c .before .before .before .before .before .before .args .high = omega (arith, c .before .loop .inv .within) in
+    let start = c .before .before .before .before .before .before in
+    let end : c .before .loop .low ≡ start .args .high = omega (arith, c .before .loop .inv .within) in
     sym (rw end at (c .before .loop .inv .same))
 
 pub same-estimates-spec : {M : Type 1} → statement M

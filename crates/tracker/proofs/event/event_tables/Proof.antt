@@ -27,29 +27,37 @@ take-out-requires : tie.Need-take-out-requires
 take-out-requires c κs = let a = c .before .before .before .before .before .before .before .before .before in (a .pre .0, a .pre .1 .0 .6)
 
 sub-clear-if : tie.Need-sub-clear-if
-sub-clear-if c = c .before .before .before .before .before .before .before .before .before .before .before .before .before .before .before .before .before .before .pre .1 .0 .4
+sub-clear-if c =
+    let start = c .before .before .before .before .before .before .before .before .before .before .before .before .before .before .before .before .before .before in
+    start .pre .1 .0 .4
 
 clear-if-requires : tie.Need-clear-if-requires
-clear-if-requires c κs = held-again (c .before .before .before .before .before .before .before .before .before .before .take-out .ensures .1)
+clear-if-requires c κs =
+    let take-out = c .before .before .before .before .before .before .before .before .before .before .take-out in
+    held-again (take-out .ensures .1)
 
 spread-list-requires : tie.Need-spread-list-requires
 unfolding ends-window
 spread-list-requires c κs =
+    let clear-if = c .before .before .before .before .before .before .before .clear-if in
     let a = c .before .before .before .before .before .before .before .before .before .before .before .before .before .before .before .before .before .before .before .before .before .before .before .before .before .before .before .before in
     let p = a .pre .1 .0 in
     let t = c .before .before .before .before .before .before .before .before .before .before .before .before .before .before .before .before .before .before .take-out in
     let sum = read (a .args .rows .now) (a .args .counts .now) (a .args .t .tracked) (a .args .t .spillover) in
     let x = t .ensures .0 in (
-      held-again (c .before .before .before .before .before .before .before .clear-if .ensures),
+      held-again (clear-if .ensures),
       (
         (p .0, omega (arith, count-picked-le x, p .2), omega (arith, count-picked-le x, p .6, t .kept .1 .1 .1 .1 .1 .1 .0), take-picked-below x (a .pre .1 .1 .1) (p .1)),
-        room-cleared-read (a .args .s .volume) (victims-in (a .args .s)) _ (ends-window (a .args .s) (a .args .e)) sum (take (t .result .count) (t .last .1 .1 .1 .1 .1 .1 .0)) (take-picked x) (t .ensures .1) (c .before .before .before .before .before .before .before .clear-if .ensures) (room-more (a .pre .1 .1 .0) (omega arith)),
+        room-cleared-read (a .args .s .volume) (victims-in (a .args .s)) _ (ends-window (a .args .s) (a .args .e)) sum (take (t .result .count) (t .last .1 .1 .1 .1 .1 .1 .0)) (take-picked x) (t .ensures .1) (clear-if .ensures) (room-more (a .pre .1 .1 .0) (omega arith)),
       ),
     )
 
 spread-run-requires : tie.Need-spread-run-requires
 unfolding ends-window
 spread-run-requires c κs =
+    let smaller = c .before .before .before .before .before .before .before .before .before .before .before .before .before .before .before .before .before .before .before .before .before .before .before .before .before .before .before .before .before .before .smaller in
+    let clear-if = c .before .before .before .before .before .before .before .before .before .before .before .before .before .before .before .clear-if in
+    let spread-list = c .before .before .before .before .before .before .before .spread-list in
     let a = c .before .before .before .before .before .before .before .before .before .before .before .before .before .before .before .before .before .before .before .before .before .before .before .before .before .before .before .before .before .before .before .before .before .before .before .before in
     let p = a .pre .1 .0 in
     let t = c .before .before .before .before .before .before .before .before .before .before .before .before .before .before .before .before .before .before .before .before .before .before .before .before .before .before .take-out in
@@ -58,34 +66,41 @@ spread-run-requires c κs =
     let x = t .ensures .0 in
     let high = c .before .before .before .before .before .before .before .before .before .before .before .before .before .before .before .before .before .before .before .before .before .before .before .before .before .before .before .before .before .before .smaller .ensures in
     let long = t .kept .1 .1 .1 .1 .1 .1 .0 in (
-      held-again (c .before .before .before .before .before .before .before .spread-list .ensures),
+      held-again (spread-list .ensures),
       (
         (p .0, omega (arith, count-picked-le x, p .6, long), omega (arith, high, p .1), omega (arith, high, p .3)),
-        room-spread-read (a .args .s .volume) (victims-in (a .args .s)) (rows-between (a .args .e * a .args .s .block) (c .before .before .before .before .before .before .before .before .before .before .before .before .before .before .before .before .before .before .before .before .before .before .before .before .before .before .before .before .before .before .smaller .result)) (ends-window (a .args .s) (a .args .e)) sum names (take-picked x) (t .ensures .1) (c .before .before .before .before .before .before .before .before .before .before .before .before .before .before .before .clear-if .ensures) (c .before .before .before .before .before .before .before .spread-list .ensures) (λ row. victims-four (a .args .s) row (p .0)) (omega (arith, length-take-le (t .result .count) (t .last .1 .1 .1 .1 .1 .1 .0) (omega (arith, count-picked-le x, p .6, long)), count-picked-le x, p .2)) (a .pre .1 .1 .0),
+        room-spread-read (a .args .s .volume) (victims-in (a .args .s)) (rows-between (a .args .e * a .args .s .block) (smaller .result)) (ends-window (a .args .s) (a .args .e)) sum names (take-picked x) (t .ensures .1) (clear-if .ensures) (spread-list .ensures) (λ row. victims-four (a .args .s) row (p .0)) (omega (arith, length-take-le (t .result .count) (t .last .1 .1 .1 .1 .1 .1 .0) (omega (arith, count-picked-le x, p .6, long)), count-picked-le x, p .2)) (a .pre .1 .1 .0),
       ),
     )
 
 returns : tie.Need-returns
 unfolding block-rows ends-window
 returns c =
+    let smaller = c .before .before .before .before .before .before .before .before .before .before .before .before .before .before .before .before .before .before .before .before .before .before .before .before .before .before .before .before .before .before .before .before .before .before .before .smaller in
+    let clear-if = c .before .before .before .before .before .before .before .before .before .before .before .before .before .before .before .before .before .before .before .before .clear-if in
+    let spread-list = c .before .before .before .before .before .before .before .before .before .before .before .before .spread-list in
     let a = c .before .before .before .before .before .before .before .before .before .before .before .before .before .before .before .before .before .before .before .before .before .before .before .before .before .before .before .before .before .before .before .before .before .before .before .before .before .before .before .before .before in
     let t = c .before .before .before .before .before .before .before .before .before .before .before .before .before .before .before .before .before .before .before .before .before .before .before .before .before .before .before .before .before .before .before .take-out in
     let names = take (t .result .count) (t .last .1 .1 .1 .1 .1 .1 .0) in
     let sum = read (a .args .rows .now) (a .args .counts .now) (a .args .t .tracked) (a .args .t .spillover) in
     let x = t .ensures .0 in (
       x,
-      rw (← c .before .before .before .before .before .before .before .before .before .before .before .before .before .before .before .before .before .before .before .before .before .before .before .before .before .before .before .before .before .before .before .before .before .before .before .smaller .ensures)
-          (holds-event (a .args .s .volume) (victims-in (a .args .s)) (rows-between (a .args .e * a .args .s .block) (c .before .before .before .before .before .before .before .before .before .before .before .before .before .before .before .before .before .before .before .before .before .before .before .before .before .before .before .before .before .before .before .before .before .before .before .smaller .result)) (ends-window (a .args .s) (a .args .e)) sum names (take-picked x) (t .ensures .1) (c .before .before .before .before .before .before .before .before .before .before .before .before .before .before .before .before .before .before .before .before .clear-if .ensures) (c .before .before .before .before .before .before .before .before .before .before .before .before .spread-list .ensures) (c .before .before .before .before .spread-run .ensures)),
+      rw (← smaller .ensures)
+          (holds-event (a .args .s .volume) (victims-in (a .args .s)) (rows-between (a .args .e * a .args .s .block) (smaller .result)) (ends-window (a .args .s) (a .args .e)) sum names (take-picked x) (t .ensures .1) (clear-if .ensures) (spread-list .ensures) (c .before .before .before .before .spread-run .ensures)),
     )
 
 same-length : tie.Need-same-length
 same-length c = long-rows (returns c .1)
 
 same-length-2 : tie.Need-same-length-2
-same-length-2 c = long-counts (returns c .1) ∙ sym (long-counts (c .before .before .before .before .before .before .before .before .before .before .before .before .before .before .before .before .before .before .before .before .before .before .before .before .before .before .before .before .before .before .before .before .before .before .before .before .before .before .before .before .before .pre .0))
+same-length-2 c =
+    let start = c .before .before .before .before .before .before .before .before .before .before .before .before .before .before .before .before .before .before .before .before .before .before .before .before .before .before .before .before .before .before .before .before .before .before .before .before .before .before .before .before .before in
+    long-counts (returns c .1) ∙ sym (long-counts (start .pre .0))
 
 same-length-3 : tie.Need-same-length-3
-same-length-3 c = c .before .before .before .before .before .before .before .before .before .before .before .before .before .before .before .before .before .before .before .before .before .before .before .before .before .before .before .before .before .before .before .take-out .kept .1 .1 .1 .1 .1 .1 .0
+same-length-3 c =
+    let take-out = c .before .before .before .before .before .before .before .before .before .before .before .before .before .before .before .before .before .before .before .before .before .before .before .before .before .before .before .before .before .before .before .take-out in
+    take-out .kept .1 .1 .1 .1 .1 .1 .0
 
 pub event-tables-spec : {M : Type 1} → statement M
 event-tables-spec =

@@ -36,10 +36,14 @@ loop-holds c =
     )
 
 mul-disturb-victims : tie.Need-mul-disturb-victims Inv-loop μ-loop
-mul-disturb-victims c = omega (arith, c .before .before .loop-test .taken, c .before .before .before .before .before .before .before .pre .1 .0 .1)
+mul-disturb-victims c =
+    let start = c .before .before .before .before .before .before .before in
+    omega (arith, c .before .before .loop-test .taken, start .pre .1 .0 .1)
 
 shared-slice-read-disturb-victims : tie.Need-shared-slice-read-disturb-victims Inv-loop μ-loop
-shared-slice-read-disturb-victims c = omega (arith, c .before .before .before .loop-test .taken, c .before .before .before .before .before .before .before .before .pre .1 .0 .2)
+shared-slice-read-disturb-victims c =
+    let start = c .before .before .before .before .before .before .before .before in
+    omega (arith, c .before .before .before .loop-test .taken, start .pre .1 .0 .2)
 
 disturb-victims-requires : tie.Need-disturb-victims-requires Inv-loop μ-loop
 disturb-victims-requires c κs =
@@ -60,18 +64,24 @@ disturb-victims-requires c κs =
     )
 
 add-i : tie.Need-add-i Inv-loop μ-loop
-add-i c = omega (arith, c .before .before .before .before .before .before .before .before .loop-test .taken, c .before .before .before .before .before .before .before .before .before .before .before .before .before .pre .1 .0 .1)
+add-i c =
+    let start = c .before .before .before .before .before .before .before .before .before .before .before .before .before in
+    let test = c .before .before .before .before .before .before .before .before .loop-test in
+    omega (arith, test .taken, start .pre .1 .0 .1)
 
 loop-less : tie.Need-loop-less Inv-loop μ-loop
-loop-less c = omega (arith, c .before .before .before .before .before .before .before .before .loop-test .taken)
+loop-less c =
+    let test = c .before .before .before .before .before .before .before .before .loop-test in
+    omega (arith, test .taken)
 
 loop-again : tie.Need-loop-again Inv-loop μ-loop
 loop-again c =
+    let turn = c .before .before .before .before .before .before .before .before .before .loop in
     let a = c .before .before .before .before .before .before .before .before .before .before .before .before .before in
     let p = a .pre .1 .0 in
     let i = c .before .before .before .before .before .before .before .before .before .loop .i in
     let less = c .before .before .before .before .before .before .before .before .loop-test .taken in
-    let l = rw (used-step (a .args .list .now) (a .args .used) i (p .2) less) at (c .before .before .before .before .before .before .before .before .before .loop .inv .0) in (
+    let l = rw (used-step (a .args .list .now) (a .args .used) i (p .2) less) at (turn .inv .0) in (
       rw (add-one i) (spreading-more (spreading-again (getD (a .args .list .now) i 0) l (victims-four (a .args .s) (getD (a .args .list .now) i 0) (p .0)) (c .before .before .before .before .disturb-victims .ensures)) (omega arith)),
       omega (arith, less),
     )
@@ -80,7 +90,9 @@ same-length : tie.Need-same-length Inv-loop μ-loop
 same-length c = long-rows (c .before .loop .inv .0 .holds)
 
 same-length-2 : tie.Need-same-length-2 Inv-loop μ-loop
-same-length-2 c = long-counts (c .before .loop .inv .0 .holds) ∙ sym (long-counts (c .before .before .before .before .before .pre .0))
+same-length-2 c =
+    let start = c .before .before .before .before .before in
+    long-counts (c .before .loop .inv .0 .holds) ∙ sym (long-counts (start .pre .0))
 
 returns : tie.Need-returns Inv-loop μ-loop
 returns c =

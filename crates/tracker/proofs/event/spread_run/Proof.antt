@@ -43,32 +43,42 @@ spread-unlisted-requires c κs =
     (ready .0, ((p .0, omega (arith, less, p .2), p .1), ready .1))
 
 add-row : tie.Need-add-row Inv-loop μ-loop
-add-row c = omega (arith, c .before .before .before .before .before .before .before .loop-test .taken, c .before .before .before .before .before .before .before .before .before .before .before .before .pre .1 .0 .2)
+add-row c =
+    let start = c .before .before .before .before .before .before .before .before .before .before .before .before in
+    let test = c .before .before .before .before .before .before .before .loop-test in
+    omega (arith, test .taken, start .pre .1 .0 .2)
 
 loop-less : tie.Need-loop-less Inv-loop μ-loop
-loop-less c = omega (arith, c .before .before .before .before .before .before .before .loop-test .taken)
+loop-less c =
+    let test = c .before .before .before .before .before .before .before .loop-test in
+    omega (arith, test .taken)
 
 loop-again : tie.Need-loop-again Inv-loop μ-loop
 loop-again c =
+    let turn = c .before .before .before .before .before .before .before .before .loop in
     let a = c .before .before .before .before .before .before .before .before .before .before .before .before in
     let less = c .before .before .before .before .before .before .before .loop-test .taken in
     let row = c .before .before .before .before .before .before .before .before .loop .row in
-    let l = rw (between-step row (a .args .high) less) at (c .before .before .before .before .before .before .before .before .loop .inv .0) in (
+    let l = rw (between-step row (a .args .high) less) at (turn .inv .0) in (
       spreading-more
           (spreading-beside (take (a .args .used) (a .args .list .now)) row (rows-between (row + 1) (a .args .high)) l (victims-four (a .args .s) row (a .pre .1 .0 .0)) (c .before .before .before .before .spread-unlisted .ensures))
-          (omega (arith, c .before .before .before .before .before .before .before .before .loop .inv .1)),
-      omega (arith, c .before .before .before .before .before .before .before .before .loop .inv .1),
+          (omega (arith, turn .inv .1)),
+      omega (arith, turn .inv .1),
     )
 
 same-length : tie.Need-same-length Inv-loop μ-loop
 same-length c = long-rows (c .before .loop .inv .0 .holds)
 
 same-length-2 : tie.Need-same-length-2 Inv-loop μ-loop
-same-length-2 c = long-counts (c .before .loop .inv .0 .holds) ∙ sym (long-counts (c .before .before .before .before .before .pre .0))
+same-length-2 c =
+    let start = c .before .before .before .before .before in
+    long-counts (c .before .loop .inv .0 .holds) ∙ sym (long-counts (start .pre .0))
 
 returns : tie.Need-returns Inv-loop μ-loop
 unfolding besides
-returns c = spreading-done (c .before .loop .inv .0) (rw (between-none (c .before .loop .row) (c .before .before .before .before .before .args .high) (c .loop-test .left)))
+returns c =
+    let start = c .before .before .before .before .before in
+    spreading-done (c .before .loop .inv .0) (rw (between-none (c .before .loop .row) (start .args .high) (c .loop-test .left)))
 
 pub spread-run-spec : {M : Type 1} → statement M
 spread-run-spec =

@@ -10,7 +10,9 @@ use Rattle.tracker.proofs.event.take_out.Statement.{statement}
 use Rattle.tracker.proofs.event.take_out.Tie as tie
 
 drop-run-requires : tie.Need-drop-run-requires
-drop-run-requires c κs = held-again (c .before .before .before .before .before .before .before .before .before .pick .ensures .1)
+drop-run-requires c κs =
+    let pick = c .before .before .before .before .before .before .before .before .before .pick in
+    held-again (pick .ensures .1)
 
 returns : tie.Need-returns
 returns c =
