@@ -89,14 +89,14 @@ fn activation_refusal(s: Settings, rows: &[u32], counts: &[u32], p: Position, ro
 }
 
 // The refusal of a refresh event, or 0.
-fn refresh_refusal(s: Settings, rows: &[u32], counts: &[u32], p: Position, list: &[u32]) -> u32
-    ensures { λ r. ⌜ r ≡ first-failed (refresh-tests s (lent (rows .entry) (counts .entry) p) (now (list .entry))) ⌝ }
+fn refresh_refusal(s: Settings, rows: &[u32], counts: &[u32], p: Position, picks: &[u32]) -> u32
+    ensures { λ r. ⌜ r ≡ first-failed (refresh-tests s (lent (rows .entry) (counts .entry) p) (now (picks .entry))) ⌝ }
 {
     let k = set_up_refusal(s, rows, counts);
     if k != 0 {
         return k;
     }
-    if list.len() < s.volume as usize {
+    if picks.len() < s.volume as usize {
         return 10;
     }
     device::refuse_unless(state::valid_state(s, rows, counts, p), 21, 0)
@@ -176,16 +176,16 @@ pub fn refresh_accepted(
     rows: &mut [u32],
     counts: &mut [u32],
     p: Position,
-    list: &mut [u32],
+    picks: &mut [u32],
 ) -> AfterEvent
-    requires { ⌜ first-failed (refresh-tests s (lent rows counts p) (now list)) ≡ 0 ⌝ }
-    ensures { λ r. ⌜ event-left r rows counts list ≡ refresh-on s (lent (rows .entry) (counts .entry) p) (now (list .entry)) ⌝ }
+    requires { ⌜ first-failed (refresh-tests s (lent rows counts p) (now picks)) ≡ 0 ⌝ }
+    ensures { λ r. ⌜ event-left r rows counts picks ≡ refresh-on s (lent (rows .entry) (counts .entry) p) (now (picks .entry)) ⌝ }
 {
     let t = Tally {
         tracked: p.tracked as usize,
         spillover: p.spillover,
     };
-    let picked = event::event_tables(s, rows, counts, t, p.events, list);
+    let picked = event::event_tables(s, rows, counts, t, p.events, picks);
     let after = picked.tally;
     AfterEvent {
         count: picked.count as u32,
@@ -198,21 +198,21 @@ pub fn refresh_accepted(
     }
 }
 
-// A refresh event; the picked rows come at the list's front.
+// A refresh event; the picked rows come at the front of the lent picks.
 pub fn refresh(
     s: Settings,
     rows: &mut [u32],
     counts: &mut [u32],
     p: Position,
-    list: &mut [u32],
+    picks: &mut [u32],
 ) -> Refreshed
-    ensures { λ r. ⌜ refresh-left r rows counts list ≡ refresh-on s (lent (rows .entry) (counts .entry) p) (now (list .entry)) ⌝ }
+    ensures { λ r. ⌜ refresh-left r rows counts picks ≡ refresh-on s (lent (rows .entry) (counts .entry) p) (now (picks .entry)) ⌝ }
 {
-    let k = refresh_refusal(s, rows, counts, p, list);
+    let k = refresh_refusal(s, rows, counts, p, picks);
     if k != 0 {
         return Refreshed::Refused(k, p);
     }
-    let after = refresh_accepted(s, rows, counts, p, list);
+    let after = refresh_accepted(s, rows, counts, p, picks);
     let position = after.position;
     Refreshed::Accepted(after.count, position)
 }

@@ -11,7 +11,7 @@ unfolding refresh-call refresh-accepts refresh-refusal refresh-count refresh-pos
 returns c =
     let a = c .before .before .before .before .before .before .before .before .args in
     let k = c .before .refresh-refusal in
-    refresh-refused (a .s) (given (a .rows .now) (a .counts .now) (a .p)) (a .list .now) (k .result) (k .ensures) (c .if1 .taken)
+    refresh-refused (a .s) (given (a .rows .now) (a .counts .now) (a .p)) (a .picks .now) (k .result) (k .ensures) (c .if1 .taken)
 
 returns-2 : tie.Need-returns-2
 returns-2 c =

@@ -15,7 +15,7 @@ event-tables-requires : tie.Need-event-tables-requires
 unfolding given summary-of
 event-tables-requires c κs =
     let a = c .before .before .before .before .before .before .before in
-    let r = refresh-ready (a .args .s) (given (a .args .rows .now) (a .args .counts .now) (a .args .p)) (a .args .list .now) (a .pre) in
+    let r = refresh-ready (a .args .s) (given (a .args .rows .now) (a .args .counts .now) (a .args .p)) (a .args .picks .now) (a .pre) in
     let o = r .0 .settings .others in (
       ready-held (r .0),
       (
@@ -29,14 +29,14 @@ unfolding given
 cast-t16 c =
     let event-tables = c .before .before .before .before .before .before .before .before .event-tables in
     let a = c .before .before .before .before .before .before .before .before .before .before .before .before .before .before .before .before in
-    let r = refresh-ready (a .args .s) (given (a .args .rows .now) (a .args .counts .now) (a .args .p)) (a .args .list .now) (a .pre) in
+    let r = refresh-ready (a .args .s) (given (a .args .rows .now) (a .args .counts .now) (a .args .p)) (a .args .picks .now) (a .pre) in
     omega (arith, count-picked-le (event-tables .ensures .0), r .0 .settings .others .volume .most)
 
 next-event-requires : tie.Need-next-event-requires
 unfolding given
 next-event-requires c κs =
     let a = c .before .before .before .before .before .before .before .before .before .before .before .before .before .before .before .before in
-    let r = refresh-ready (a .args .s) (given (a .args .rows .now) (a .args .counts .now) (a .args .p)) (a .args .list .now) (a .pre) in
+    let r = refresh-ready (a .args .s) (given (a .args .rows .now) (a .args .counts .now) (a .args .p)) (a .args .picks .now) (a .pre) in
     let o = r .0 .settings .others in
     (o .window .least, omega (arith, r .0 .facts .early, o .window .most))
 
@@ -45,7 +45,7 @@ unfolding given
 cast-t18 c =
     let event-tables = c .before .before .before .before .before .before .before .before .before .before .event-tables in
     let a = c .before .before .before .before .before .before .before .before .before .before .before .before .before .before .before .before .before .before in
-    let r = refresh-ready (a .args .s) (given (a .args .rows .now) (a .args .counts .now) (a .args .p)) (a .args .list .now) (a .pre) in
+    let r = refresh-ready (a .args .s) (given (a .args .rows .now) (a .args .counts .now) (a .args .p)) (a .args .picks .now) (a .pre) in
     omega (arith, tracked-few (event-tables .ensures .1), r .0 .fitting .rows-long, r .0 .settings .counters .most)
 
 returns : tie.Need-returns
@@ -53,7 +53,7 @@ unfolding refresh-call refresh-accepts refresh-refusal refresh-count refresh-pos
 returns c =
     let event-tables = c .before .before .before .before .before .before .before .before .before .before .event-tables in
     let a = c .before .before .before .before .before .before .before .before .before .before .before .before .before .before .before .before .before .before in
-    refresh-done (a .args .s) (given (a .args .rows .now) (a .args .counts .now) (a .args .p)) (a .args .list .now) (a .pre) (event-tables .ensures .0) (event-tables .ensures .1) (c .before .next-event .ensures)
+    refresh-done (a .args .s) (given (a .args .rows .now) (a .args .counts .now) (a .args .p)) (a .args .picks .now) (a .pre) (event-tables .ensures .0) (event-tables .ensures .1) (c .before .next-event .ensures)
 
 pub refresh-accepted-spec : {M : Type 1} → statement M
 refresh-accepted-spec =

@@ -36,9 +36,9 @@ clear-if-requires c κs =
     let take-out = c .before .before .before .before .before .before .before .before .before .before .take-out in
     held-again (take-out .ensures .1)
 
-spread-list-requires : tie.Need-spread-list-requires
+spread-picks-requires : tie.Need-spread-picks-requires
 unfolding ends-window
-spread-list-requires c κs =
+spread-picks-requires c κs =
     let clear-if = c .before .before .before .before .before .before .before .clear-if in
     let a = c .before .before .before .before .before .before .before .before .before .before .before .before .before .before .before .before .before .before .before .before .before .before .before .before .before .before .before .before in
     let p = a .pre .1 .0 in
@@ -57,7 +57,7 @@ unfolding ends-window
 spread-run-requires c κs =
     let smaller = c .before .before .before .before .before .before .before .before .before .before .before .before .before .before .before .before .before .before .before .before .before .before .before .before .before .before .before .before .before .before .smaller in
     let clear-if = c .before .before .before .before .before .before .before .before .before .before .before .before .before .before .before .clear-if in
-    let spread-list = c .before .before .before .before .before .before .before .spread-list in
+    let spread-picks = c .before .before .before .before .before .before .before .spread-picks in
     let a = c .before .before .before .before .before .before .before .before .before .before .before .before .before .before .before .before .before .before .before .before .before .before .before .before .before .before .before .before .before .before .before .before .before .before .before .before in
     let p = a .pre .1 .0 in
     let t = c .before .before .before .before .before .before .before .before .before .before .before .before .before .before .before .before .before .before .before .before .before .before .before .before .before .before .take-out in
@@ -66,10 +66,10 @@ spread-run-requires c κs =
     let x = t .ensures .0 in
     let high = c .before .before .before .before .before .before .before .before .before .before .before .before .before .before .before .before .before .before .before .before .before .before .before .before .before .before .before .before .before .before .smaller .ensures in
     let long = t .kept .1 .1 .1 .1 .1 .1 .0 in (
-      held-again (spread-list .ensures),
+      held-again (spread-picks .ensures),
       (
         (p .0, omega (arith, count-picked-le x, p .6, long), omega (arith, high, p .1), omega (arith, high, p .3)),
-        room-spread-read (a .args .s .volume) (victims-in (a .args .s)) (rows-between (a .args .e * a .args .s .block) (smaller .result)) (ends-window (a .args .s) (a .args .e)) sum names (take-picked x) (t .ensures .1) (clear-if .ensures) (spread-list .ensures) (λ row. victims-four (a .args .s) row (p .0)) (omega (arith, length-take-le (t .result .count) (t .last .1 .1 .1 .1 .1 .1 .0) (omega (arith, count-picked-le x, p .6, long)), count-picked-le x, p .2)) (a .pre .1 .1 .0),
+        room-spread-read (a .args .s .volume) (victims-in (a .args .s)) (rows-between (a .args .e * a .args .s .block) (smaller .result)) (ends-window (a .args .s) (a .args .e)) sum names (take-picked x) (t .ensures .1) (clear-if .ensures) (spread-picks .ensures) (λ row. victims-four (a .args .s) row (p .0)) (omega (arith, length-take-le (t .result .count) (t .last .1 .1 .1 .1 .1 .1 .0) (omega (arith, count-picked-le x, p .6, long)), count-picked-le x, p .2)) (a .pre .1 .1 .0),
       ),
     )
 
@@ -78,7 +78,7 @@ unfolding block-rows ends-window
 returns c =
     let smaller = c .before .before .before .before .before .before .before .before .before .before .before .before .before .before .before .before .before .before .before .before .before .before .before .before .before .before .before .before .before .before .before .before .before .before .before .smaller in
     let clear-if = c .before .before .before .before .before .before .before .before .before .before .before .before .before .before .before .before .before .before .before .before .clear-if in
-    let spread-list = c .before .before .before .before .before .before .before .before .before .before .before .before .spread-list in
+    let spread-picks = c .before .before .before .before .before .before .before .before .before .before .before .before .spread-picks in
     let a = c .before .before .before .before .before .before .before .before .before .before .before .before .before .before .before .before .before .before .before .before .before .before .before .before .before .before .before .before .before .before .before .before .before .before .before .before .before .before .before .before .before in
     let t = c .before .before .before .before .before .before .before .before .before .before .before .before .before .before .before .before .before .before .before .before .before .before .before .before .before .before .before .before .before .before .before .take-out in
     let names = take (t .result .count) (t .last .1 .1 .1 .1 .1 .1 .0) in
@@ -86,7 +86,7 @@ returns c =
     let x = t .ensures .0 in (
       x,
       rw (← smaller .ensures)
-          (holds-event (a .args .s .volume) (victims-in (a .args .s)) (rows-between (a .args .e * a .args .s .block) (smaller .result)) (ends-window (a .args .s) (a .args .e)) sum names (take-picked x) (t .ensures .1) (clear-if .ensures) (spread-list .ensures) (c .before .before .before .before .spread-run .ensures)),
+          (holds-event (a .args .s .volume) (victims-in (a .args .s)) (rows-between (a .args .e * a .args .s .block) (smaller .result)) (ends-window (a .args .s) (a .args .e)) sum names (take-picked x) (t .ensures .1) (clear-if .ensures) (spread-picks .ensures) (c .before .before .before .before .spread-run .ensures)),
     )
 
 same-length : tie.Need-same-length
@@ -112,7 +112,7 @@ event-tables-spec =
     take-out-requires
     sub-clear-if
     clear-if-requires
-    spread-list-requires
+    spread-picks-requires
     spread-run-requires
     same-length
     same-length-2

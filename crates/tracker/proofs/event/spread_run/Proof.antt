@@ -61,7 +61,7 @@ loop-again c =
     let row = c .before .before .before .before .before .before .before .before .loop .row in
     let l = rw (between-step row (a .args .high) less) at (turn .inv .0) in (
       spreading-more
-          (spreading-beside (take (a .args .used) (a .args .list .now)) row (rows-between (row + 1) (a .args .high)) l (victims-four (a .args .s) row (a .pre .1 .0 .0)) (c .before .before .before .before .spread-unlisted .ensures))
+          (spreading-beside (take (a .args .used) (a .args .picks .now)) row (rows-between (row + 1) (a .args .high)) l (victims-four (a .args .s) row (a .pre .1 .0 .0)) (c .before .before .before .before .spread-unlisted .ensures))
           (omega (arith, turn .inv .1)),
       omega (arith, turn .inv .1),
     )

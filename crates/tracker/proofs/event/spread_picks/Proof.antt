@@ -1,4 +1,4 @@
--- `tracker::event::spread_list` meets its contract. The invariant: the rows left, on the summary as it is now.
+-- `tracker::event::spread_picks` meets its contract. The invariant: the rows left, on the summary as it is now.
 use mathlib.Core.Path.{refl, sym, _∙_}
 use Prim.Native.Nat.{_+_, _-_, _*_, _≤_}
 use native.Mathlib.Numerals.{add-one}
@@ -12,8 +12,8 @@ use Rattle.summary.proofs.Stored.{long-rows, long-counts}
 use Rattle.tracker.specs.Calls.{victims-in}
 use Rattle.tracker.proofs.Calls.VictimsIn.{victims-four}
 use Rattle.tracker.proofs.Steps.Spread.{Spreading, spreading-ready, spreading-again, spreading-done, spreading-more, below-at}
-use Rattle.tracker.proofs.event.spread_list.Statement.{statement}
-use Rattle.tracker.proofs.event.spread_list.Tie as tie
+use Rattle.tracker.proofs.event.spread_picks.Statement.{statement}
+use Rattle.tracker.proofs.event.spread_picks.Tie as tie
 
 abbrev Inv-loop : tie.InvT-loop
 Inv-loop s rows₀ counts₀ list used t₀ i₀ rows counts t i =
@@ -56,8 +56,8 @@ disturb-victims-requires c κs =
       (
         (
           p .0,
-          rw (getD-take (a .args .used) (a .args .list .now) i 0 less) at
-              (below-at (p .3) i (omega (arith, less, length-take-le (a .args .used) (a .args .list .now) (p .2)))),
+          rw (getD-take (a .args .used) (a .args .picks .now) i 0 less) at
+              (below-at (p .3) i (omega (arith, less, length-take-le (a .args .used) (a .args .picks .now) (p .2)))),
         ),
         ready .1,
       ),
@@ -81,8 +81,8 @@ loop-again c =
     let p = a .pre .1 .0 in
     let i = c .before .before .before .before .before .before .before .before .before .loop .i in
     let less = c .before .before .before .before .before .before .before .before .loop-test .taken in
-    let l = rw (used-step (a .args .list .now) (a .args .used) i (p .2) less) at (turn .inv .0) in (
-      rw (add-one i) (spreading-more (spreading-again (getD (a .args .list .now) i 0) l (victims-four (a .args .s) (getD (a .args .list .now) i 0) (p .0)) (c .before .before .before .before .disturb-victims .ensures)) (omega arith)),
+    let l = rw (used-step (a .args .picks .now) (a .args .used) i (p .2) less) at (turn .inv .0) in (
+      rw (add-one i) (spreading-more (spreading-again (getD (a .args .picks .now) i 0) l (victims-four (a .args .s) (getD (a .args .picks .now) i 0) (p .0)) (c .before .before .before .before .disturb-victims .ensures)) (omega arith)),
       omega (arith, less),
     )
 
@@ -97,10 +97,10 @@ same-length-2 c =
 returns : tie.Need-returns Inv-loop μ-loop
 returns c =
     let a = c .before .before .before .before .before in
-    spreading-done (c .before .loop .inv .0) (used-none (a .args .list .now) (a .args .used) (c .before .loop .i) (a .pre .1 .0 .2) (c .loop-test .left))
+    spreading-done (c .before .loop .inv .0) (used-none (a .args .picks .now) (a .args .used) (c .before .loop .i) (a .pre .1 .0 .2) (c .loop-test .left))
 
-pub spread-list-spec : {M : Type 1} → statement M
-spread-list-spec =
+pub spread-picks-spec : {M : Type 1} → statement M
+spread-picks-spec =
     tie.close
     (tie.spec
     Inv-loop
