@@ -11,7 +11,7 @@ use Rattle.device.specs.Acceptance.{settings-tests}
 use Rattle.device.proofs.Accepted.{or-later, settings-then}
 use Rattle.summary.specs.Steps.{Summary}
 use Rattle.summary.specs.Rules.{Ceiling, Sound}
-use Rattle.tracker.specs.State.{state-of, valid}
+use Rattle.tracker.specs.State.{state-of, valid, most-count}
 use Rattle.tracker.specs.Calls.{tables-long, activation-tests, refresh-tests}
 use Rattle.tracker.proofs.States.StateOf.{tables-long-state-of, valid-state-of}
 
@@ -20,8 +20,8 @@ pub record Held (s : Settings) (e a : ℕ) (sum : Summary) : Type 0 where
   pub sound : Sound (s .rows) (s .counters) sum
   pub early : e < s .window
   pub within : a ≤ s .interval
-  pub ceiling : Ceiling 2000000000 (sum .entries)
-  pub spilt : sum .spillover ≤ 2000000000
+  pub ceiling : Ceiling most-count (sum .entries)
+  pub spilt : sum .spillover ≤ most-count
 
 module _ (s : Settings) (e a : ℕ) (sum : Summary) (ok : first-failed (settings-tests s) ≡ 0) (h : Held s e a sum) where
   long : tables-long s (state-of s e a sum .rows) (state-of s e a sum .counts) ≡ true

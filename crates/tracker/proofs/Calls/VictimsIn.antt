@@ -11,6 +11,7 @@ use Rattle.summary.specs.Steps.{Summary, disturb, disturb-each}
 use Rattle.summary.specs.Rules.{Room}
 use Rattle.summary.proofs.Rules.Ceiling.{room-more, room-each}
 use Rattle.tracker.specs.Calls.{victims-in}
+use Rattle.tracker.specs.Contracts.{Room-for}
 
 each-append : (counters : ℕ) (xs ys : List ℕ) (s : Summary) → disturb-each counters (xs ++ ys) s ≡ disturb-each counters ys (disturb-each counters xs s)
 unfolding disturb-each
@@ -25,7 +26,7 @@ victims-split s counters row sum {low} {high} el eh =
     (each-append counters (rows-between (row - s .«blast_diameter» / 2) row) (rows-between (row + 1) (min (row + 1 + s .«blast_diameter» / 2) (s .rows))) sum)
 
 -- a short run raises counts by little
-pub room-between : (counters low high : ℕ) (sum : Summary) → Room 3999999872 sum → high - low ≤ 64 → Room 3999999936 (disturb-each counters (rows-between low high) sum)
+pub room-between : (counters low high : ℕ) (sum : Summary) → Room-for 128 sum → high - low ≤ 64 → Room-for 64 (disturb-each counters (rows-between low high) sum)
 room-between counters low high sum r few =
     room-more (room-each counters (rows-between low high) sum r) (omega (arith, between-length low high))
 

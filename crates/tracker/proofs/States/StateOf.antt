@@ -15,7 +15,7 @@ use Rattle.summary.specs.Tables.{table, read, Holds}
 use Rattle.summary.proofs.Laid.{length-rows, length-counts, length-table, entries-back}
 use Rattle.summary.specs.Rules.{Floor, Ceiling, bare, under, Ordered, ordered-none, ordered-more, Sound}
 use Rattle.summary.proofs.Rules.Floor.{floor-parts}
-use Rattle.tracker.specs.State.{summary-of, state-of, zeros, ascending, counts-allowed, valid}
+use Rattle.tracker.specs.State.{summary-of, state-of, zeros, ascending, counts-allowed, valid, most-count}
 use Rattle.tracker.specs.Calls.{tables-long}
 use Rattle.tracker.specs.Answers.{given}
 
@@ -41,16 +41,16 @@ unfolding zeros
 zeros-replicate zero = refl
 zeros-replicate (suc k) = zeros-replicate k
 
-counts-allowed-entries : {spill : ℕ} {es : List Entry} → Ceiling 2000000000 es → Floor spill es → Floor 1 es → counts-allowed spill (counts-of es) ≡ true
+counts-allowed-entries : {spill : ℕ} {es : List Entry} → Ceiling most-count es → Floor spill es → Floor 1 es → counts-allowed spill (counts-of es) ≡ true
 unfolding counts-allowed counts-of
 counts-allowed-entries bare f p = refl
 counts-allowed-entries {spill} (under x c h) f p =
     rw
-    (le-leb 1 (x .count) (floor-parts p .0), le-leb spill (x .count) (floor-parts f .0), le-leb (x .count) 2000000000 h)
+    (le-leb 1 (x .count) (floor-parts p .0), le-leb spill (x .count) (floor-parts f .0), le-leb (x .count) most-count h)
     (counts-allowed-entries c (floor-parts f .1) (floor-parts p .1))
 
 -- the rules hold
-pub valid-state-of : (s : Settings) (e a : ℕ) (sum : Summary) → Sound (s .rows) (s .counters) sum → e < s .window → a ≤ s .interval → Ceiling 2000000000 (sum .entries) → sum .spillover ≤ 2000000000 → valid s (state-of s e a sum) ≡ true
+pub valid-state-of : (s : Settings) (e a : ℕ) (sum : Summary) → Sound (s .rows) (s .counters) sum → e < s .window → a ≤ s .interval → Ceiling most-count (sum .entries) → sum .spillover ≤ most-count → valid s (state-of s e a sum) ≡ true
 unfolding valid state-of table
 valid-state-of s e a sum k he ha ceiling spilt =
     let rows = rows-of (sum .entries) in
@@ -68,7 +68,7 @@ valid-state-of s e a sum k he ha ceiling spilt =
       zeros-replicate (s .counters - length counts),
       counts-allowed-entries ceiling (k .floor) (k .positive),
     )
-    (le-leb (sum .spillover) 2000000000 spilt)
+    (le-leb (sum .spillover) most-count spilt)
 
 -- tables that hold a summary, with its position, are the state of that summary
 pub state-of-holds : {high : ℕ} (s : Settings) (e a : ℕ) {sum : Summary} {rows counts : List ℕ} {k spill : ℕ} → Holds (s .counters) high sum rows counts k spill → given rows counts (record { events = e; activations = a; tracked = k; spillover = spill }) ≡ state-of s e a sum

@@ -14,7 +14,7 @@ use Rattle.summary.specs.Entries.{Entry, rows-of, counts-of}
 use Rattle.summary.specs.Tables.{table, entries-of, read, Holds}
 use Rattle.summary.specs.Rules.{Floor, floor-none, floor-more, Ceiling, bare, under, Ordered, ordered-none, ordered-more, Room}
 use Rattle.summary.proofs.Laid.{length-rows}
-use Rattle.tracker.specs.State.{State, summary-of, zeros, ascending, counts-allowed, valid}
+use Rattle.tracker.specs.State.{State, summary-of, zeros, ascending, counts-allowed, valid, most-count}
 use Rattle.tracker.specs.Calls.{tables-long}
 
 -- what is read from the front of two tables
@@ -66,7 +66,7 @@ ordered-read high low (suc k) (row ∷ rows) (count ∷ counts) e =
 record Allowed (spillover : ℕ) (es : List Entry) : Type 0 where
   floor : Floor spillover es
   positive : Floor 1 es
-  ceiling : Ceiling 2000000000 es
+  ceiling : Ceiling most-count es
 
 allowed-read : (spillover k : ℕ) (rows counts : List ℕ) → counts-allowed spillover (take k counts) ≡ true → Allowed spillover (entries-of k rows counts)
 unfolding counts-allowed entries-of
@@ -75,14 +75,14 @@ allowed-read spillover (suc k) [] counts e = record { floor = floor-none; positi
 allowed-read spillover (suc k) (row ∷ rows) [] e = record { floor = floor-none; positive = floor-none; ceiling = bare }
 allowed-read spillover (suc k) (row ∷ rows) (count ∷ counts) e =
     let x : Entry = record { row = row; count = count } in
-    let p3 = both (leb 1 count && leb spillover count && leb count 2000000000) (counts-allowed spillover (take k counts)) e in
-    let p2 = both (leb 1 count && leb spillover count) (leb count 2000000000) (p3 .0) in
+    let p3 = both (leb 1 count && leb spillover count && leb count most-count) (counts-allowed spillover (take k counts)) e in
+    let p2 = both (leb 1 count && leb spillover count) (leb count most-count) (p3 .0) in
     let p1 = both (leb 1 count) (leb spillover count) (p2 .0) in
     let rest = allowed-read spillover k rows counts (p3 .1) in
     record {
       floor = floor-more x (rest .floor) (leb-true spillover count (p1 .1));
       positive = floor-more x (rest .positive) (leb-true 1 count (p1 .0));
-      ceiling = under x (rest .ceiling) (leb-true count 2000000000 (p2 .1));
+      ceiling = under x (rest .ceiling) (leb-true count most-count (p2 .1));
     }
 
 -- what the tests of a valid state say
@@ -90,7 +90,7 @@ pub record Facts (s : Settings) (st : State) : Type 0 where
   pub early : st .position .events < s .window
   pub within : st .position .activations ≤ s .interval
   pub holds : Holds (s .counters) (s .rows) (summary-of st) (st .rows) (st .counts) (st .position .tracked) (st .position .spillover)
-  pub room : Room 2000000000 (summary-of st)
+  pub room : Room most-count (summary-of st)
 
 pub valid-facts : (s : Settings) (st : State) → tables-long s (st .rows) (st .counts) ≡ true → valid s st ≡ true → Facts s st
 unfolding tables-long valid summary-of read
@@ -99,7 +99,7 @@ valid-facts s st long e =
     let rows-long = eqb-true (length (st .rows)) (s .counters) (lengths .0) in
     let counts-long = eqb-true (length (st .counts)) (s .counters) (lengths .1) in
     let k = st .position .tracked in
-    let p7 = both _ (leb (st .position .spillover) 2000000000) e in
+    let p7 = both _ (leb (st .position .spillover) most-count) e in
     let p6 = both _ (counts-allowed (st .position .spillover) (take k (st .counts))) (p7 .0) in
     let p5 = both _ (zeros (drop k (st .counts))) (p6 .0) in
     let p4 = both _ (zeros (drop k (st .rows))) (p5 .0) in
@@ -126,5 +126,5 @@ valid-facts s st long e =
           fits = omega arith;
         };
       };
-      room = record { counts = allowed .ceiling; spilt = leb-true (st .position .spillover) 2000000000 (p7 .1) };
+      room = record { counts = allowed .ceiling; spilt = leb-true (st .position .spillover) most-count (p7 .1) };
     }

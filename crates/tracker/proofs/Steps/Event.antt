@@ -17,6 +17,7 @@ use Rattle.summary.proofs.Laid.{held-read}
 use Rattle.summary.proofs.Stored.{long-rows}
 use Rattle.summary.proofs.Rules.Ceiling.{room-more, room-drop}
 use Rattle.summary.proofs.Distinct.{picks-below, picks-few}
+use Rattle.tracker.specs.Contracts.{Room-for}
 use Rattle.tracker.proofs.Steps.Spread.{spread-append, room-spread}
 
 -- picked rows out, then the block's
@@ -73,7 +74,7 @@ module _
       holds-spread : Holds places 4294967296 (spread places victims-of names (cleared-if last (taken-out volume block sum))) rows₃ counts₃ k₃ spill₃
       holds-spread = rw (held-read holds-cleared, long-rows holds-cleared) at x₃
 
-      pub room-spread-read : ((row : ℕ) → length (victims-of row) ≤ 4) → length names ≤ 16 → Room 3999999552 sum → Room 3999999616 (read rows₃ counts₃ k₃ spill₃)
+      pub room-spread-read : ((row : ℕ) → length (victims-of row) ≤ 4) → length names ≤ 16 → Room-for 448 sum → Room-for 384 (read rows₃ counts₃ k₃ spill₃)
       room-spread-read four few r =
           rw (held-read holds-spread)
           (room-more

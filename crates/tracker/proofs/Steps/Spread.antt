@@ -1,7 +1,7 @@
 -- `spread`: rows that disturb their victims, one row after the other, and how far counts rise by it.
 use mathlib.Core.Path.{_≡_, refl, sym, _∙_}
 use mathlib.Core.List.{List, [], _∷_, _++_}
-use Prim.Native.Nat.{ℕ, zero, suc, _+_, _*_, _≤_, _<_}
+use Prim.Native.Nat.{ℕ, zero, suc, _+_, _-_, _*_, _≤_, _<_}
 use native.Mathlib.Omega.{arith}
 use lib.ListN.{length, getD}
 use Rattle.laws.proofs.Cases.{split}
@@ -12,6 +12,7 @@ use Rattle.summary.proofs.Laid.{held-read}
 use Rattle.summary.proofs.Rules.Ceiling.{room-more, room-each}
 use Rattle.summary.proofs.Stored.{long-rows}
 use Rattle.summary.proofs.Moves.{held-again}
+use Rattle.tracker.specs.Contracts.{Room-for}
 
 pub spread-append : (counters : ℕ) (victims-of : ℕ → List ℕ) (xs ys : List ℕ) (s : Summary) → spread counters victims-of (xs ++ ys) s ≡ spread counters victims-of ys (spread counters victims-of xs s)
 unfolding spread
@@ -35,7 +36,7 @@ pub record Spreading (places : ℕ) (victims-of : ℕ → List ℕ) (whole rest 
   pub room : Room most sum
 
 module _ {places : ℕ} {victims-of : ℕ → List ℕ} {whole rest : List ℕ} {start : Summary} {rows counts : List ℕ} {k spill most : ℕ} (l : Spreading places victims-of whole rest start rows counts k spill most) where
-  pub spreading-ready : most ≤ 3999999872 → Held rows counts k spill × Room 3999999872 (read rows counts k spill)
+  pub spreading-ready : most ≤ 4000000000 - 128 → Held rows counts k spill × Room-for 128 (read rows counts k spill)
   spreading-ready few = (held-again (l .holds), rw (held-read (l .holds)) (room-more (l .room) few))
 
   pub spreading-done : rest ≡ [] → Holds places 4294967296 (spread places victims-of whole start) rows counts k spill

@@ -9,7 +9,7 @@ use borrow.Author.Needs.{needs}
 use borrow.Author.Tests.{not-true, not-false}
 use lib.Dec.{leb}
 use lib.ListN.{length, take, drop, getD}
-use Rattle.tracker.specs.State.{counts-allowed}
+use Rattle.tracker.specs.State.{counts-allowed, most-count}
 use Rattle.summary.proofs.Columns.{used-step, used-none}
 use Rattle.tracker.proofs.state.counts_in_range.Statement.{statement}
 use Rattle.tracker.proofs.state.counts_in_range.Tie as tie
@@ -18,7 +18,7 @@ record Left (t : List ℕ) (used spillover i : ℕ) : Type 0 where
   same : counts-allowed spillover (drop i (take used t)) ≡ counts-allowed spillover (take used t)
 
 module _ {t : List ℕ} {used spillover i : ℕ} (l : Left t used spillover i) (fits : used ≤ length t) where
-  here : i < used → counts-allowed spillover (take used t) ≡ (leb 1 (getD t i 0) && leb spillover (getD t i 0) && leb (getD t i 0) 2000000000 && counts-allowed spillover (drop (i + 1) (take used t)))
+  here : i < used → counts-allowed spillover (take used t) ≡ (leb 1 (getD t i 0) && leb spillover (getD t i 0) && leb (getD t i 0) most-count && counts-allowed spillover (drop (i + 1) (take used t)))
   unfolding counts-allowed
   here h = sym (l .same) ∙ rw (used-step t used i fits h, add-one i)
 
