@@ -8,7 +8,7 @@ use Rattle.summary.specs.Entries.{rows-of, counts-of, top, picks, has, count-or
 use Rattle.summary.specs.Steps.{empty, estimate, in-rows, disturb, disturb-each, drop-rows, spread, activation, besides, picked, taken-out, cleared-if, sources, event}
 use Rattle.summary.specs.Tables.{table, entries-of, read}
 use Rattle.tracker.specs.State.{summary-of, state-of, zeros, ascending, counts-allowed, valid}
-use Rattle.tracker.specs.Calls.{victims-in, block-rows, ends-window, next-event, tables-long, set-up-tests, activation-tests, refresh-tests, agreement-tests, kept-unless, set-up, activate, refresh, same-estimates, agree}
+use Rattle.tracker.specs.Calls.{victims-in, block-rows, ends-window, next-event, tables-long, set-up-tests, activation-tests, refresh-tests, agreement-tests, kept-unless, set-up, activation-on, refresh-on, same-estimates, agreement-of}
 use Rattle.tracker.specs.Answers.{given}
 use Rattle.edges.specs.Lent.{settings-of, pair-of, position-at, standing-at, state-in, lent-of, refusal-in, position-in, opened-by, opened, opened-long, activated-by, activated, refreshed-by, refreshed, refused-list, compared-by, compared, holds}
 use Rattle.edges.specs.Edges.{Edges}
@@ -21,7 +21,7 @@ unfolding
     empty estimate in-rows disturb disturb-each drop-rows spread activation besides picked taken-out cleared-if sources event
     table entries-of read summary-of state-of zeros ascending counts-allowed valid
     victims-in block-rows ends-window next-event tables-long set-up-tests activation-tests refresh-tests agreement-tests kept-unless
-    set-up activate refresh same-estimates agree given
+    set-up activation-on refresh-on same-estimates agreement-of given
     settings-of pair-of position-at standing-at state-in lent-of refusal-in position-in opened-by opened opened-long
     activated-by activated refreshed-by refreshed refused-list compared-by compared holds
 edges-hold =

@@ -8,7 +8,7 @@ use Rattle.device.specs.declared.Settings.{Settings}
 use Rattle.device.specs.Refusal.{Outcome, accepted, refused}
 use Rattle.tracker.specs.declared.Position.{Position}
 use Rattle.tracker.specs.State.{State}
-use Rattle.tracker.specs.Calls.{SetUp-call, Activation-call, Refresh-call, set-up, activate, refresh, agree}
+use Rattle.tracker.specs.Calls.{SetUp-call, Activation-call, Refresh-call, set-up, activation-on, refresh-on, agreement-of}
 use Rattle.tracker.specs.Answers.{given}
 use Rattle.edges.specs.declared.calls.Lent.{Lent}
 use Rattle.edges.specs.declared.calls.Called.{Called}
@@ -78,7 +78,7 @@ unfoldable pub activated-by : Activation-call → Called
 activated-by u = record { refusal = u .refusal; left = lent-of (u .state) }
 
 unfoldable pub activated : Settings → Lent → ℕ → Called
-activated s held row = activated-by (activate s (state-in held) row)
+activated s held row = activated-by (activation-on s (state-in held) row)
 
 -- an event
 unfoldable pub refreshed-by : Refresh-call → Event
@@ -86,10 +86,10 @@ refreshed-by u = record { refusal = u .refusal; picked = u .count; list = u .pic
 
 -- with a list of two places that hold 7; the refusal where the list has none
 unfoldable pub refreshed : Settings → Lent → Event
-refreshed s held = refreshed-by (refresh s (state-in held) (pair-of 7))
+refreshed s held = refreshed-by (refresh-on s (state-in held) (pair-of 7))
 
 unfoldable pub refused-list : Settings → Lent → ℕ
-refused-list s held = refresh s (state-in held) [] .refusal
+refused-list s held = refresh-on s (state-in held) [] .refusal
 
 -- agreement: no where refused
 unfoldable pub compared-by : Outcome Bool → Compared
@@ -97,7 +97,7 @@ compared-by (accepted b) = record { refusal = 0; same = b }
 compared-by (refused k) = record { refusal = k; same = false }
 
 unfoldable pub compared : Settings → Lent → Settings → Lent → Compared
-compared s held s′ held′ = compared-by (agree s (state-in held) s′ (state-in held′))
+compared s held s′ held′ = compared-by (agreement-of s (state-in held) s′ (state-in held′))
 
 -- a number and the two places of a table are those given
 unfoldable pub holds : ℕ → List ℕ → ℕ → ℕ → ℕ → Bool

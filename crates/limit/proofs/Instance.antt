@@ -20,7 +20,7 @@ use Rattle.summary.proofs.Event.{Reach}
 use Rattle.summary.specs.Rules.{Below, below-none, below-more}
 use Rattle.summary.specs.Steps.{Summary}
 use Rattle.tracker.specs.Calls.{victims-in, block-rows}
-use Rattle.tracker.proofs.Refusals.{Held}
+use Rattle.tracker.proofs.Calls.SoundTests.{Held}
 use Rattle.limit.proofs.Scheme.{Scheme, total-of}
 use Rattle.limit.proofs.Window.{Window}
 

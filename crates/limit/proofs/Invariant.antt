@@ -27,9 +27,9 @@ use Rattle.summary.proofs.Event.{reached}
 use Rattle.summary.proofs.Distinct.{picks-distinct, sources-few}
 use Rattle.tracker.specs.declared.Position.{Position}
 use Rattle.tracker.specs.State.{State, state-of, summary-of}
-use Rattle.tracker.specs.Calls.{kept-unless, tables-long, set-up-tests, set-up, activate, refresh, activation-tests, refresh-tests, block-rows, ends-window, next-event, victims-in}
-use Rattle.tracker.proofs.LaidOut.{read-back}
-use Rattle.tracker.proofs.Refusals.{activation-refusals, refresh-refusals}
+use Rattle.tracker.specs.Calls.{kept-unless, tables-long, set-up-tests, set-up, activation-on, refresh-on, activation-tests, refresh-tests, block-rows, ends-window, next-event, victims-in}
+use Rattle.tracker.proofs.States.StateOf.{read-back}
+use Rattle.tracker.proofs.Calls.SoundTests.{activation-refusals, refresh-refusals}
 use Rattle.limit.specs.Exact.{Happened, activated, refreshed, Exact, at-rest, after, after-event, zeroed, restored, disturbed-by, once}
 use Rattle.limit.specs.Present.{forgotten}
 use Rattle.limit.specs.Run.{Command, activation-of, refresh-into, left-by, told-by, Begun}
@@ -186,7 +186,7 @@ module _ (s : Settings) (ok : first-failed (settings-tests s) ≡ 0) where
   kept-refused {e} {a} {sum} i = record { events = e; activations = a; sum = sum; stored = refl; inv = i }
 
   kept-activation : (row e a : ℕ) (sum : Summary) (x y : Exact) → Inv s e a sum x y → Kept s (left-by s (activation-of row) (state-of s e a sum)) (after s (told-by s (activation-of row) (state-of s e a sum)) x) (after s (told-by s (activation-of row) (state-of s e a sum)) (forgotten s (told-by s (activation-of row) (state-of s e a sum)) y))
-  unfolding left-by told-by activate kept-unless refuse after forgotten state-of
+  unfolding left-by told-by activation-on kept-unless refuse after forgotten state-of
   kept-activation row e a sum x y i =
       let refusals = activation-refusals s e a sum ok (held s facts (i .window) (i .few) (i .within) (i .early)) row in
       split (ltb row (s .rows))
@@ -206,7 +206,7 @@ module _ (s : Settings) (ok : first-failed (settings-tests s) ≡ 0) where
       (λ outside. rw (refusals, outside) (kept-refused i))
 
   kept-refresh : (picks : List ℕ) (e a : ℕ) (sum : Summary) (x y : Exact) → Inv s e a sum x y → Kept s (left-by s (refresh-into picks) (state-of s e a sum)) (after s (told-by s (refresh-into picks) (state-of s e a sum)) x) (after s (told-by s (refresh-into picks) (state-of s e a sum)) (forgotten s (told-by s (refresh-into picks) (state-of s e a sum)) y))
-  unfolding left-by told-by refresh kept-unless refuse after forgotten state-of next-event
+  unfolding left-by told-by refresh-on kept-unless refuse after forgotten state-of next-event
   kept-refresh picks e a sum x y i =
       let refusals = refresh-refusals s e a sum ok (held s facts (i .window) (i .few) (i .within) (i .early)) picks in
       let named = picked (s .volume) sum in

@@ -14,9 +14,9 @@ use Rattle.device.proofs.Accepted.{accepted}
 use Rattle.bound.specs.Totals.{bound-of}
 use Rattle.bound.proofs.Growth.{bound-grows}
 use Rattle.tracker.specs.State.{State, state-of}
-use Rattle.tracker.specs.Calls.{activate, refresh}
-use Rattle.tracker.proofs.LaidOut.{read-back}
-use Rattle.tracker.proofs.Refusals.{activation-refusals, refresh-refusals}
+use Rattle.tracker.specs.Calls.{activation-on, refresh-on}
+use Rattle.tracker.proofs.States.StateOf.{read-back}
+use Rattle.tracker.proofs.Calls.SoundTests.{activation-refusals, refresh-refusals}
 use Rattle.limit.specs.Exact.{Exact, after-all, exact}
 use Rattle.limit.specs.Present.{present-after-all, present}
 use Rattle.limit.specs.Run.{Command, state-after, happened, Begun}
@@ -60,7 +60,7 @@ not-21 false true e = omega arith
 not-21 false false e = omega arith
 
 pub never-21 : Never-21
-unfolding Never-21 activate refresh refuse
+unfolding Never-21 activation-on refresh-on refuse
 never-21 s st b calls =
     let k = kept-run b calls in
     let i = k .inv in

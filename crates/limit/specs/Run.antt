@@ -7,7 +7,7 @@ use Rattle.device.specs.declared.Settings.{Settings}
 use Rattle.device.specs.Refusal.{accepted}
 use Rattle.tracker.specs.declared.Position.{Position}
 use Rattle.tracker.specs.State.{State}
-use Rattle.tracker.specs.Calls.{set-up, activate, refresh}
+use Rattle.tracker.specs.Calls.{set-up, activation-on, refresh-on}
 use Rattle.limit.specs.Exact.{Happened, activated, refreshed}
 
 -- a call of the list: an activation of any logical row, or an event with any lent list
@@ -17,13 +17,13 @@ pub data Command : Type 0 where
 
 -- the state that a call leaves, and what the counter is told of it
 unfoldable pub left-by : Settings → Command → State → State
-left-by s (activation-of row) st = activate s st row .state
-left-by s (refresh-into picks) st = refresh s st picks .state
+left-by s (activation-of row) st = activation-on s st row .state
+left-by s (refresh-into picks) st = refresh-on s st picks .state
 
 unfoldable pub told-by : Settings → Command → State → Happened
-told-by s (activation-of row) st = activated row (activate s st row .accepts)
+told-by s (activation-of row) st = activated row (activation-on s st row .accepts)
 told-by s (refresh-into picks) st =
-    let call = refresh s st picks in
+    let call = refresh-on s st picks in
     refreshed (call .accepts) (take (call .count) (call .picks))
 
 -- each call gets the tables and position that the call before left

@@ -12,7 +12,7 @@ ghost use Prim.Native.Nat.{_+_, _≤_};
 ghost use lib.ListN.{length, take, replicate};
 ghost use Rattle.bound.specs.Answers.{outcome, Small};
 ghost use Rattle.trace.specs.declared.Record.the-variants.{Set};
-ghost use Rattle.tracker.specs.Calls.{set-up, activate as activated, refresh as refreshed};
+ghost use Rattle.tracker.specs.Calls.{set-up, activation-on, refresh-on};
 ghost use Rattle.tracker.specs.Answers.{given, set-up-call};
 ghost use Rattle.limit.specs.Reachable.{Reached};
 ghost use Rattle.listing.specs.Steps.{record-step, activation-step, refresh-step};
@@ -31,7 +31,7 @@ fn list_activation(
     at: usize,
 ) -> Moved
     requires { ⌜ Reached s (given (now rows) (now counts) p) × (at + 200 ≤ length (now out)) ⌝ }
-    ensures { λ r. ⌜ Lists (activation-step line s (activated s (given (now (rows .entry)) (now (counts .entry)) p) row)) s (now (rows .exit)) (now (counts .exit)) (r .position) (now (out .entry)) at (now (out .exit)) (r .end) ⌝ }
+    ensures { λ r. ⌜ Lists (activation-step line s (activation-on s (given (now (rows .entry)) (now (counts .entry)) p) row)) s (now (rows .exit)) (now (counts .exit)) (r .position) (now (out .entry)) at (now (out .exit)) (r .end) ⌝ }
 {
     if s.rows <= row {
         let end = print::print_refusal(out, at, line, 9);
@@ -56,7 +56,7 @@ fn list_event(
     at: usize,
 ) -> Moved
     requires { ⌜ Reached s (given (now rows) (now counts) p) × (at + 200 ≤ length (now out)) ⌝ }
-    ensures { λ r. ⌜ Lists (refresh-step line s (p .events) (refreshed s (given (now (rows .entry)) (now (counts .entry)) p) (replicate (s .volume) 0))) s (now (rows .exit)) (now (counts .exit)) (r .position) (now (out .entry)) at (now (out .exit)) (r .end) ⌝ }
+    ensures { λ r. ⌜ Lists (refresh-step line s (p .events) (refresh-on s (given (now (rows .entry)) (now (counts .entry)) p) (replicate (s .volume) 0))) s (now (rows .exit)) (now (counts .exit)) (r .position) (now (out .entry)) at (now (out .exit)) (r .end) ⌝ }
 {
     let mut list = [0; 16];
     let after = tracker::refresh_accepted(s, rows, counts, p, &mut list);
@@ -77,7 +77,7 @@ pub fn front_activation(
     at: usize,
 ) -> Moved
     requires { ⌜ Reached s (given (take (s .counters) (now rows)) (take (s .counters) (now counts)) p) × (at + 200 ≤ length (now out)) × (s .counters ≤ length (now rows)) × (s .counters ≤ length (now counts)) ⌝ }
-    ensures { λ r. ⌜ Lists (activation-step line s (activated s (given (take (s .counters) (now (rows .entry))) (take (s .counters) (now (counts .entry))) p) row)) s (take (s .counters) (now (rows .exit))) (take (s .counters) (now (counts .exit))) (r .position) (now (out .entry)) at (now (out .exit)) (r .end) ⌝ }
+    ensures { λ r. ⌜ Lists (activation-step line s (activation-on s (given (take (s .counters) (now (rows .entry))) (take (s .counters) (now (counts .entry))) p) row)) s (take (s .counters) (now (rows .exit))) (take (s .counters) (now (counts .exit))) (r .position) (now (out .entry)) at (now (out .exit)) (r .end) ⌝ }
     ensures { λ r. ⌜ Behind (s .counters) (now (rows .entry)) (now (counts .entry)) (now (rows .exit)) (now (counts .exit)) ⌝ }
 {
     let c = s.counters as usize;
@@ -95,7 +95,7 @@ pub fn front_event(
     at: usize,
 ) -> Moved
     requires { ⌜ Reached s (given (take (s .counters) (now rows)) (take (s .counters) (now counts)) p) × (at + 200 ≤ length (now out)) × (s .counters ≤ length (now rows)) × (s .counters ≤ length (now counts)) ⌝ }
-    ensures { λ r. ⌜ Lists (refresh-step line s (p .events) (refreshed s (given (take (s .counters) (now (rows .entry))) (take (s .counters) (now (counts .entry))) p) (replicate (s .volume) 0))) s (take (s .counters) (now (rows .exit))) (take (s .counters) (now (counts .exit))) (r .position) (now (out .entry)) at (now (out .exit)) (r .end) ⌝ }
+    ensures { λ r. ⌜ Lists (refresh-step line s (p .events) (refresh-on s (given (take (s .counters) (now (rows .entry))) (take (s .counters) (now (counts .entry))) p) (replicate (s .volume) 0))) s (take (s .counters) (now (rows .exit))) (take (s .counters) (now (counts .exit))) (r .position) (now (out .entry)) at (now (out .exit)) (r .end) ⌝ }
     ensures { λ r. ⌜ Behind (s .counters) (now (rows .entry)) (now (counts .entry)) (now (rows .exit)) (now (counts .exit)) ⌝ }
 {
     let c = s.counters as usize;
