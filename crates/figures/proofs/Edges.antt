@@ -8,7 +8,7 @@ use Rattle.summary.specs.Entries.{rows-of, counts-of, has, count-or, without, w
 use Rattle.summary.specs.Steps.{empty, estimate, in-rows, disturb, disturb-each, drop-rows, spread, activation, besides, picked, taken-out, cleared-if, sources, event}
 use Rattle.summary.specs.Tables.{table, entries-of, read}
 use Rattle.tracker.specs.State.{summary-of, state-of, zeros, ascending, counts-allowed, valid}
-use Rattle.tracker.specs.Calls.{victims-in, block-rows, ends-window, next-event, tables-long, set-up-tests, activation-tests, refresh-tests, agreement-tests, kept-unless, set-up, activate, refresh, same-estimates, agree}
+use Rattle.tracker.specs.Calls.{victims-in, block-rows, ends-window, next-event, tables-long, set-up-tests, activation-tests, refresh-tests, agreement-tests, kept-unless, set-up, activation-on, refresh-on, same-estimates, agreement-of}
 use Rattle.bound.specs.Answers.{settings-of}
 use Rattle.figures.specs.Table.{state-numbers, shown}
 use Rattle.figures.specs.Edges.{small, whole, two-places, untracked, refusal-of, set-up-numbers, activation-numbers, event-numbers, agreement-numbers, set-up-figure, activation-figure, event-figure, agreement-figure, set-up-edges, activation-edges, event-edges, agreement-edges, edges}
@@ -25,5 +25,5 @@ unfolding
     empty estimate in-rows disturb disturb-each drop-rows spread activation besides picked taken-out cleared-if sources event
     table entries-of read summary-of state-of zeros ascending counts-allowed valid
     victims-in block-rows ends-window next-event tables-long set-up-tests activation-tests refresh-tests agreement-tests kept-unless
-    set-up activate refresh same-estimates agree
+    set-up activation-on refresh-on same-estimates agreement-of
 edges-pass = tt

@@ -9,7 +9,7 @@ use Rattle.summary.specs.Entries.{rows-of, counts-of, has, count-or, without, w
 use Rattle.summary.specs.Steps.{empty, in-rows, disturb, disturb-each, drop-rows, spread, activation, besides, picked, taken-out, cleared-if, sources, event}
 use Rattle.summary.specs.Tables.{table, entries-of, read}
 use Rattle.tracker.specs.State.{summary-of, state-of, zeros, ascending, counts-allowed, valid}
-use Rattle.tracker.specs.Calls.{victims-in, block-rows, ends-window, next-event, tables-long, set-up-tests, activation-tests, refresh-tests, kept-unless, set-up, activate, refresh}
+use Rattle.tracker.specs.Calls.{victims-in, block-rows, ends-window, next-event, tables-long, set-up-tests, activation-tests, refresh-tests, kept-unless, set-up, activation-on, refresh-on}
 use Rattle.trace.specs.Numbers.{is-digit, digits, number, field, fields, digit-or-blank, columns-before, printed}
 use Rattle.trace.specs.Lines.{line, ended, extent}
 use Rattle.trace.specs.Records.{as-settings, settings, activation as activation-record, refresh as refresh-record, record-of}
@@ -33,7 +33,7 @@ unfolding
     rows-of counts-of has count-or without without-all raised entered has-count without-count top picks
     empty in-rows disturb disturb-each drop-rows spread activation besides picked taken-out cleared-if sources event
     table entries-of read summary-of state-of zeros ascending counts-allowed valid
-    victims-in block-rows ends-window next-event tables-long set-up-tests activation-tests refresh-tests kept-unless set-up activate refresh
+    victims-in block-rows ends-window next-event tables-long set-up-tests activation-tests refresh-tests kept-unless set-up activation-on refresh-on
     left-by state-after
     is-digit digits number field fields digit-or-blank columns-before printed line ended extent
     bind as-settings settings activation-record refresh-record record-of or-refused reading-by reading

@@ -5,7 +5,7 @@ use mathlib.Core.List.{List, [], _∷_, _++_}
 use Rattle.device.specs.declared.Settings.{Settings}
 use Rattle.device.specs.Refusal.{Outcome, accepted, refused}
 use Rattle.tracker.specs.State.{State}
-use Rattle.tracker.specs.Calls.{SetUp-call, Activation-call, Refresh-call, set-up, activate, refresh, agree}
+use Rattle.tracker.specs.Calls.{SetUp-call, Activation-call, Refresh-call, set-up, activation-on, refresh-on, agreement-of}
 use Rattle.bound.specs.Answers.{settings-of}
 use Rattle.figures.specs.Table.{Figure, shown, state-numbers}
 
@@ -58,15 +58,15 @@ set-up-figure s given = shown given (set-up-numbers (set-up s (7 ∷ 7 ∷ []) (
 
 -- an activation of a 'bus row'
 unfoldable pub activation-figure : Settings → State → ℕ → List ℕ → Figure
-activation-figure s st row given = shown given (activation-numbers (activate s st row))
+activation-figure s st row given = shown given (activation-numbers (activation-on s st row))
 
 -- an event with a list of two places that hold 7
 unfoldable pub event-figure : Settings → State → List ℕ → Figure
-event-figure s st given = shown given (event-numbers (refresh s st (7 ∷ 7 ∷ [])))
+event-figure s st given = shown given (event-numbers (refresh-on s st (7 ∷ 7 ∷ [])))
 
 -- the summary of a fresh tracker with the settings 16 2 1 2 4 4 4 beside another
 unfoldable pub agreement-figure : Settings → State → List ℕ → Figure
-agreement-figure s st given = shown given (agreement-numbers (agree (small 2 1) (untracked 0 0) s st))
+agreement-figure s st given = shown given (agreement-numbers (agreement-of (small 2 1) (untracked 0 0) s st))
 
 -- 'C = V accepted, V − 1 refused', and N = 16, the least
 unfoldable pub set-up-edges : List Figure
@@ -94,7 +94,7 @@ activation-edges =
 unfoldable pub event-edges : List Figure
 event-edges =
     event-figure (small 2 1) (untracked 4 0) (21 ∷ 0 ∷ 7 ∷ 7 ∷ 0 ∷ 0 ∷ 0 ∷ 0 ∷ 4 ∷ 0 ∷ 0 ∷ 0 ∷ []) ∷
-    shown (10 ∷ 0 ∷ 0 ∷ 0 ∷ 0 ∷ 0 ∷ 0 ∷ 0 ∷ 0 ∷ 0 ∷ []) (event-numbers (refresh (small 2 1) (untracked 0 0) [])) ∷
+    shown (10 ∷ 0 ∷ 0 ∷ 0 ∷ 0 ∷ 0 ∷ 0 ∷ 0 ∷ 0 ∷ 0 ∷ []) (event-numbers (refresh-on (small 2 1) (untracked 0 0) [])) ∷
     event-figure (small 2 1) (untracked 0 0) (0 ∷ 0 ∷ 7 ∷ 7 ∷ 3 ∷ 4 ∷ 2 ∷ 3 ∷ 1 ∷ 0 ∷ 2 ∷ 2 ∷ []) ∷
     event-figure (small 2 2) (two-places 14 0 1 0 0 1 1) (0 ∷ 1 ∷ 14 ∷ 7 ∷ 2 ∷ 3 ∷ 3 ∷ 3 ∷ 1 ∷ 0 ∷ 2 ∷ 3 ∷ []) ∷
     event-figure (whole 4) (untracked 0 0) (0 ∷ 0 ∷ 7 ∷ 7 ∷ 13 ∷ 15 ∷ 10 ∷ 10 ∷ 1 ∷ 0 ∷ 2 ∷ 10 ∷ []) ∷

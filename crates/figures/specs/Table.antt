@@ -7,7 +7,7 @@ use Rattle.device.specs.Refusal.{Outcome, accepted, refused}
 use Rattle.device.specs.Remap.{physical}
 use Rattle.tracker.specs.declared.Position.{Position}
 use Rattle.tracker.specs.State.{State}
-use Rattle.tracker.specs.Calls.{Refresh-call, Activation-call, set-up, activate, refresh}
+use Rattle.tracker.specs.Calls.{Refresh-call, Activation-call, set-up, activation-on, refresh-on}
 use Rattle.limit.specs.Run.{activation-of, state-after}
 use Rattle.listing.specs.Steps.{start}
 use Rattle.listing.specs.Texts.{listing}
@@ -63,16 +63,16 @@ line-4 = state-after traced (activation-of 5 ∷ activation-of 5 ∷ activation-
 
 -- 'after line 5 it is ..': line 5 is `R`; the 'lent list' has three places that hold 9
 unfoldable pub line-5 : Refresh-call
-line-5 = refresh traced line-4 (9 ∷ 9 ∷ 9 ∷ [])
+line-5 = refresh-on traced line-4 (9 ∷ 9 ∷ 9 ∷ [])
 
 -- line 6, `A    16`, which the trace's output refuses with 9
 unfoldable pub line-6 : Activation-call
-line-6 = activate traced (line-5 .state) 16
+line-6 = activation-on traced (line-5 .state) 16
 
 -- so many activations of 'an interval with T = 4'
 unfoldable pub activations : ℕ → State
 activations zero = begun traced
-activations (suc k) = activate traced (activations k) 8 .state
+activations (suc k) = activation-on traced (activations k) 8 .state
 
 -- the trace's 'input', a line to a row
 unfoldable pub trace-input : List ℕ
@@ -105,8 +105,8 @@ figures =
     shown (0 ∷ 1 ∷ 4 ∷ 9 ∷ 9 ∷ []) (line-5 .refusal ∷ line-5 .count ∷ line-5 .picks) ∷
     shown (3 ∷ 4 ∷ 4 ∷ 5 ∷ 1 ∷ 0 ∷ 2 ∷ 4 ∷ []) (state-numbers (line-5 .state)) ∷
     shown (9 ∷ []) (line-6 .refusal ∷ []) ∷
-    shown (0 ∷ []) (activate traced (activations 3) 8 .refusal ∷ []) ∷
-    shown (22 ∷ []) (activate traced (activations 4) 8 .refusal ∷ []) ∷
+    shown (0 ∷ []) (activation-on traced (activations 3) 8 .refusal ∷ []) ∷
+    shown (22 ∷ []) (activation-on traced (activations 4) 8 .refusal ∷ []) ∷
     bound-figure traced 30 ∷
     bound-figure (settings-of 16 2 1 1 1 1 16) 18 ∷
     bound-figure (settings-of 16 2 1 1 4 2 8) 26 ∷

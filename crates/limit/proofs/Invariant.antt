@@ -18,7 +18,7 @@ use Rattle.summary.specs.Steps.{Summary, empty, besides, activation, picked, so
 use Rattle.summary.proofs.Entries.Picks.{picks-distinct}
 use Rattle.summary.proofs.Steps.Sources.{length-sources-le}
 use Rattle.tracker.specs.Calls.{block-rows, ends-window, victims-in}
-use Rattle.tracker.proofs.Refusals.{Held}
+use Rattle.tracker.proofs.Calls.SoundTests.{Held}
 use Rattle.limit.specs.Exact.{Exact, at-rest, renewed, one-event-more, restored, once}
 use Rattle.limit.specs.Present.{cleared}
 use Rattle.limit.proofs.Exact.{renewed-cases, renewed-from-zero, once-sources}

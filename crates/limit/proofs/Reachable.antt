@@ -14,8 +14,8 @@ use Rattle.summary.specs.Steps.{Summary}
 use Rattle.summary.proofs.Entries.Lengths.{length-rows, length-counts}
 use Rattle.summary.proofs.Tables.{length-table}
 use Rattle.tracker.specs.State.{State, state-of}
-use Rattle.tracker.specs.Calls.{activate, refresh, activation-tests, refresh-tests}
-use Rattle.tracker.proofs.Refusals.{Held, activation-refusals, refresh-refusals}
+use Rattle.tracker.specs.Calls.{activation-on, refresh-on, activation-tests, refresh-tests}
+use Rattle.tracker.proofs.Calls.SoundTests.{Held, activation-refusals, refresh-refusals}
 use Rattle.limit.specs.Run.{Command, activation-of, refresh-into, left-by, state-after, Begun}
 use Rattle.limit.specs.Reachable.{Reached}
 use Rattle.limit.proofs.Run.{state-after-append, begun-accepted, plain-held, state-inv-run}
@@ -34,11 +34,11 @@ reached-call {s} {st} c r =
       leads = ap (λ (x : State). left-by s c x) (r .leads) ∙ sym (state-after-append s (r .calls) (c ∷ []) (r .begun));
     }
 
-pub reached-activation : {s : Settings} {st : State} (row : ℕ) → Reached s st → Reached s (activate s st row .state)
+pub reached-activation : {s : Settings} {st : State} (row : ℕ) → Reached s st → Reached s (activation-on s st row .state)
 unfolding left-by
 reached-activation row r = reached-call (activation-of row) r
 
-pub reached-refresh : {s : Settings} {st : State} (picks : List ℕ) → Reached s st → Reached s (refresh s st picks .state)
+pub reached-refresh : {s : Settings} {st : State} (picks : List ℕ) → Reached s st → Reached s (refresh-on s st picks .state)
 unfolding left-by
 reached-refresh picks r = reached-call (refresh-into picks) r
 

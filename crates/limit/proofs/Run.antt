@@ -19,10 +19,10 @@ use Rattle.device.proofs.Acceptance.{Accepted, accepted-settings as accepted-fa
 use Rattle.summary.specs.Steps.{Summary, empty, activation, picked, event}
 use Rattle.tracker.specs.declared.Position.{Position}
 use Rattle.tracker.specs.State.{State, state-of}
-use Rattle.tracker.specs.Calls.{kept-unless, set-up-tests, set-up, activate, refresh, block-rows, ends-window, next-event, victims-in}
-use Rattle.tracker.proofs.LaidOut.{read-back}
-use Rattle.tracker.proofs.Passed.{open-tables}
-use Rattle.tracker.proofs.Refusals.{Held, activation-refusals, refresh-refusals}
+use Rattle.tracker.specs.Calls.{kept-unless, set-up-tests, set-up, activation-on, refresh-on, block-rows, ends-window, next-event, victims-in}
+use Rattle.tracker.proofs.States.StateOf.{read-back}
+use Rattle.tracker.proofs.Calls.Ready.{open-tables}
+use Rattle.tracker.proofs.Calls.SoundTests.{Held, activation-refusals, refresh-refusals}
 use Rattle.limit.specs.Exact.{Happened, Exact, at-rest, after, after-all, exact}
 use Rattle.limit.specs.Present.{cleared, next-window, present-after-all, present}
 use Rattle.limit.specs.Run.{Command, activation-of, refresh-into, left-by, told-by, state-after, happened, Begun}
@@ -68,7 +68,7 @@ module _ (s : Settings) (ok : first-failed (settings-tests s) ≡ 0) where
   state-inv-refused {e} {a} {sum} i = record { events = e; activations = a; sum = sum; stored = refl; inv = i }
 
   state-inv-activation : (row e a : ℕ) (sum : Summary) (x y : Exact) → Plain-inv s e a sum x y → Call-inv s (activation-of row) (state-of s e a sum) x y
-  unfolding left-by told-by activate kept-unless refuse after next-window state-of
+  unfolding left-by told-by activation-on kept-unless refuse after next-window state-of
   state-inv-activation row e a sum x y i =
       let refusals = activation-refusals s e a sum ok (plain-held i) row in
       split (ltb row (s .rows))
@@ -88,7 +88,7 @@ module _ (s : Settings) (ok : first-failed (settings-tests s) ≡ 0) where
       (λ outside. rw (refusals, outside) (state-inv-refused i))
 
   state-inv-refresh : (picks : List ℕ) (e a : ℕ) (sum : Summary) (x y : Exact) → Plain-inv s e a sum x y → Call-inv s (refresh-into picks) (state-of s e a sum) x y
-  unfolding left-by told-by refresh kept-unless refuse after next-window cleared state-of next-event
+  unfolding left-by told-by refresh-on kept-unless refuse after next-window cleared state-of next-event
   state-inv-refresh picks e a sum x y i =
       let refusals = refresh-refusals s e a sum ok (plain-held i) picks in
       let named = picked (s .volume) sum in

@@ -16,7 +16,7 @@ use Rattle.summary.proofs.Rules.Ceiling.{ceiling-higher}
 use Rattle.summary.proofs.Steps.Event.{Reach}
 use Rattle.summary.specs.Steps.{Summary}
 use Rattle.tracker.specs.Calls.{victims-in}
-use Rattle.tracker.proofs.Refusals.{Held}
+use Rattle.tracker.proofs.Calls.SoundTests.{Held}
 use Rattle.limit.proofs.Block.{below-ascends}
 use Rattle.limit.proofs.Scheme.{Scheme, total-of}
 use Rattle.limit.proofs.Window.{Window}

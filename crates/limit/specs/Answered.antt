@@ -11,7 +11,7 @@ use Rattle.tracker.specs.declared.SetUp.{SetUp}
 use Rattle.tracker.specs.declared.Activation.{Activation}
 use Rattle.tracker.specs.declared.Refreshed.{Refreshed}
 use Rattle.tracker.specs.State.{State}
-use Rattle.tracker.specs.Calls.{set-up, activate, refresh}
+use Rattle.tracker.specs.Calls.{set-up, activation-on, refresh-on}
 use Rattle.tracker.specs.Answers.{given, set-up-call, set-up-outcome, activation-call, activation-accepts, activation-position, refresh-call, refresh-accepts, refresh-count, refresh-position}
 use Rattle.limit.specs.Exact.{Happened, activated, refreshed}
 
@@ -20,6 +20,6 @@ pub data Answered (s : Settings) : State → List Happened → Type 0 where
   -- 'an accepted setting up', whatever the lent tables held: no call yet
   set-up-answered : (r : SetUp) (p : Position) (rows₀ counts₀ rows counts : List ℕ) → set-up-call r rows counts ≡ set-up s rows₀ counts₀ → set-up-outcome r ≡ accepted p → Answered s (given rows counts p) []
   -- an activation of any logical row: the counter is told the row and 'whether the call was accepted'
-  activation-answered : {st : State} {told : List Happened} → Answered s st told → (row : ℕ) (r : Activation) (rows counts : List ℕ) → activation-call r rows counts ≡ activate s st row → Answered s (given rows counts (activation-position r)) (told ++ activated row (activation-accepts r) ∷ [])
+  activation-answered : {st : State} {told : List Happened} → Answered s st told → (row : ℕ) (r : Activation) (rows counts : List ℕ) → activation-call r rows counts ≡ activation-on s st row → Answered s (given rows counts (activation-position r)) (told ++ activated row (activation-accepts r) ∷ [])
   -- an event with any lent list: it is told 'whether the call was accepted' and 'the rows .. from the lent list's front, as many as its answer says'
-  refresh-answered : {st : State} {told : List Happened} → Answered s st told → (list₀ : List ℕ) (r : Refreshed) (rows counts list : List ℕ) → refresh-call r rows counts list ≡ refresh s st list₀ → Answered s (given rows counts (refresh-position r)) (told ++ refreshed (refresh-accepts r) (take (refresh-count r) list) ∷ [])
+  refresh-answered : {st : State} {told : List Happened} → Answered s st told → (list₀ : List ℕ) (r : Refreshed) (rows counts list : List ℕ) → refresh-call r rows counts list ≡ refresh-on s st list₀ → Answered s (given rows counts (refresh-position r)) (told ++ refreshed (refresh-accepts r) (take (refresh-count r) list) ∷ [])

@@ -7,7 +7,7 @@ use Rattle.device.specs.declared.Settings.{Settings}
 use Rattle.bound.specs.Totals.{bound-at, bound-of}
 use Rattle.summary.specs.Steps.{estimate}
 use Rattle.tracker.specs.State.{State, summary-of}
-use Rattle.tracker.specs.Calls.{activate, refresh}
+use Rattle.tracker.specs.Calls.{activation-on, refresh-on}
 use Rattle.limit.specs.Exact.{Happened, exact}
 use Rattle.limit.specs.Present.{present}
 use Rattle.limit.specs.Run.{Command, Begun, state-after, happened}
@@ -32,8 +32,8 @@ Demand-3-of-answers =
 unfoldable pub Never-21 : Type 0
 Never-21 =
     (s : Settings) (st : State) → Begun s st → (calls : List Command) →
-    ((row : ℕ) → activate s (state-after s calls st) row .refusal ≡ 21 → ⊥) ×
-    ((picks : List ℕ) → refresh s (state-after s calls st) picks .refusal ≡ 21 → ⊥)
+    ((row : ℕ) → activation-on s (state-after s calls st) row .refusal ≡ 21 → ⊥) ×
+    ((picks : List ℕ) → refresh-on s (state-after s calls st) picks .refusal ≡ 21 → ⊥)
 
 -- the position's e, 'events so far in this window', is 'the remainder of f by n'
 unfoldable pub Events-modulo : Type 0

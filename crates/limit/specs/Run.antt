@@ -6,7 +6,7 @@ use lib.ListN.{take}
 use Rattle.device.specs.declared.Settings.{Settings}
 use Rattle.device.specs.Refusal.{accepted}
 use Rattle.tracker.specs.State.{State}
-use Rattle.tracker.specs.Calls.{set-up, activate, refresh}
+use Rattle.tracker.specs.Calls.{set-up, activation-on, refresh-on}
 use Rattle.limit.specs.Exact.{Happened, activated, refreshed}
 
 -- a call of the list: an activation with any logical row ('bus row'), or an event with any lent list
@@ -16,15 +16,15 @@ pub data Command : Type 0 where
 
 -- the state that a call leaves
 unfoldable pub left-by : Settings → Command → State → State
-left-by s (activation-of row) st = activate s st row .state
-left-by s (refresh-into picks) st = refresh s st picks .state
+left-by s (activation-of row) st = activation-on s st row .state
+left-by s (refresh-into picks) st = refresh-on s st picks .state
 
 -- what the counter 'is fed' of a call: its row, 'whether the call was accepted, and the rows that an accepted event named: from the lent list's front,
 -- as many as its answer says'
 unfoldable pub told-by : Settings → Command → State → Happened
-told-by s (activation-of row) st = activated row (activate s st row .accepts)
+told-by s (activation-of row) st = activated row (activation-on s st row .accepts)
 told-by s (refresh-into picks) st =
-    let call = refresh s st picks in
+    let call = refresh-on s st picks in
     refreshed (call .accepts) (take (call .count) (call .picks))
 
 -- 'the first call gets the tables and the position that setting up left, each later one those that the call before left'

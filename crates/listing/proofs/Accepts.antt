@@ -12,19 +12,19 @@ use Rattle.device.specs.Refusal.{first-failed, refuse}
 use Rattle.summary.specs.Steps.{picked}
 use Rattle.summary.proofs.Entries.Picks.{length-picks-le}
 use Rattle.tracker.specs.State.{State, summary-of}
-use Rattle.tracker.specs.Calls.{kept-unless, activation-tests, refresh-tests, activate, refresh}
-use Rattle.tracker.proofs.Passed.{activation-refused}
+use Rattle.tracker.specs.Calls.{kept-unless, activation-tests, refresh-tests, activation-on, refresh-on}
+use Rattle.tracker.proofs.Calls.Outcomes.{activation-refused}
 use Rattle.limit.specs.Reachable.{Reached}
 use Rattle.limit.proofs.Reachable.{activation-refused-with, refresh-refused-with}
 
 module _ {s : Settings} {st : State} (r : Reached s st) where
-  pub row-outside : (row : ℕ) → s .rows ≤ row → record { accepts = false; refusal = 9; state = st } ≡ activate s st row
+  pub row-outside : (row : ℕ) → s .rows ≤ row → record { accepts = false; refusal = 9; state = st } ≡ activation-on s st row
   unfolding refuse
   row-outside row h =
       let nine : first-failed (activation-tests s st row) ≡ 9 = activation-refused-with r row ∙ rw (le-ltb row (s .rows) h) in
       activation-refused s st row 9 (sym nine) (λ e. omega arith)
 
-  pub interval-full : (row : ℕ) → row < s .rows → s .interval ≤ st .position .activations → record { accepts = false; refusal = 22; state = st } ≡ activate s st row
+  pub interval-full : (row : ℕ) → row < s .rows → s .interval ≤ st .position .activations → record { accepts = false; refusal = 22; state = st } ≡ activation-on s st row
   unfolding refuse
   interval-full row b h =
       let full : first-failed (activation-tests s st row) ≡ 22 =
@@ -42,13 +42,13 @@ module _ {s : Settings} {st : State} (r : Reached s st) where
 
 -- what an accepted event is, whatever the list held
 pub record Event (s : Settings) (st : State) (picks : List ℕ) : Type 0 where
-  pub free : refresh s st picks .refusal ≡ 0
-  pub counted : refresh s st picks .count ≡ length (picked (s .volume) (summary-of st))
-  pub named : take (refresh s st picks .count) (refresh s st picks .picks) ≡ picked (s .volume) (summary-of st)
+  pub free : refresh-on s st picks .refusal ≡ 0
+  pub counted : refresh-on s st picks .count ≡ length (picked (s .volume) (summary-of st))
+  pub named : take (refresh-on s st picks .count) (refresh-on s st picks .picks) ≡ picked (s .volume) (summary-of st)
 
 module _ {s : Settings} {st : State} (r : Reached s st) where
   pub event-is : (picks : List ℕ) → s .volume ≤ length picks → Event s st picks
-  unfolding refresh kept-unless
+  unfolding refresh-on kept-unless
   event-is picks h =
       let none = event-accepted r picks h in
       let named = picked (s .volume) (summary-of st) in
@@ -59,12 +59,12 @@ module _ {s : Settings} {st : State} (r : Reached s st) where
       }
 
   -- what the lent list held does not matter to the state
-  pub event-leaves : (picks picks′ : List ℕ) → s .volume ≤ length picks → s .volume ≤ length picks′ → refresh s st picks .state ≡ refresh s st picks′ .state
-  unfolding refresh kept-unless
+  pub event-leaves : (picks picks′ : List ℕ) → s .volume ≤ length picks → s .volume ≤ length picks′ → refresh-on s st picks .state ≡ refresh-on s st picks′ .state
+  unfolding refresh-on kept-unless
   event-leaves picks picks′ h h′ = rw (event-accepted r picks h, event-accepted r picks′ h′)
 
   -- nor to the rows that it names
-  pub event-names : (picks picks′ : List ℕ) → s .volume ≤ length picks → s .volume ≤ length picks′ → take (refresh s st picks .count) (refresh s st picks .picks) ≡ take (refresh s st picks′ .count) (refresh s st picks′ .picks)
+  pub event-names : (picks picks′ : List ℕ) → s .volume ≤ length picks → s .volume ≤ length picks′ → take (refresh-on s st picks .count) (refresh-on s st picks .picks) ≡ take (refresh-on s st picks′ .count) (refresh-on s st picks′ .picks)
   event-names picks picks′ h h′ = event-is picks h .named ∙ sym (event-is picks′ h′ .named)
 
 -- at most V rows are named

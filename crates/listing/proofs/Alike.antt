@@ -11,8 +11,8 @@ use Rattle.device.specs.Refusal.{first-failed, refuse, Outcome, accepted, refus
 use Rattle.device.specs.Acceptance.{settings-tests}
 use Rattle.device.proofs.Refusal.{or-later}
 use Rattle.tracker.specs.declared.Position.{Position}
-use Rattle.tracker.specs.Calls.{SetUp-call, tables-long, set-up-tests, set-up, activate, refresh}
-use Rattle.tracker.proofs.Passed.{set-up-tested}
+use Rattle.tracker.specs.Calls.{SetUp-call, tables-long, set-up-tests, set-up, activation-on, refresh-on}
+use Rattle.tracker.proofs.Calls.Tests.{set-up-tested}
 use Rattle.trace.specs.declared.Record.{Record}
 use Rattle.trace.specs.declared.Record.the-variants.{Set, Activate, Refresh, Blank}
 use Rattle.listing.specs.Output.{refusal-line}
@@ -47,10 +47,10 @@ module _ (n m : ℕ) (e : n % 10000000000 ≡ m % 10000000000) where
       let call = set-up s (replicate (s .counters) 0) (replicate (s .counters) 0) in
       set-up-step-alike s call (call .answer)
   record-alike none (Activate row) = refused-alike 11 none
-  record-alike (some t) (Activate row) = rw (answered-alike (activate (t .settings) (t .state) row .refusal) [])
+  record-alike (some t) (Activate row) = rw (answered-alike (activation-on (t .settings) (t .state) row .refusal) [])
   record-alike none Refresh = refused-alike 11 none
   record-alike (some t) Refresh =
-      rw (answered-alike (refresh (t .settings) (t .state) (replicate (t .settings .volume) 0) .refusal))
+      rw (answered-alike (refresh-on (t .settings) (t .state) (replicate (t .settings .volume) 0) .refusal))
   record-alike t Blank = refl
 
   -- any line

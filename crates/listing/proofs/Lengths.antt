@@ -14,7 +14,7 @@ use Rattle.bound.specs.Totals.{bound-of}
 use Rattle.summary.specs.Steps.{picked}
 use Rattle.tracker.specs.declared.Position.{Position}
 use Rattle.tracker.specs.State.{State, summary-of}
-use Rattle.tracker.specs.Calls.{SetUp-call, refresh}
+use Rattle.tracker.specs.Calls.{SetUp-call, refresh-on}
 use Rattle.limit.specs.Reachable.{Reached}
 use Rattle.trace.specs.declared.Record.{Record}
 use Rattle.trace.specs.declared.Record.the-variants.{Set, Activate, Refresh, Blank}
@@ -55,7 +55,7 @@ unfolding answered
 answered-most number zero text h = h
 answered-most number (suc k) text h = omega (arith, refusal-length number (suc k))
 
-names-most : {s : Settings} {st : State} → Reached s st → (e : ℕ) → length (refresh-line e (take (refresh s st (replicate (s .volume) 0) .count) (refresh s st (replicate (s .volume) 0) .picks))) ≤ 110
+names-most : {s : Settings} {st : State} → Reached s st → (e : ℕ) → length (refresh-line e (take (refresh-on s st (replicate (s .volume) 0) .count) (refresh-on s st (replicate (s .volume) 0) .picks))) ≤ 110
 names-most {s} {st} r e =
     rw (event-is r (replicate (s .volume) 0) (list-long (s .volume)) .named)
     (omega (arith, refresh-length e (picked (s .volume) (summary-of st)), names-few s st, volume-most r))

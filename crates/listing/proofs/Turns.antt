@@ -11,10 +11,10 @@ use Rattle.device.specs.Refusal.{first-failed}
 use Rattle.device.proofs.Acceptance.{accepted-settings}
 use Rattle.summary.specs.Steps.{picked}
 use Rattle.tracker.specs.declared.Position.{Position}
-use Rattle.tracker.specs.declared.Refreshed.{Refreshed}
+use Rattle.tracker.specs.declared.Refreshed.the-variants.{Accepted as Refresh-accepted}
 use Rattle.tracker.specs.State.{State, summary-of}
-use Rattle.tracker.specs.Calls.{Refresh-call, activation-tests, activate, refresh}
-use Rattle.tracker.proofs.Passed.{activation-done}
+use Rattle.tracker.specs.Calls.{Refresh-call, activation-tests, activation-on, refresh-on}
+use Rattle.tracker.proofs.Calls.Outcomes.{activation-done}
 use Rattle.tracker.specs.Answers.{given, refresh-call, refresh-count, refresh-position}
 use Rattle.limit.specs.Reachable.{Reached}
 use Rattle.limit.proofs.Reachable.{reached-accepted}
@@ -26,12 +26,12 @@ use Rattle.listing.proofs.Writing.{prints-nothing}
 use Rattle.listing.proofs.Accepts.{event-is, event-names, event-leaves, names-few}
 
 -- a refused activation: the state is as it came
-pub activation-refusal-listed : {before after : List ℕ} {at end : ℕ} (s : Settings) (rows counts : List ℕ) (p : Position) (row line k : ℕ) → record { accepts = false; refusal = suc k; state = given rows counts p } ≡ activate s (given rows counts p) row → Prints before at (refusal-line line (suc k)) after end → Lists (activation-step line s (activate s (given rows counts p) row)) s rows counts p before at after end
+pub activation-refusal-listed : {before after : List ℕ} {at end : ℕ} (s : Settings) (rows counts : List ℕ) (p : Position) (row line k : ℕ) → record { accepts = false; refusal = suc k; state = given rows counts p } ≡ activation-on s (given rows counts p) row → Prints before at (refusal-line line (suc k)) after end → Lists (activation-step line s (activation-on s (given rows counts p) row)) s rows counts p before at after end
 unfolding activation-step stood answered
 activation-refusal-listed s rows counts p row line k call printed = rw (← call) (record { printed = printed; left = refl })
 
 -- an accepted-settings one prints nothing
-pub activation-listed : (s : Settings) (st : State) (row line : ℕ) (rows counts : List ℕ) (p : Position) (before : List ℕ) (at : ℕ) → first-failed (activation-tests s st row) ≡ 0 → given rows counts p ≡ activate s st row .state → at ≤ length before → Lists (activation-step line s (activate s st row)) s rows counts p before at before at
+pub activation-listed : (s : Settings) (st : State) (row line : ℕ) (rows counts : List ℕ) (p : Position) (before : List ℕ) (at : ℕ) → first-failed (activation-tests s st row) ≡ 0 → given rows counts p ≡ activation-on s st row .state → at ≤ length before → Lists (activation-step line s (activation-on s st row)) s rows counts p before at before at
 unfolding activation-step stood answered
 activation-listed s st row line rows counts p before at none left h =
     rw (← activation-done s st row none left) (record { printed = prints-nothing before at h; left = refl })
@@ -42,23 +42,23 @@ volume-most {s} r = accepted-settings s (reached-accepted r) .others .volume .mo
 pub list-long : (n : ℕ) → n ≤ length {A = ℕ} (replicate n 0)
 list-long n = let long : length {A = ℕ} (replicate n 0) ≡ n = length-replicate n 0 in omega arith
 
-module _ {s : Settings} {st : State} (r : Reached s st) (list : List ℕ) (h : s .volume ≤ length list) (answer : Refreshed) (rows counts left : List ℕ) (call : refresh-call answer rows counts left ≡ refresh s st list) (k : ℕ) (ek : k ≡ refresh-count answer) where
+module _ {s : Settings} {st : State} (r : Reached s st) (list : List ℕ) (h : s .volume ≤ length list) (k : ℕ) (p : Position) (rows counts left : List ℕ) (call : refresh-call (Refresh-accepted k p) rows counts left ≡ refresh-on s st list) where
   pub event-few : k ≤ 16
-  unfolding refresh-call
+  unfolding refresh-call refresh-count
   event-few =
       let counted : k ≡ length (picked (s .volume) (summary-of st)) =
-      ek ∙ ap (λ (c : Refresh-call). c .count) call ∙ event-is r list h .counted in
+      ap (λ (c : Refresh-call). c .count) call ∙ event-is r list h .counted in
       omega (arith, names-few s st, volume-most r)
 
-  pub event-listed : {before after : List ℕ} {at end : ℕ} (line : ℕ) (p : Position) → p ≡ refresh-position answer → Prints before at (refresh-line (st .position .events) (take k left)) after end → Lists (refresh-step line s (st .position .events) (refresh s st (replicate (s .volume) 0))) s rows counts p before at after end
-  unfolding refresh-step refresh-call stood answered
-  event-listed {before} {after} {at} {end} line p ep printed =
+  pub event-listed : {before after : List ℕ} {at end : ℕ} (line : ℕ) → Prints before at (refresh-line (st .position .events) (take k left)) after end → Lists (refresh-step line s (st .position .events) (refresh-on s st (replicate (s .volume) 0))) s rows counts p before at after end
+  unfolding refresh-step refresh-call refresh-count refresh-position stood answered
+  event-listed {before} {after} {at} {end} line printed =
       let lent : List ℕ = replicate (s .volume) 0 in
       let long : s .volume ≤ length lent = list-long (s .volume) in
-      let names : take k left ≡ take (refresh s st lent .count) (refresh s st lent .picks) =
-      ap (λ (n : ℕ). take n left) ek ∙ ap (λ (c : Refresh-call). take (c .count) (c .picks)) call ∙ event-names r list lent h long in
-      let state : given rows counts p ≡ refresh s st lent .state =
-      ap (λ (q : Position). given rows counts q) ep ∙ ap (λ (c : Refresh-call). c .state) call ∙ event-leaves r list lent h long in
+      let names : take k left ≡ take (refresh-on s st lent .count) (refresh-on s st lent .picks) =
+      ap (λ (c : Refresh-call). take (c .count) (c .picks)) call ∙ event-names r list lent h long in
+      let state : given rows counts p ≡ refresh-on s st lent .state =
+      ap (λ (c : Refresh-call). c .state) call ∙ event-leaves r list lent h long in
       record {
         printed = rw (event-is r lent long .free) (subst (λ (text : List ℕ). Prints before at (refresh-line (st .position .events) text) after end) names printed);
         left = ap (λ (x : State). some (record { settings = s; state = x })) (sym state);

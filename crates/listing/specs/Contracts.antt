@@ -11,7 +11,7 @@ use Rattle.device.specs.Refusal.{Outcome, accepted, refused}
 use Rattle.tracker.specs.declared.Position.{Position}
 use Rattle.tracker.specs.State.{State}
 use Rattle.tracker.specs.declared.SetUp.{SetUp}
-use Rattle.tracker.specs.Calls.{set-up, refresh}
+use Rattle.tracker.specs.Calls.{set-up, refresh-on}
 use Rattle.tracker.specs.Answers.{given, set-up-call}
 use Rattle.listing.specs.declared.Place.{Place}
 use Rattle.listing.specs.declared.Listed.{Listed}
@@ -54,7 +54,7 @@ front s rows counts p = given (take (s .counters) (now rows)) (take (s .counters
 
 -- the line of an event after so many in its window: it is lent a list of V places
 abbrev pub event-step : ℕ → Settings → ℕ → State → Step
-event-step line s e st = refresh-step line s e (refresh s st (replicate (s .volume) 0))
+event-step line s e st = refresh-step line s e (refresh-on s st (replicate (s .volume) 0))
 
 -- setting up on the first C places of lent tables
 abbrev pub Sets-up-front : Settings → Lent → Lent → SetUp → Type 0

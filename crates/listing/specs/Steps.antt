@@ -8,7 +8,7 @@ use Rattle.device.specs.Refusal.{Outcome, accepted, refused}
 use Rattle.bound.specs.Totals.{bound-of}
 use Rattle.tracker.specs.declared.Position.{Position}
 use Rattle.tracker.specs.State.{State}
-use Rattle.tracker.specs.Calls.{SetUp-call, Activation-call, Refresh-call, set-up, activate, refresh}
+use Rattle.tracker.specs.Calls.{SetUp-call, Activation-call, Refresh-call, set-up, activation-on, refresh-on}
 use Rattle.trace.specs.declared.Record.{Record}
 use Rattle.trace.specs.declared.Record.the-variants.{Set, Activate, Refresh, Blank}
 use Rattle.listing.specs.Output.{bound-line, refresh-line, refusal-line}
@@ -72,11 +72,11 @@ record-step number t (Set s) =
     let call = set-up s (replicate (s .counters) 0) (replicate (s .counters) 0) in
     set-up-step number s call (call .answer)
 record-step number none (Activate row) = refused-step number 11 none
-record-step number (some t) (Activate row) = activation-step number (t .settings) (activate (t .settings) (t .state) row)
+record-step number (some t) (Activate row) = activation-step number (t .settings) (activation-on (t .settings) (t .state) row)
 record-step number none Refresh = refused-step number 11 none
 record-step number (some t) Refresh =
     refresh-step number (t .settings) (t .state .position .events)
-    (refresh (t .settings) (t .state) (replicate (t .settings .volume) 0))
+    (refresh-on (t .settings) (t .state) (replicate (t .settings .volume) 0))
 record-step number t Blank = record { prints = []; tracker = t }
 
 -- a line as it was read: its record or its refusal

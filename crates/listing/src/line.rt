@@ -6,39 +6,18 @@ use crate::print;
 use bound::Answer;
 use device::Settings;
 use tracker::Position;
-use tracker::Refreshed;
 use tracker::SetUp;
 ghost use mathlib.Core.Path.{_≡_};
 ghost use Prim.Native.Nat.{_+_, _≤_};
 ghost use lib.ListN.{length};
 ghost use Rattle.bound.specs.Answers.{outcome, Small};
 ghost use Rattle.trace.specs.declared.Record.the-variants.{Set};
-ghost use Rattle.tracker.specs.Calls.{activate as activated};
-ghost use Rattle.tracker.specs.Answers.{lent, refresh-count, refresh-position};
+ghost use Rattle.tracker.specs.Calls.{activation-on};
+ghost use Rattle.tracker.specs.Answers.{lent};
 ghost use Rattle.limit.specs.Reachable.{Reached};
 ghost use Rattle.listing.specs.Steps.{record-step, activation-step};
 ghost use Rattle.listing.specs.Memory.{memory-of, carried};
 ghost use Rattle.listing.specs.Contracts.{Prints-into, settings-line, front, event-step, Lists-whole, Lists-front, Keeps-behind, Sets-up-front, Lists-line};
-
-// The number picked.
-fn count_of(answer: Refreshed) -> u32
-    ensures { λ r. ⌜ r ≡ refresh-count answer ⌝ }
-{
-    match answer {
-        Refreshed::Accepted(count, _) => count,
-        Refreshed::Refused(_, _) => 0,
-    }
-}
-
-// The position after an event.
-fn position_of(answer: Refreshed) -> Position
-    ensures { λ r. ⌜ r ≡ refresh-position answer ⌝ }
-{
-    match answer {
-        Refreshed::Accepted(_, p) => p,
-        Refreshed::Refused(_, p) => p,
-    }
-}
 
 // An activation line, on tables of C places.
 fn list_activation(
@@ -52,7 +31,7 @@ fn list_activation(
     at: usize,
 ) -> Moved
     requires { ⌜ Reached s (lent rows counts p) × (at + 200 ≤ length (now out)) ⌝ }
-    ensures { λ r. ⌜ Lists-whole (activation-step line s (activated s (lent (rows .entry) (counts .entry) p) row)) s rows counts out at r ⌝ }
+    ensures { λ r. ⌜ Lists-whole (activation-step line s (activation-on s (lent (rows .entry) (counts .entry) p) row)) s rows counts out at r ⌝ }
 {
     if s.rows <= row {
         let end = print::print_refusal(out, at, line, 9);
@@ -80,9 +59,9 @@ fn list_event(
     ensures { λ r. ⌜ Lists-whole (event-step line s (p .events) (lent (rows .entry) (counts .entry) p)) s rows counts out at r ⌝ }
 {
     let mut list = [0; 16];
-    let answer = tracker::refresh_accepted(s, rows, counts, p, &mut list);
-    let position = position_of(answer);
-    let end = print::print_refresh(out, at, p.events, &list, count_of(answer) as usize);
+    let after = tracker::refresh_accepted(s, rows, counts, p, &mut list);
+    let position = after.position;
+    let end = print::print_refresh(out, at, p.events, &list, after.count as usize);
     Moved { position, end }
 }
 
@@ -98,7 +77,7 @@ pub fn front_activation(
     at: usize,
 ) -> Moved
     requires { ⌜ Reached s (front s rows counts p) × (at + 200 ≤ length (now out)) × (s .counters ≤ length (now rows)) × (s .counters ≤ length (now counts)) ⌝ }
-    ensures { λ r. ⌜ Lists-front (activation-step line s (activated s (front s (rows .entry) (counts .entry) p) row)) s rows counts out at r ⌝ }
+    ensures { λ r. ⌜ Lists-front (activation-step line s (activation-on s (front s (rows .entry) (counts .entry) p) row)) s rows counts out at r ⌝ }
     ensures { λ r. ⌜ Keeps-behind s rows counts ⌝ }
 {
     let c = s.counters as usize;

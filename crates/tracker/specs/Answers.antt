@@ -1,10 +1,12 @@
--- What the calls' answers say: for each case the paper's number and the values it carries.
+-- What the calls' answers say: 'a definition gives this paper's number and values for every case of the enum'. The number is 0 where a call is
+-- accepted; otherwise 'every refusal hands back its number, and the position and all lent memory as they came'.
 use Prim.Native.Nat.{ℕ}
 use mathlib.Core.Bool.{Bool, true, false}
 use mathlib.Core.List.{List}
-use denote.Ref.{RefT, now}
+use denote.Ref.{now}
 use denote.Triple.Both.{Both}
 use Rattle.device.specs.Refusal.{Outcome, accepted, refused}
+use Rattle.summary.specs.Contracts.{Slice}
 use Rattle.tracker.specs.declared.Position.{Position}
 use Rattle.tracker.specs.State.{State}
 use Rattle.tracker.specs.Calls.{SetUp-call, Activation-call, Refresh-call}
@@ -14,52 +16,60 @@ use Rattle.tracker.specs.declared.Activation.{Activation}
 use Rattle.tracker.specs.declared.Activation.the-variants.{Accepted as Activation-accepted, Refused as Activation-refused}
 use Rattle.tracker.specs.declared.Refreshed.{Refreshed}
 use Rattle.tracker.specs.declared.Refreshed.the-variants.{Accepted as Refresh-accepted, Refused as Refresh-refused}
+use Rattle.tracker.specs.declared.AfterEvent.{AfterEvent}
 use Rattle.tracker.specs.declared.Agreement.{Agreement}
 use Rattle.tracker.specs.declared.Agreement.the-variants.{Same, Refused as Agreement-refused}
 
+-- setting up: the position to begin with; 'a refused setting up has no position to hand back'
 unfoldable pub set-up-outcome : SetUp → Outcome Position
 set-up-outcome (Ready p) = accepted p
 set-up-outcome (SetUp-refused k) = refused k
 
--- whether it is accepted; the refusal, 0 where it is; the position left
+-- an activation: 'whether the call was accepted'
 unfoldable pub activation-accepts : Activation → Bool
 activation-accepts (Activation-accepted p) = true
 activation-accepts (Activation-refused k p) = false
 
+-- its number ('every refusal hands back its number')
 unfoldable pub activation-refusal : Activation → ℕ
 activation-refusal (Activation-accepted p) = 0
 activation-refusal (Activation-refused k p) = k
 
+-- the position that it leaves, as it came where it is refused
 unfoldable pub activation-position : Activation → Position
 activation-position (Activation-accepted p) = p
 activation-position (Activation-refused k p) = p
 
--- whether it is accepted; the refusal, 0 where it is; the number picked; the position left
+-- an event: 'whether the call was accepted'
 unfoldable pub refresh-accepts : Refreshed → Bool
 refresh-accepts (Refresh-accepted v p) = true
 refresh-accepts (Refresh-refused k p) = false
 
+-- its number
 unfoldable pub refresh-refusal : Refreshed → ℕ
 refresh-refusal (Refresh-accepted v p) = 0
 refresh-refusal (Refresh-refused k p) = k
 
+-- 'the number picked', 0 where it is refused
 unfoldable pub refresh-count : Refreshed → ℕ
 refresh-count (Refresh-accepted v p) = v
 refresh-count (Refresh-refused k p) = 0
 
+-- the position that it leaves
 unfoldable pub refresh-position : Refreshed → Position
 refresh-position (Refresh-accepted v p) = p
 refresh-position (Refresh-refused k p) = p
 
+-- whether 'two summaries agree', or the refusal
 unfoldable pub agreement-outcome : Agreement → Outcome Bool
 agreement-outcome (Same b) = accepted b
 agreement-outcome (Agreement-refused k) = refused k
 
--- the state that the caller lends
+-- 'the caller lends two number tables': the state that they make with a position
 unfoldable pub given : List ℕ → List ℕ → Position → State
 given rows counts p = record { rows = rows; counts = counts; position = p }
 
--- a call's answer with what it left in the lent memory
+-- a call's answer with what it left in the lent tables and, of an event, in the 'lent list'
 unfoldable pub set-up-call : SetUp → List ℕ → List ℕ → SetUp-call
 set-up-call r rows counts = record { answer = set-up-outcome r; rows = rows; counts = counts }
 
@@ -81,13 +91,11 @@ refresh-call r rows counts picks =
       picks = picks;
     }
 
--- the same of a call's parameters: what the caller lent, and a call's answer with what it left there
-abbrev pub Slice : Type 0
-Slice = RefT (List ℕ)
-
+-- the same of a call's parameters: the state that it is lent
 abbrev pub lent : Slice → Slice → Position → State
 lent rows counts p = given (now rows) (now counts) p
 
+-- its answer with what it left there: setting up, an activation, an event, and an event that no test refuses
 abbrev pub set-up-left : SetUp → Both Slice Slice → Both Slice Slice → SetUp-call
 set-up-left r rows counts = set-up-call r (now (rows .exit)) (now (counts .exit))
 
@@ -95,4 +103,7 @@ abbrev pub activation-left : Activation → Both Slice Slice → Both Slice Slic
 activation-left r rows counts = activation-call r (now (rows .exit)) (now (counts .exit))
 
 abbrev pub refresh-left : Refreshed → Both Slice Slice → Both Slice Slice → Both Slice Slice → Refresh-call
-refresh-left r rows counts list = refresh-call r (now (rows .exit)) (now (counts .exit)) (now (list .exit))
+refresh-left r rows counts picks = refresh-call r (now (rows .exit)) (now (counts .exit)) (now (picks .exit))
+
+abbrev pub event-left : AfterEvent → Both Slice Slice → Both Slice Slice → Both Slice Slice → Refresh-call
+event-left r rows counts picks = refresh-left (Refresh-accepted (r .count) (r .position)) rows counts picks

@@ -1,9 +1,9 @@
 -- The calls on raw state: the refusals in document 01's order, and what each call leaves, refused or not.
 use Prim.Native.Nat.{ℕ, zero, suc, _+_, _-_, _*_, min}
-use mathlib.Core.Bool.{Bool, true, false, _&&_, cond}
+use mathlib.Core.Bool.{Bool, true, _&&_, cond}
 use mathlib.Core.List.{List, [], _∷_, _++_}
 use lib.Dec.{leb, ltb, eqb}
-use lib.ListN.{length, drop, replicate}
+use lib.ListN.{length, drop}
 use Rattle.device.specs.declared.Settings.{Settings}
 use Rattle.device.specs.Refusal.{Test, unless, first-failed, Outcome, accepted, tested}
 use Rattle.device.specs.Acceptance.{settings-tests}
@@ -86,8 +86,8 @@ pub record Activation-call : Type 0 where
   pub refusal : ℕ
   pub state : State
 
-unfoldable pub activate : Settings → State → ℕ → Activation-call
-activate s st row =
+unfoldable pub activation-on : Settings → State → ℕ → Activation-call
+activation-on s st row =
     let k = first-failed (activation-tests s st row) in
     record {
       accepts = eqb k 0;
@@ -106,8 +106,8 @@ pub record Refresh-call : Type 0 where
   pub state : State
   pub picks : List ℕ
 
-unfoldable pub refresh : Settings → State → List ℕ → Refresh-call
-refresh s st picks =
+unfoldable pub refresh-on : Settings → State → List ℕ → Refresh-call
+refresh-on s st picks =
     let k = first-failed (refresh-tests s st picks) in
     let e = st .position .events in
     let named = picked (s .volume) (summary-of st) in
@@ -128,7 +128,7 @@ same-estimates zero a b = true
 same-estimates (suc row) a b = eqb (estimate a row) (estimate b row) && same-estimates row a b
 
 -- 'two summaries agree when N is the same and every row has the same estimate in both'
-unfoldable pub agree : Settings → State → Settings → State → Outcome Bool
-agree s st s′ st′ =
+unfoldable pub agreement-of : Settings → State → Settings → State → Outcome Bool
+agreement-of s st s′ st′ =
     tested (first-failed (agreement-tests s st s′ st′))
     (accepted (eqb (s .rows) (s′ .rows) && same-estimates (s .rows) (summary-of st) (summary-of st′)))

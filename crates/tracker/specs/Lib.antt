@@ -2,4 +2,4 @@
 pub mod State
 pub mod Calls
 pub mod Answers
-pub mod Walk
+pub mod Contracts

@@ -1,6 +1,6 @@
 -- The state that the caller lends: two tables and a position, the summary that they hold, and the rules of a valid state.
 use Prim.Native.Nat.{ℕ, suc}
-use mathlib.Core.Bool.{Bool, true, false, _&&_}
+use mathlib.Core.Bool.{Bool, true, _&&_}
 use mathlib.Core.List.{List, [], _∷_}
 use lib.Dec.{leb, ltb, eqb}
 use lib.ListN.{length, take, drop}
@@ -15,6 +15,10 @@ pub record State : Type 0 where
   pub rows : List ℕ
   pub counts : List ℕ
   pub position : Position
+
+-- no count and no spillover of a valid state 'exceeds 2,000,000,000'
+abbrev pub most-count : ℕ
+most-count = 2000000000
 
 -- the summary that a state holds
 unfoldable pub summary-of : State → Summary
@@ -44,11 +48,11 @@ unfoldable pub ascending : ℕ → ℕ → List ℕ → Bool
 ascending low high [] = true
 ascending low high (row ∷ rows) = leb low row && ltb row high && ascending (suc row) high rows
 
--- no count 'is 0 or below the spill' or 'exceeds 2,000,000,000'
+-- no count 'is 0 or below the spill' or too high
 unfoldable pub counts-allowed : ℕ → List ℕ → Bool
 counts-allowed spillover [] = true
 counts-allowed spillover (count ∷ counts) =
-    leb 1 count && leb spillover count && leb count 2000000000 && counts-allowed spillover counts
+    leb 1 count && leb spillover count && leb count most-count && counts-allowed spillover counts
 
 -- the rules of a valid state, of which 21 is the breach
 unfoldable pub valid : Settings → State → Bool
@@ -60,4 +64,4 @@ valid s st =
     zeros (drop (st .position .tracked) (st .rows)) &&
     zeros (drop (st .position .tracked) (st .counts)) &&
     counts-allowed (st .position .spillover) (take (st .position .tracked) (st .counts)) &&
-    leb (st .position .spillover) 2000000000
+    leb (st .position .spillover) most-count

@@ -8,11 +8,12 @@ ghost use Prim.Native.Nat.{_-_, _≤_, _<_};
 ghost use lib.ListN.{length, take};
 ghost use Rattle.device.specs.Victims.{rows-between};
 ghost use Rattle.summary.specs.Steps.{spread, besides, taken-out, cleared-if, event};
-ghost use Rattle.summary.specs.Rules.{Room, Below, Ordered};
+ghost use Rattle.summary.specs.Rules.{Below, Ordered};
 ghost use Rattle.summary.specs.Contracts.{summary, places, Tracks, Turns, Names};
 ghost use Rattle.tracker.specs.Calls.{victims-in, block-rows, ends-window};
+ghost use Rattle.tracker.specs.Contracts.{Room-for, Ranges};
 
-// The picked rows are named at the list's front and dropped, and so are the block's.
+// The picked rows are named at the front of the lent picks and dropped, and so are the block's.
 fn take_out(
     s: Settings,
     rows: &mut [u32],
@@ -20,14 +21,14 @@ fn take_out(
     t: Tally,
     low: u32,
     high: u32,
-    list: &mut [u32],
+    picks: &mut [u32],
 ) -> Picked
     requires { ⌜ Tracks rows counts t ⌝ }
-    requires { ⌜ s .volume ≤ length (now list) ⌝ }
-    ensures { λ r. ⌜ Names list (s .volume) (summary (rows .entry) (counts .entry) t) (r .count) ⌝ }
+    requires { ⌜ s .volume ≤ length (now picks) ⌝ }
+    ensures { λ r. ⌜ Names picks (s .volume) (summary (rows .entry) (counts .entry) t) (r .count) ⌝ }
     ensures { λ r. ⌜ Turns rows counts t (taken-out (s .volume) (rows-between low high)) (r .tally) ⌝ }
 {
-    let picked = summary::pick(rows, counts, t, s.volume as usize, list);
+    let picked = summary::pick(rows, counts, t, s.volume as usize, picks);
     let kept = picked.tally;
     let rest = summary::drop_run(rows, counts, kept, low, high);
     Picked {
@@ -53,71 +54,71 @@ fn clear_if(last: bool, rows: &mut [u32], counts: &mut [u32], t: Tally) -> Tally
     }
 }
 
-// The first rows of a list disturb their victims, in the list's order.
-fn spread_list(
+// The picked rows, so many at the front of picks, disturb their victims in pick order.
+fn spread_picks(
     s: Settings,
     rows: &mut [u32],
     counts: &mut [u32],
     t: Tally,
-    list: &[u32],
+    picks: &[u32],
     used: usize,
 ) -> Tally
     requires { ⌜ Tracks rows counts t ⌝ }
-    requires { ⌜ (s .«blast_diameter» ≤ 4) × (used ≤ 16) × (used ≤ length (now list)) × Below 65536 (take used (now list)) ⌝ }
-    requires { ⌜ Room 2000000000 (summary rows counts t) ⌝ }
-    ensures { λ r. ⌜ Turns rows counts t (spread (places rows) (victims-in s) (take used (now (list .entry)))) r ⌝ }
+    requires { ⌜ (s .«blast_diameter» ≤ 4) × (used ≤ 16) × (used ≤ length (now picks)) × Below 65536 (take used (now picks)) ⌝ }
+    requires { ⌜ Room-for 192 (summary rows counts t) ⌝ }
+    ensures { λ r. ⌜ Turns rows counts t (spread (places rows) (victims-in s) (take used (now (picks .entry)))) r ⌝ }
 {
     let mut left = t;
     let mut i: usize = 0;
     while i < used {
-        left = victims::disturb_victims(s, rows, counts, left, list[i]);
+        left = victims::disturb_victims(s, rows, counts, left, picks[i]);
         i += 1;
     }
     left
 }
 
-// A row disturbs its victims unless it is among the first of a list.
+// A row disturbs its victims unless it is one of the picked.
 fn spread_unlisted(
     s: Settings,
     rows: &mut [u32],
     counts: &mut [u32],
     t: Tally,
-    list: &[u32],
+    picks: &[u32],
     used: usize,
     row: u32,
 ) -> Tally
     requires { ⌜ Tracks rows counts t ⌝ }
-    requires { ⌜ (s .«blast_diameter» ≤ 4) × (row < 65536) × (used ≤ length (now list)) ⌝ }
-    requires { ⌜ Room 3999999000 (summary rows counts t) ⌝ }
-    ensures { λ r. ⌜ Turns rows counts t (spread (places rows) (victims-in s) (besides (take used (now (list .entry))) (row ∷ []))) r ⌝ }
+    requires { ⌜ (s .«blast_diameter» ≤ 4) × (row < 65536) × (used ≤ length (now picks)) ⌝ }
+    requires { ⌜ Room-for 128 (summary rows counts t) ⌝ }
+    ensures { λ r. ⌜ Turns rows counts t (spread (places rows) (victims-in s) (besides (take used (now (picks .entry))) (row ∷ []))) r ⌝ }
 {
-    if summary::is_listed(list, used, row) {
+    if summary::is_listed(picks, used, row) {
         t
     } else {
         victims::disturb_victims(s, rows, counts, t, row)
     }
 }
 
-// The rows of a run that are not among the first of a list disturb their victims, ascending.
+// The rows of a run that are not picked disturb their victims, ascending.
 fn spread_run(
     s: Settings,
     rows: &mut [u32],
     counts: &mut [u32],
     t: Tally,
-    list: &[u32],
+    picks: &[u32],
     used: usize,
     low: u32,
     high: u32,
 ) -> Tally
     requires { ⌜ Tracks rows counts t ⌝ }
-    requires { ⌜ (s .«blast_diameter» ≤ 4) × (used ≤ length (now list)) × (high ≤ 65536) × (high - low ≤ 64) ⌝ }
-    requires { ⌜ Room 2000000100 (summary rows counts t) ⌝ }
-    ensures { λ r. ⌜ Turns rows counts t (spread (places rows) (victims-in s) (besides (take used (now (list .entry))) (rows-between low high))) r ⌝ }
+    requires { ⌜ (s .«blast_diameter» ≤ 4) × (used ≤ length (now picks)) × (high ≤ 65536) × (high - low ≤ 64) ⌝ }
+    requires { ⌜ Room-for 384 (summary rows counts t) ⌝ }
+    ensures { λ r. ⌜ Turns rows counts t (spread (places rows) (victims-in s) (besides (take used (now (picks .entry))) (rows-between low high))) r ⌝ }
 {
     let mut left = t;
     let mut row = low;
     while row < high {
-        left = spread_unlisted(s, rows, counts, left, list, used, row);
+        left = spread_unlisted(s, rows, counts, left, picks, used, row);
         row += 1;
     }
     left
@@ -130,21 +131,21 @@ pub fn event_tables(
     counts: &mut [u32],
     t: Tally,
     e: u32,
-    list: &mut [u32],
+    picks: &mut [u32],
 ) -> Picked
     requires { ⌜ Tracks rows counts t ⌝ }
-    requires { ⌜ (s .«blast_diameter» ≤ 4) × (s .rows ≤ 65536) × (s .volume ≤ 16) × (s .block ≤ 64) × (1 ≤ s .window) × (e ≤ 8192) × (s .volume ≤ length (now list)) ⌝ }
-    requires { ⌜ Room 2000000000 (summary rows counts t) × Ordered (s .rows) 0 (summary rows counts t .entries) ⌝ }
-    ensures { λ r. ⌜ Names list (s .volume) (summary (rows .entry) (counts .entry) t) (r .count) ⌝ }
+    requires { ⌜ Ranges s e (length (now picks)) ⌝ }
+    requires { ⌜ Room-for 448 (summary rows counts t) × Ordered (s .rows) 0 (summary rows counts t .entries) ⌝ }
+    ensures { λ r. ⌜ Names picks (s .volume) (summary (rows .entry) (counts .entry) t) (r .count) ⌝ }
     ensures { λ r. ⌜ Turns rows counts t (event (places rows) (victims-in s) (s .volume) (block-rows s e) (ends-window s e)) (r .tally) ⌝ }
 {
     let low = e * s.block;
     let high = victims::smaller(low + s.block, s.rows);
-    let taken = take_out(s, rows, counts, t, low, high, list);
+    let taken = take_out(s, rows, counts, t, low, high, picks);
     let rest = taken.tally;
     let begun = clear_if(e == s.window - 1, rows, counts, rest);
-    let named = spread_list(s, rows, counts, begun, list, taken.count);
-    let after = spread_run(s, rows, counts, named, list, taken.count, low, high);
+    let named = spread_picks(s, rows, counts, begun, picks, taken.count);
+    let after = spread_run(s, rows, counts, named, picks, taken.count, low, high);
     Picked {
         count: taken.count,
         tally: after,

@@ -11,8 +11,8 @@ ghost use mathlib.Core.Path.{_≡_};
 ghost use mathlib.Core.Bool.{_&&_};
 ghost use Prim.Native.Nat.{_≤_};
 ghost use Rattle.device.specs.Refusal.{first-failed};
-ghost use Rattle.tracker.specs.Calls.{next-event as event-after, tables-long, set-up-tests, activation-tests, refresh-tests, agreement-tests, set-up, activate as activated, refresh as refreshed, agree as agreed};
-ghost use Rattle.tracker.specs.Answers.{lent, set-up-left, activation-left, refresh-left, agreement-outcome};
+ghost use Rattle.tracker.specs.Calls.{next-event, tables-long, set-up-tests, activation-tests, refresh-tests, agreement-tests, set-up, activation-on, refresh-on, agreement-of};
+ghost use Rattle.tracker.specs.Answers.{lent, set-up-left, activation-left, refresh-left, event-left, agreement-outcome};
 
 // Where a tracker stands: events so far in this window, activations since the last event, tracked rows, spillover.
 pub struct Position {
@@ -38,6 +38,12 @@ pub enum Activation {
 pub enum Refreshed {
     Accepted(u32, Position),
     Refused(u32, Position),
+}
+
+// What a refresh event that is accepted leaves: the number picked and the position after it.
+pub struct AfterEvent {
+    pub count: u32,
+    pub position: Position,
 }
 
 // What agreement answers: yes or no, or the refusal.
@@ -83,14 +89,14 @@ fn activation_refusal(s: Settings, rows: &[u32], counts: &[u32], p: Position, ro
 }
 
 // The refusal of a refresh event, or 0.
-fn refresh_refusal(s: Settings, rows: &[u32], counts: &[u32], p: Position, list: &[u32]) -> u32
-    ensures { λ r. ⌜ r ≡ first-failed (refresh-tests s (lent (rows .entry) (counts .entry) p) (now (list .entry))) ⌝ }
+fn refresh_refusal(s: Settings, rows: &[u32], counts: &[u32], p: Position, picks: &[u32]) -> u32
+    ensures { λ r. ⌜ r ≡ first-failed (refresh-tests s (lent (rows .entry) (counts .entry) p) (now (picks .entry))) ⌝ }
 {
     let k = set_up_refusal(s, rows, counts);
     if k != 0 {
         return k;
     }
-    if list.len() < s.volume as usize {
+    if picks.len() < s.volume as usize {
         return 10;
     }
     device::refuse_unless(state::valid_state(s, rows, counts, p), 21, 0)
@@ -123,7 +129,7 @@ pub fn activate_accepted(
     row: u32,
 ) -> Position
     requires { ⌜ first-failed (activation-tests s (lent rows counts p) row) ≡ 0 ⌝ }
-    ensures { λ r. ⌜ lent (rows .exit) (counts .exit) r ≡ activated s (lent (rows .entry) (counts .entry) p) row .state ⌝ }
+    ensures { λ r. ⌜ lent (rows .exit) (counts .exit) r ≡ activation-on s (lent (rows .entry) (counts .entry) p) row .state ⌝ }
 {
     let t = Tally {
         tracked: p.tracked as usize,
@@ -147,7 +153,7 @@ pub fn activate(
     p: Position,
     row: u32,
 ) -> Activation
-    ensures { λ r. ⌜ activation-left r rows counts ≡ activated s (lent (rows .entry) (counts .entry) p) row ⌝ }
+    ensures { λ r. ⌜ activation-left r rows counts ≡ activation-on s (lent (rows .entry) (counts .entry) p) row ⌝ }
 {
     let k = activation_refusal(s, rows, counts, p, row);
     if k != 0 {
@@ -159,7 +165,7 @@ pub fn activate(
 // The events in the window after one more.
 fn next_event(s: Settings, e: u32) -> u32
     requires { ⌜ (1 ≤ s .window) × (e ≤ 8192) ⌝ }
-    ensures { λ r. ⌜ r ≡ event-after s e ⌝ }
+    ensures { λ r. ⌜ r ≡ next-event s e ⌝ }
 {
     if e == s.window - 1 { 0 } else { e + 1 }
 }
@@ -170,43 +176,45 @@ pub fn refresh_accepted(
     rows: &mut [u32],
     counts: &mut [u32],
     p: Position,
-    list: &mut [u32],
-) -> Refreshed
-    requires { ⌜ first-failed (refresh-tests s (lent rows counts p) (now list)) ≡ 0 ⌝ }
-    ensures { λ r. ⌜ refresh-left r rows counts list ≡ refreshed s (lent (rows .entry) (counts .entry) p) (now (list .entry)) ⌝ }
+    picks: &mut [u32],
+) -> AfterEvent
+    requires { ⌜ first-failed (refresh-tests s (lent rows counts p) (now picks)) ≡ 0 ⌝ }
+    ensures { λ r. ⌜ event-left r rows counts picks ≡ refresh-on s (lent (rows .entry) (counts .entry) p) (now (picks .entry)) ⌝ }
 {
     let t = Tally {
         tracked: p.tracked as usize,
         spillover: p.spillover,
     };
-    let picked = event::event_tables(s, rows, counts, t, p.events, list);
+    let picked = event::event_tables(s, rows, counts, t, p.events, picks);
     let after = picked.tally;
-    Refreshed::Accepted(
-        picked.count as u32,
-        Position {
+    AfterEvent {
+        count: picked.count as u32,
+        position: Position {
             events: next_event(s, p.events),
             activations: 0,
             tracked: after.tracked as u32,
             spillover: after.spillover,
         },
-    )
+    }
 }
 
-// A refresh event; the picked rows come at the list's front.
+// A refresh event; the picked rows come at the front of the lent picks.
 pub fn refresh(
     s: Settings,
     rows: &mut [u32],
     counts: &mut [u32],
     p: Position,
-    list: &mut [u32],
+    picks: &mut [u32],
 ) -> Refreshed
-    ensures { λ r. ⌜ refresh-left r rows counts list ≡ refreshed s (lent (rows .entry) (counts .entry) p) (now (list .entry)) ⌝ }
+    ensures { λ r. ⌜ refresh-left r rows counts picks ≡ refresh-on s (lent (rows .entry) (counts .entry) p) (now (picks .entry)) ⌝ }
 {
-    let k = refresh_refusal(s, rows, counts, p, list);
+    let k = refresh_refusal(s, rows, counts, p, picks);
     if k != 0 {
         return Refreshed::Refused(k, p);
     }
-    refresh_accepted(s, rows, counts, p, list)
+    let after = refresh_accepted(s, rows, counts, p, picks);
+    let position = after.position;
+    Refreshed::Accepted(after.count, position)
 }
 
 // The refusal of agreement, or 0.
@@ -253,7 +261,7 @@ pub fn agree(
     counts2: &[u32],
     p2: Position,
 ) -> Agreement
-    ensures { λ r. ⌜ agreement-outcome r ≡ agreed s (lent (rows .entry) (counts .entry) p) s2 (lent (rows2 .entry) (counts2 .entry) p2) ⌝ }
+    ensures { λ r. ⌜ agreement-outcome r ≡ agreement-of s (lent (rows .entry) (counts .entry) p) s2 (lent (rows2 .entry) (counts2 .entry) p2) ⌝ }
 {
     let k = agreement_refusal(s, rows, counts, p, s2, rows2, counts2, p2);
     if k != 0 {
@@ -262,15 +270,13 @@ pub fn agree(
     if s.rows != s2.rows {
         return Agreement::Same(false);
     }
-    Agreement::Same(estimates::same_estimates(
-        rows,
-        counts,
-        p.tracked as usize,
-        p.spillover,
-        rows2,
-        counts2,
-        p2.tracked as usize,
-        p2.spillover,
-        s.rows,
-    ))
+    let t = Tally {
+        tracked: p.tracked as usize,
+        spillover: p.spillover,
+    };
+    let t2 = Tally {
+        tracked: p2.tracked as usize,
+        spillover: p2.spillover,
+    };
+    Agreement::Same(estimates::same_estimates(rows, counts, t, rows2, counts2, t2, s.rows))
 }

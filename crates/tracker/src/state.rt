@@ -4,9 +4,13 @@ use device::Settings;
 ghost use mathlib.Core.Path.{_≡_};
 ghost use mathlib.Core.Bool.{_&&_};
 ghost use Prim.Native.Nat.{_≤_};
-ghost use lib.Dec.{leb, ltb};
+ghost use lib.Dec.{leb};
 ghost use lib.ListN.{length, take, drop};
-ghost use Rattle.tracker.specs.State.{zeros, ascending, counts-allowed, valid};
+ghost use Rattle.tracker.specs.State.{most-count, zeros, ascending, counts-allowed, valid};
+ghost use Rattle.tracker.specs.Contracts.{position-allowed};
+
+// No count and no spillover of a valid state is above it.
+const MOST_COUNT: u32 = 2000000000;
 
 // Whether only zeros stand from a place on.
 fn zeros_behind(t: &[u32], from: usize) -> bool
@@ -43,11 +47,11 @@ fn ascending_rows(t: &[u32], used: usize, high: u32) -> bool
     true
 }
 
-// Whether a tracked count may stand: not 0, not below the spillover, not above 2,000,000,000.
+// Whether a tracked count may stand: not 0, not below the spillover, not too high.
 fn count_in_range(count: u32, spillover: u32) -> bool
-    ensures { λ r. ⌜ r ≡ (leb 1 count && leb spillover count && leb count 2000000000) ⌝ }
+    ensures { λ r. ⌜ r ≡ (leb 1 count && leb spillover count && leb count most-count) ⌝ }
 {
-    1 <= count && spillover <= count && count <= 2000000000
+    1 <= count && spillover <= count && count <= MOST_COUNT
 }
 
 // Whether the counts at the front, so many, are all in range.
@@ -83,7 +87,7 @@ fn counts_laid(t: &[u32], used: usize, spillover: u32) -> bool
 
 // Whether each number of the position is in its range.
 fn position_in_range(s: Settings, p: Position) -> bool
-    ensures { λ r. ⌜ r ≡ (ltb (p .events) (s .window) && leb (p .activations) (s .interval) && leb (p .tracked) (s .counters) && leb (p .spillover) 2000000000) ⌝ }
+    ensures { λ r. ⌜ r ≡ position-allowed s p ⌝ }
 {
     if s.window <= p.events {
         return false;
@@ -91,7 +95,7 @@ fn position_in_range(s: Settings, p: Position) -> bool
     if s.interval < p.activations {
         return false;
     }
-    p.tracked <= s.counters && p.spillover <= 2000000000
+    p.tracked <= s.counters && p.spillover <= MOST_COUNT
 }
 
 // Whether a state of tables of the right length breaks no rule.

@@ -5,9 +5,9 @@ ghost use mathlib.Core.Path.{_≡_};
 ghost use Prim.Native.Nat.{_-_, _≤_, _<_, min};
 ghost use lib.ListN.{length};
 ghost use Rattle.summary.specs.Steps.{disturb-each, activation};
-ghost use Rattle.summary.specs.Rules.{Room};
 ghost use Rattle.summary.specs.Contracts.{summary, places, Tracks, Turns};
 ghost use Rattle.tracker.specs.Calls.{victims-in};
+ghost use Rattle.tracker.specs.Contracts.{Room-for};
 
 // a - b, not below 0.
 fn less_by(a: u32, b: u32) -> u32
@@ -33,7 +33,7 @@ pub fn disturb_victims(
 ) -> Tally
     requires { ⌜ Tracks rows counts t ⌝ }
     requires { ⌜ (s .«blast_diameter» ≤ 4) × (row < 65536) ⌝ }
-    requires { ⌜ Room 3999999000 (summary rows counts t) ⌝ }
+    requires { ⌜ Room-for 128 (summary rows counts t) ⌝ }
     ensures { λ r. ⌜ Turns rows counts t (disturb-each (places rows) (victims-in s row)) r ⌝ }
 {
     let reach = s.blast_diameter / 2;
@@ -47,7 +47,7 @@ pub fn disturb_victims(
 pub fn activate_row(s: Settings, rows: &mut [u32], counts: &mut [u32], t: Tally, row: u32) -> Tally
     requires { ⌜ Tracks rows counts t ⌝ }
     requires { ⌜ (s .«blast_diameter» ≤ 4) × (row < 65536) ⌝ }
-    requires { ⌜ Room 3999999000 (summary rows counts t) ⌝ }
+    requires { ⌜ Room-for 128 (summary rows counts t) ⌝ }
     ensures { λ r. ⌜ Turns rows counts t (activation (places rows) (victims-in s) row) r ⌝ }
 {
     let rest = summary::drop_row(rows, counts, t, row);

@@ -1,8 +1,8 @@
 -- `tracker::activate` meets its contract.
-use mathlib.Core.Path.{_≡_, sym, _∙_, ap}
+use mathlib.Core.Path.{sym, _∙_}
 use borrow.Author.Needs.{needs}
 use Rattle.tracker.specs.Answers.{activation-call, activation-accepts, activation-refusal, activation-position, given}
-use Rattle.tracker.proofs.Passed.{activation-refused, activation-done}
+use Rattle.tracker.proofs.Calls.Outcomes.{activation-refused, activation-done}
 use Rattle.tracker.proofs.activate.Statement.{statement}
 use Rattle.tracker.proofs.activate.Tie as tie
 
@@ -19,8 +19,10 @@ activate-accepted-requires c κs = sym (c .before .before .before .activation-re
 returns-2 : tie.Need-returns-2
 unfolding activation-call activation-accepts activation-refusal activation-position
 returns-2 c =
+    let activation-refusal = c .before .before .before .before .before .before .before .before .activation-refusal in
+    let if1 = c .before .before .before .before .before .before .before .if1 in
     let a = c .before .before .before .before .before .before .before .before .before .before .before .before .before .args in
-    activation-done (a .s) (given (a .rows .now) (a .counts .now) (a .p)) (a .row) (sym (c .before .before .before .before .before .before .before .before .activation-refusal .ensures) ∙ c .before .before .before .before .before .before .before .if1 .left) (c .before .before .before .before .activate-accepted .ensures)
+    activation-done (a .s) (given (a .rows .now) (a .counts .now) (a .p)) (a .row) (sym (activation-refusal .ensures) ∙ if1 .left) (c .before .before .before .before .activate-accepted .ensures)
 
 pub activate-spec : {M : Type 1} → statement M
 activate-spec =

@@ -1,7 +1,7 @@
 -- `tracker::activate_accepted` meets its contract.
 use mathlib.Core.Path.{_≡_, ap, _∙_}
 use mathlib.Core.List.{List}
-use Prim.Native.Nat.{ℕ, _+_, _≤_, _<_}
+use Prim.Native.Nat.{ℕ, _+_}
 use native.Mathlib.Omega.{arith}
 use borrow.Author.Needs.{needs}
 use Rattle.device.specs.declared.Settings.{Settings}
@@ -12,9 +12,10 @@ use Rattle.summary.specs.Contracts.{Holds}
 use Rattle.summary.proofs.Rules.Room.{room-more}
 use Rattle.summary.proofs.Contracts.Holds.{tracked-le}
 use Rattle.tracker.specs.State.{summary-of, state-of}
-use Rattle.tracker.specs.Calls.{activate, kept-unless, victims-in}
+use Rattle.tracker.specs.Calls.{activation-on, kept-unless, victims-in}
 use Rattle.tracker.specs.Answers.{given}
-use Rattle.tracker.proofs.Passed.{activation-ready, ready-held, state-made, diameter-four}
+use Rattle.tracker.proofs.States.StateOf.{state-of-holds}
+use Rattle.tracker.proofs.Calls.Ready.{activation-ready, ready-held, diameter-four}
 use Rattle.tracker.proofs.activate_accepted.Statement.{statement}
 use Rattle.tracker.proofs.activate_accepted.Tie as tie
 
@@ -42,23 +43,25 @@ add-t14 c =
 cast-t15 : tie.Need-cast-t15
 unfolding given
 cast-t15 c =
+    let activate-row = c .before .before .before .before .before .before .activate-row in
     let a = c .before .before .before .before .before .before .before .before .before .before .before .before .before in
     let r = activation-ready (a .args .s) (given (a .args .rows .now) (a .args .counts .now) (a .args .p)) (a .args .row) (a .pre) in
-    omega (arith, tracked-le (c .before .before .before .before .before .before .activate-row .ensures), r .0 .fitting .rows-long, r .0 .settings .counters .most)
+    omega (arith, tracked-le (activate-row .ensures), r .0 .fitting .rows-long, r .0 .settings .counters .most)
 
 -- the state that an activation leaves, by a row that is the physical one
 made-by : (s : Settings) (e a : ℕ) (sum : Summary) (at row : ℕ) {rows counts : List ℕ} {k spill : ℕ} → at ≡ physical row → Holds (s .counters) 4294967296 (activation (s .counters) (victims-in s) at sum) rows counts k spill → given rows counts (record { events = e; activations = a; tracked = k; spillover = spill }) ≡ state-of s e a (activation (s .counters) (victims-in s) (physical row) sum)
-made-by s e a sum at row same h = state-made s e a h ∙ ap (λ x. state-of s e a (activation (s .counters) (victims-in s) x sum)) same
+made-by s e a sum at row same h = state-of-holds s e a h ∙ ap (λ x. state-of s e a (activation (s .counters) (victims-in s) x sum)) same
 
 returns : tie.Need-returns
-unfolding activate kept-unless given summary-of
+unfolding activation-on kept-unless given summary-of
 returns c =
+    let activate-row = c .before .before .before .before .before .before .activate-row in
     let a = c .before .before .before .before .before .before .before .before .before .before .before .before .before in
     let st = given (a .args .rows .now) (a .args .counts .now) (a .args .p) in
     let r = activation-ready (a .args .s) st (a .args .row) (a .pre) in
     let f = c .before .before .before .before .before .before .before .before .before .physical-row in
     rw (a .pre)
-    (made-by (a .args .s) (a .args .p .events) (a .args .p .activations + 1) (summary-of st) (f .result) (a .args .row) (f .ensures) (rw (r .0 .fitting .rows-long) at (c .before .before .before .before .before .before .activate-row .ensures)))
+    (made-by (a .args .s) (a .args .p .events) (a .args .p .activations + 1) (summary-of st) (f .result) (a .args .row) (f .ensures) (rw (r .0 .fitting .rows-long) at (activate-row .ensures)))
 
 pub activate-accepted-spec : {M : Type 1} → statement M
 activate-accepted-spec =

@@ -1,10 +1,11 @@
 -- `tracker::activation_refusal` meets its contract.
-use mathlib.Core.Path.{_≡_, sym, _∙_}
+use mathlib.Core.Path.{sym, _∙_}
 use borrow.Author.Needs.{needs}
 use borrow.Author.Tests.{lt-ltb, le-ltb}
 use Rattle.device.specs.Refusal.{refuse}
 use Rattle.tracker.specs.Answers.{given}
-use Rattle.tracker.proofs.Passed.{activation-tested, or-later-first, or-later-zero, open-tables}
+use Rattle.tracker.proofs.Calls.Tests.{activation-tested, or-later-first, or-later-zero}
+use Rattle.tracker.proofs.Calls.Ready.{open-tables}
 use Rattle.tracker.proofs.activation_refusal.Statement.{statement}
 use Rattle.tracker.proofs.activation_refusal.Tie as tie
 
@@ -31,12 +32,14 @@ valid-state-requires c κs =
 returns-3 : tie.Need-returns-3
 unfolding given refuse
 returns-3 c =
+    let if1 = c .before .before .before .before .before .before .before .if1 in
+    let if2 = c .before .before .before .before .before .if2 in
     let a = c .before .before .before .before .before .before .before .before .before .before .before .args in
     let k = c .before .before .before .before .before .before .before .before .set-up-refusal in
     rw (
       activation-tested (a .s) (given (a .rows .now) (a .counts .now) (a .p)) (a .row),
-      or-later-zero _ _ (sym (k .ensures) ∙ c .before .before .before .before .before .before .before .if1 .left),
-      lt-ltb (a .row) (a .s .rows) (c .before .before .before .before .before .if2 .left),
+      or-later-zero _ _ (sym (k .ensures) ∙ if1 .left),
+      lt-ltb (a .row) (a .s .rows) (if2 .left),
       ← c .before .before .before .before .valid-state .ensures,
     )
     (rw (c .before .refuse-unless .ensures) at (c .refuse-unless2 .ensures))

@@ -1,8 +1,8 @@
 -- `tracker::refresh` meets its contract.
-use mathlib.Core.Path.{_≡_, sym, _∙_}
+use mathlib.Core.Path.{sym, _∙_}
 use borrow.Author.Needs.{needs}
 use Rattle.tracker.specs.Answers.{refresh-call, refresh-accepts, refresh-refusal, refresh-count, refresh-position, given}
-use Rattle.tracker.proofs.Passed.{refresh-refused}
+use Rattle.tracker.proofs.Calls.Outcomes.{refresh-refused}
 use Rattle.tracker.proofs.refresh.Statement.{statement}
 use Rattle.tracker.proofs.refresh.Tie as tie
 
@@ -11,7 +11,12 @@ unfolding refresh-call refresh-accepts refresh-refusal refresh-count refresh-pos
 returns c =
     let a = c .before .before .before .before .before .before .before .before .args in
     let k = c .before .refresh-refusal in
-    refresh-refused (a .s) (given (a .rows .now) (a .counts .now) (a .p)) (a .list .now) (k .result) (k .ensures) (c .if1 .taken)
+    refresh-refused (a .s) (given (a .rows .now) (a .counts .now) (a .p)) (a .picks .now) (k .result) (k .ensures) (c .if1 .taken)
+
+returns-2 : tie.Need-returns-2
+returns-2 c =
+    let called = c .before .before .before .before .before .before .before in
+    called .refresh-accepted .ensures
 
 pub refresh-spec : {M : Type 1} → statement M
 refresh-spec =
@@ -26,4 +31,4 @@ refresh-spec =
     (λ c. search needs)
     (λ c. search needs)
     (λ c. search needs)
-    (λ c. c .before .before .before .before .before .before .refresh-accepted .ensures))
+    returns-2)

@@ -1,11 +1,12 @@
 -- `tracker::refresh_refusal` meets its contract.
-use mathlib.Core.Path.{_≡_, sym, _∙_}
+use mathlib.Core.Path.{sym, _∙_}
 use borrow.Author.Needs.{needs}
 use borrow.Author.Tests.{le-leb, lt-leb}
 use lib.ListN.{length}
 use Rattle.device.specs.Refusal.{refuse}
 use Rattle.tracker.specs.Answers.{given}
-use Rattle.tracker.proofs.Passed.{refresh-tested, or-later-first, or-later-zero, open-tables}
+use Rattle.tracker.proofs.Calls.Tests.{refresh-tested, or-later-first, or-later-zero}
+use Rattle.tracker.proofs.Calls.Ready.{open-tables}
 use Rattle.tracker.proofs.refresh_refusal.Statement.{statement}
 use Rattle.tracker.proofs.refresh_refusal.Tie as tie
 
@@ -13,14 +14,14 @@ returns : tie.Need-returns
 unfolding given
 returns c =
     let a = c .before .before .before .before .before .args in
-    rw (refresh-tested (a .s) (given (a .rows .now) (a .counts .now) (a .p)) (a .list .now), ← c .before .set-up-refusal .ensures) (or-later-first (c .before .set-up-refusal .result) _ (c .if1 .taken))
+    rw (refresh-tested (a .s) (given (a .rows .now) (a .counts .now) (a .p)) (a .picks .now), ← c .before .set-up-refusal .ensures) (or-later-first (c .before .set-up-refusal .result) _ (c .if1 .taken))
 
 returns-2 : tie.Need-returns-2
 unfolding given refuse
 returns-2 c =
     let a = c .before .before .before .before .before .before .before .args in
     let k = c .before .before .before .set-up-refusal in
-    rw (refresh-tested (a .s) (given (a .rows .now) (a .counts .now) (a .p)) (a .list .now), or-later-zero _ _ (sym (k .ensures) ∙ c .before .before .if1 .left), lt-leb (a .s .volume) (length (a .list .now)) (c .if2 .taken))
+    rw (refresh-tested (a .s) (given (a .rows .now) (a .counts .now) (a .p)) (a .picks .now), or-later-zero _ _ (sym (k .ensures) ∙ c .before .before .if1 .left), lt-leb (a .s .volume) (length (a .picks .now)) (c .if2 .taken))
 
 valid-state-requires : tie.Need-valid-state-requires
 valid-state-requires c κs =
@@ -35,9 +36,9 @@ returns-3 c =
     let a = c .before .before .before .before .before .before .before .before .before .args in
     let k = c .before .before .before .before .before .set-up-refusal in
     rw (
-      refresh-tested (a .s) (given (a .rows .now) (a .counts .now) (a .p)) (a .list .now),
+      refresh-tested (a .s) (given (a .rows .now) (a .counts .now) (a .p)) (a .picks .now),
       or-later-zero _ _ (sym (k .ensures) ∙ c .before .before .before .before .if1 .left),
-      le-leb (a .s .volume) (length (a .list .now)) (c .before .before .if2 .left),
+      le-leb (a .s .volume) (length (a .picks .now)) (c .before .before .if2 .left),
       ← c .before .valid-state .ensures,
     )
     (c .refuse-unless .ensures)

@@ -1,8 +1,8 @@
 -- `tracker::set_up` meets its contract.
-use mathlib.Core.Path.{_≡_, sym, _∙_}
+use mathlib.Core.Path.{sym, _∙_}
 use borrow.Author.Needs.{needs}
 use Rattle.tracker.specs.Answers.{set-up-call, set-up-outcome}
-use Rattle.tracker.proofs.Passed.{set-up-refused, set-up-done}
+use Rattle.tracker.proofs.Calls.Outcomes.{set-up-refused, set-up-done}
 use Rattle.tracker.proofs.set_up.Statement.{statement}
 use Rattle.tracker.proofs.set_up.Tie as tie
 
@@ -16,9 +16,11 @@ returns c =
 returns-2 : tie.Need-returns-2
 unfolding set-up-call set-up-outcome
 returns-2 c =
+    let if1 = c .before .before .before .before .before .before .before .before .if1 in
+    let clear = c .before .before .before .before .before .before .clear in
     let a = c .before .before .before .before .before .before .before .before .before .before .before .before .before .before .args in
     let k = c .before .before .before .before .before .before .before .before .before .set-up-refusal in
-    set-up-done (a .s) (a .rows .now) (a .counts .now) (sym (k .ensures) ∙ c .before .before .before .before .before .before .before .before .if1 .left) (c .before .before .before .before .before .before .clear .ensures) (c .before .before .clear2 .ensures)
+    set-up-done (a .s) (a .rows .now) (a .counts .now) (sym (k .ensures) ∙ if1 .left) (clear .ensures) (c .before .before .clear2 .ensures)
 
 pub set-up-spec : {M : Type 1} → statement M
 set-up-spec =

@@ -16,7 +16,7 @@ print-refresh-requires : tie.Need-print-refresh-requires
 print-refresh-requires c κs =
     let a = c .before .before .before .before .before .before .before .before .before .before .before .before .before .before .before .before in
     let r = c .before .before .before .before .before .before .before .before .before .refresh-accepted in
-    let few = event-few (a .pre .0) _ (omega (arith, volume-most (a .pre .0))) (r .result) (r .last .1 .0) (r .last .1 .1 .0) (r .last .1 .1 .1 .1 .0) (r .ensures) (c .count-of .result) (c .count-of .ensures) in
+    let few = event-few (a .pre .0) _ (omega (arith, volume-most (a .pre .0))) (r .result .count) (r .result .position) (r .last .1 .0) (r .last .1 .1 .0) (r .last .1 .1 .1 .1 .0) (r .ensures) in
     (omega (arith, r .kept .1 .1 .1 .1 .0, few), omega (arith, a .pre .1, few))
 
 returns : tie.Need-returns
@@ -24,9 +24,7 @@ unfolding given
 returns c =
     let a = c .before .before .before .before .before .before .before .before .before .before .before .before .before .before .before .before .before .before .before in
     let r = c .before .before .before .before .before .before .before .before .before .before .before .before .refresh-accepted in
-    let k = c .before .before .before .count-of in
-    let p = c .before .before .before .before .before .before .position-of in
-    event-listed (a .pre .0) _ (omega (arith, volume-most (a .pre .0))) (r .result) (r .last .1 .0) (r .last .1 .1 .0) (r .last .1 .1 .1 .1 .0) (r .ensures) (k .result) (k .ensures) (a .args .line) (p .result) (p .ensures) (c .before .before .print-refresh .ensures)
+    event-listed (a .pre .0) _ (omega (arith, volume-most (a .pre .0))) (r .result .count) (r .result .position) (r .last .1 .0) (r .last .1 .1 .0) (r .last .1 .1 .1 .1 .0) (r .ensures) (a .args .line) (c .before .before .print-refresh .ensures)
 
 pub list-event-spec : {M : Type 1} → statement M
 list-event-spec =
@@ -34,9 +32,7 @@ list-event-spec =
     (tie.spec
     (λ c. search needs)
     refresh-accepted-requires
-    (λ c κs. search needs)
     (λ c. search needs)
-    (λ c κs. search needs)
     (λ c. search needs)
     print-refresh-requires
     (λ c. search needs)

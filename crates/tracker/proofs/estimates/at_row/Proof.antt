@@ -1,7 +1,7 @@
 -- `estimates::at_row` meets its contract.
 use borrow.Author.Needs.{needs}
 use borrow.Author.Tests.{lt-ltb, le-ltb}
-use Rattle.tracker.specs.Walk.{at-row}
+use Rattle.tracker.specs.Contracts.{at-row}
 use Rattle.tracker.proofs.estimates.at_row.Statement.{statement}
 use Rattle.tracker.proofs.estimates.at_row.Tie as tie
 

@@ -1,7 +1,7 @@
 -- `estimates::next_row` meets its contract.
 use borrow.Author.Needs.{needs}
 use borrow.Author.Tests.{lt-ltb, le-ltb}
-use Rattle.tracker.specs.Walk.{next-row}
+use Rattle.tracker.specs.Contracts.{next-row}
 use Rattle.tracker.proofs.estimates.next_row.Statement.{statement}
 use Rattle.tracker.proofs.estimates.next_row.Tie as tie
 

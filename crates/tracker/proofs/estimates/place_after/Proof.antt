@@ -2,15 +2,15 @@
 use mathlib.Core.Path.{_∙_, sym}
 use native.Mathlib.Omega.{arith}
 use borrow.Author.Needs.{needs}
-use Rattle.tracker.specs.Walk.{place-after}
-use Rattle.tracker.proofs.Steps.{stands}
+use Rattle.tracker.specs.Contracts.{place-after}
+use Rattle.tracker.proofs.Contracts.Walk.{at-row-tracked}
 use Rattle.tracker.proofs.estimates.place_after.Statement.{statement}
 use Rattle.tracker.proofs.estimates.place_after.Tie as tie
 
 add-result : tie.Need-add-result
 add-result c =
     let a = c .before .before .before .args in
-    omega (arith, stands (a .rows .now) (a .tracked) (a .row) (a .i) (sym (c .before .at-row .ensures) ∙ c .if1 .taken) .0)
+    omega (arith, at-row-tracked (a .rows .now) (a .t .tracked) (a .row) (a .i) (sym (c .before .at-row .ensures) ∙ c .if1 .taken) .0)
 
 returns : tie.Need-returns
 unfolding place-after

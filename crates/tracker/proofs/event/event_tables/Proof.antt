@@ -1,17 +1,18 @@
 -- `tracker::event::event_tables` meets its contract: its steps, one after the other, are the event.
-use mathlib.Core.Path.{_≡_, sym, _∙_}
-use Prim.Native.Nat.{_+_, _*_, _≤_, _<_, min}
+use mathlib.Core.Path.{sym, _∙_}
+use Prim.Native.Nat.{_*_}
 use native.Mathlib.Nat.{mul-le-mul}
 use native.Mathlib.Omega.{arith}
 use borrow.Author.Needs.{needs}
-use lib.ListN.{length, take}
+use lib.ListN.{take}
 use lib.Seq.{length-take-le}
 use Rattle.device.specs.Victims.{rows-between}
 use Rattle.summary.specs.Tables.{read}
+use Rattle.summary.proofs.Rules.Room.{room-more}
 use Rattle.summary.proofs.Contracts.Holds.{long-rows, long-counts, held-again}
 use Rattle.tracker.specs.Calls.{victims-in, block-rows, ends-window}
-use Rattle.tracker.proofs.Spread.{victims-four}
-use Rattle.tracker.proofs.Chain.{named-rows, named-few, named-below, begun-room, spread-room, event-done}
+use Rattle.tracker.proofs.Calls.VictimsIn.{victims-four}
+use Rattle.tracker.proofs.Steps.Event.{take-picked, count-picked-le, take-picked-below, room-cleared-read, room-spread-read, holds-event}
 use Rattle.tracker.proofs.event.event_tables.Statement.{statement}
 use Rattle.tracker.proofs.event.event_tables.Tie as tie
 
@@ -25,29 +26,37 @@ take-out-requires : tie.Need-take-out-requires
 take-out-requires c κs = let a = c .before .before .before .before .before .before .before .before .before in (a .pre .0, a .pre .1 .0 .6)
 
 sub-clear-if : tie.Need-sub-clear-if
-sub-clear-if c = c .before .before .before .before .before .before .before .before .before .before .before .before .before .before .before .before .before .before .pre .1 .0 .4
+sub-clear-if c =
+    let start = c .before .before .before .before .before .before .before .before .before .before .before .before .before .before .before .before .before .before in
+    start .pre .1 .0 .4
 
 clear-if-requires : tie.Need-clear-if-requires
-clear-if-requires c κs = held-again (c .before .before .before .before .before .before .before .before .before .before .take-out .ensures .1)
+clear-if-requires c κs =
+    let take-out = c .before .before .before .before .before .before .before .before .before .before .take-out in
+    held-again (take-out .ensures .1)
 
-spread-list-requires : tie.Need-spread-list-requires
+spread-picks-requires : tie.Need-spread-picks-requires
 unfolding ends-window
-spread-list-requires c κs =
+spread-picks-requires c κs =
+    let clear-if = c .before .before .before .before .before .before .before .clear-if in
     let a = c .before .before .before .before .before .before .before .before .before .before .before .before .before .before .before .before .before .before .before .before .before .before .before .before .before .before .before .before in
     let p = a .pre .1 .0 in
     let t = c .before .before .before .before .before .before .before .before .before .before .before .before .before .before .before .before .before .before .take-out in
     let sum = read (a .args .rows .now) (a .args .counts .now) (a .args .t .tracked) (a .args .t .spillover) in
     let x = t .ensures .0 in (
-      held-again (c .before .before .before .before .before .before .before .clear-if .ensures),
+      held-again (clear-if .ensures),
       (
-        (p .0, omega (arith, named-few x, p .2), omega (arith, named-few x, p .6, t .kept .1 .1 .1 .1 .1 .1 .0), named-below x (a .pre .1 .1 .1) (p .1)),
-        begun-room (a .args .s .volume) (victims-in (a .args .s)) _ (ends-window (a .args .s) (a .args .e)) sum (take (t .result .count) (t .last .1 .1 .1 .1 .1 .1 .0)) (named-rows x) (t .ensures .1) (c .before .before .before .before .before .before .before .clear-if .ensures) (a .pre .1 .1 .0),
+        (p .0, omega (arith, count-picked-le x, p .2), omega (arith, count-picked-le x, p .6, t .kept .1 .1 .1 .1 .1 .1 .0), take-picked-below x (a .pre .1 .1 .1) (p .1)),
+        room-cleared-read (a .args .s .volume) (victims-in (a .args .s)) _ (ends-window (a .args .s) (a .args .e)) sum (take (t .result .count) (t .last .1 .1 .1 .1 .1 .1 .0)) (take-picked x) (t .ensures .1) (clear-if .ensures) (room-more (a .pre .1 .1 .0) (omega arith)),
       ),
     )
 
 spread-run-requires : tie.Need-spread-run-requires
 unfolding ends-window
 spread-run-requires c κs =
+    let smaller = c .before .before .before .before .before .before .before .before .before .before .before .before .before .before .before .before .before .before .before .before .before .before .before .before .before .before .before .before .before .before .smaller in
+    let clear-if = c .before .before .before .before .before .before .before .before .before .before .before .before .before .before .before .clear-if in
+    let spread-picks = c .before .before .before .before .before .before .before .spread-picks in
     let a = c .before .before .before .before .before .before .before .before .before .before .before .before .before .before .before .before .before .before .before .before .before .before .before .before .before .before .before .before .before .before .before .before .before .before .before .before in
     let p = a .pre .1 .0 in
     let t = c .before .before .before .before .before .before .before .before .before .before .before .before .before .before .before .before .before .before .before .before .before .before .before .before .before .before .take-out in
@@ -56,34 +65,41 @@ spread-run-requires c κs =
     let x = t .ensures .0 in
     let high = c .before .before .before .before .before .before .before .before .before .before .before .before .before .before .before .before .before .before .before .before .before .before .before .before .before .before .before .before .before .before .smaller .ensures in
     let long = t .kept .1 .1 .1 .1 .1 .1 .0 in (
-      held-again (c .before .before .before .before .before .before .before .spread-list .ensures),
+      held-again (spread-picks .ensures),
       (
-        (p .0, omega (arith, named-few x, p .6, long), omega (arith, high, p .1), omega (arith, high, p .3)),
-        spread-room (a .args .s .volume) (victims-in (a .args .s)) (rows-between (a .args .e * a .args .s .block) (c .before .before .before .before .before .before .before .before .before .before .before .before .before .before .before .before .before .before .before .before .before .before .before .before .before .before .before .before .before .before .smaller .result)) (ends-window (a .args .s) (a .args .e)) sum names (named-rows x) (t .ensures .1) (c .before .before .before .before .before .before .before .before .before .before .before .before .before .before .before .clear-if .ensures) (c .before .before .before .before .before .before .before .spread-list .ensures) (λ row. victims-four (a .args .s) row (p .0)) (omega (arith, length-take-le (t .result .count) (t .last .1 .1 .1 .1 .1 .1 .0) (omega (arith, named-few x, p .6, long)), named-few x, p .2)) (a .pre .1 .1 .0),
+        (p .0, omega (arith, count-picked-le x, p .6, long), omega (arith, high, p .1), omega (arith, high, p .3)),
+        room-spread-read (a .args .s .volume) (victims-in (a .args .s)) (rows-between (a .args .e * a .args .s .block) (smaller .result)) (ends-window (a .args .s) (a .args .e)) sum names (take-picked x) (t .ensures .1) (clear-if .ensures) (spread-picks .ensures) (λ row. victims-four (a .args .s) row (p .0)) (omega (arith, length-take-le (t .result .count) (t .last .1 .1 .1 .1 .1 .1 .0) (omega (arith, count-picked-le x, p .6, long)), count-picked-le x, p .2)) (a .pre .1 .1 .0),
       ),
     )
 
 returns : tie.Need-returns
 unfolding block-rows ends-window
 returns c =
+    let smaller = c .before .before .before .before .before .before .before .before .before .before .before .before .before .before .before .before .before .before .before .before .before .before .before .before .before .before .before .before .before .before .before .before .before .before .before .smaller in
+    let clear-if = c .before .before .before .before .before .before .before .before .before .before .before .before .before .before .before .before .before .before .before .before .clear-if in
+    let spread-picks = c .before .before .before .before .before .before .before .before .before .before .before .before .spread-picks in
     let a = c .before .before .before .before .before .before .before .before .before .before .before .before .before .before .before .before .before .before .before .before .before .before .before .before .before .before .before .before .before .before .before .before .before .before .before .before .before .before .before .before .before in
     let t = c .before .before .before .before .before .before .before .before .before .before .before .before .before .before .before .before .before .before .before .before .before .before .before .before .before .before .before .before .before .before .before .take-out in
     let names = take (t .result .count) (t .last .1 .1 .1 .1 .1 .1 .0) in
     let sum = read (a .args .rows .now) (a .args .counts .now) (a .args .t .tracked) (a .args .t .spillover) in
     let x = t .ensures .0 in (
       x,
-      rw (← c .before .before .before .before .before .before .before .before .before .before .before .before .before .before .before .before .before .before .before .before .before .before .before .before .before .before .before .before .before .before .before .before .before .before .before .smaller .ensures)
-          (event-done (a .args .s .volume) (victims-in (a .args .s)) (rows-between (a .args .e * a .args .s .block) (c .before .before .before .before .before .before .before .before .before .before .before .before .before .before .before .before .before .before .before .before .before .before .before .before .before .before .before .before .before .before .before .before .before .before .before .smaller .result)) (ends-window (a .args .s) (a .args .e)) sum names (named-rows x) (t .ensures .1) (c .before .before .before .before .before .before .before .before .before .before .before .before .before .before .before .before .before .before .before .before .clear-if .ensures) (c .before .before .before .before .before .before .before .before .before .before .before .before .spread-list .ensures) (c .before .before .before .before .spread-run .ensures)),
+      rw (← smaller .ensures)
+          (holds-event (a .args .s .volume) (victims-in (a .args .s)) (rows-between (a .args .e * a .args .s .block) (smaller .result)) (ends-window (a .args .s) (a .args .e)) sum names (take-picked x) (t .ensures .1) (clear-if .ensures) (spread-picks .ensures) (c .before .before .before .before .spread-run .ensures)),
     )
 
 same-length : tie.Need-same-length
 same-length c = long-rows (returns c .1)
 
 same-length-2 : tie.Need-same-length-2
-same-length-2 c = long-counts (returns c .1) ∙ sym (long-counts (c .before .before .before .before .before .before .before .before .before .before .before .before .before .before .before .before .before .before .before .before .before .before .before .before .before .before .before .before .before .before .before .before .before .before .before .before .before .before .before .before .before .pre .0))
+same-length-2 c =
+    let start = c .before .before .before .before .before .before .before .before .before .before .before .before .before .before .before .before .before .before .before .before .before .before .before .before .before .before .before .before .before .before .before .before .before .before .before .before .before .before .before .before .before in
+    long-counts (returns c .1) ∙ sym (long-counts (start .pre .0))
 
 same-length-3 : tie.Need-same-length-3
-same-length-3 c = c .before .before .before .before .before .before .before .before .before .before .before .before .before .before .before .before .before .before .before .before .before .before .before .before .before .before .before .before .before .before .before .take-out .kept .1 .1 .1 .1 .1 .1 .0
+same-length-3 c =
+    let take-out = c .before .before .before .before .before .before .before .before .before .before .before .before .before .before .before .before .before .before .before .before .before .before .before .before .before .before .before .before .before .before .before .take-out in
+    take-out .kept .1 .1 .1 .1 .1 .1 .0
 
 pub event-tables-spec : {M : Type 1} → statement M
 event-tables-spec =
@@ -95,7 +111,7 @@ event-tables-spec =
     take-out-requires
     sub-clear-if
     clear-if-requires
-    spread-list-requires
+    spread-picks-requires
     spread-run-requires
     same-length
     same-length-2

@@ -1,15 +1,16 @@
 -- `tracker::event::take_out` meets its contract.
-use mathlib.Core.Path.{_≡_}
 use borrow.Author.Needs.{needs}
 use Rattle.device.specs.Victims.{rows-between}
 use Rattle.summary.specs.Tables.{read}
 use Rattle.summary.proofs.Contracts.Holds.{held-read, long-rows, held-again}
-use Rattle.tracker.proofs.Spread.{taken-out-split}
+use Rattle.tracker.proofs.Steps.Event.{taken-out-split}
 use Rattle.tracker.proofs.event.take_out.Statement.{statement}
 use Rattle.tracker.proofs.event.take_out.Tie as tie
 
 drop-run-requires : tie.Need-drop-run-requires
-drop-run-requires c κs = held-again (c .before .before .before .before .before .before .before .before .before .pick .ensures .1)
+drop-run-requires c κs =
+    let pick = c .before .before .before .before .before .before .before .before .before .pick in
+    held-again (pick .ensures .1)
 
 returns : tie.Need-returns
 returns c =

@@ -10,7 +10,7 @@ use borrow.Author.Tests.{le-leb, lt-leb, lt-ltb, le-ltb}
 use lib.Dec.{leb, ltb}
 use lib.ListN.{length, take, drop, getD}
 use Rattle.tracker.specs.State.{ascending}
-use Rattle.tracker.proofs.Scans.{left-here, left-none}
+use Rattle.tables.proofs.Scans.{used-step, left-none}
 use Rattle.tracker.proofs.state.ascending_rows.Statement.{statement}
 use Rattle.tracker.proofs.state.ascending_rows.Tie as tie
 
@@ -20,7 +20,7 @@ record Left (t : List ℕ) (used high low i : ℕ) : Type 0 where
 module _ {t : List ℕ} {used high low i : ℕ} (l : Left t used high low i) (fits : used ≤ length t) where
   here : i < used → ascending 0 high (take used t) ≡ (leb low (getD t i 0) && ltb (getD t i 0) high && ascending (getD t i 0 + 1) high (drop (i + 1) (take used t)))
   unfolding ascending
-  here h = sym (l .same) ∙ rw (left-here t used i fits h, add-one (getD t i 0))
+  here h = sym (l .same) ∙ rw (used-step t used i fits h, add-one i, add-one (getD t i 0))
 
   done : used ≤ i → true ≡ ascending 0 high (take used t)
   unfolding ascending

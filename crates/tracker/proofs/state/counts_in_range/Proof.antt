@@ -3,13 +3,14 @@ use mathlib.Core.Path.{_≡_, refl, _∙_, sym}
 use mathlib.Core.Bool.{true, _&&_}
 use mathlib.Core.List.{List}
 use Prim.Native.Nat.{ℕ, _+_, _-_, _≤_, _<_}
+use native.Mathlib.Numerals.{add-one}
 use native.Mathlib.Omega.{arith}
 use borrow.Author.Needs.{needs}
 use borrow.Author.Tests.{not-true, not-false}
 use lib.Dec.{leb}
 use lib.ListN.{length, take, drop, getD}
-use Rattle.tracker.specs.State.{counts-allowed}
-use Rattle.tracker.proofs.Scans.{left-here, left-none}
+use Rattle.tracker.specs.State.{counts-allowed, most-count}
+use Rattle.tables.proofs.Scans.{used-step, left-none}
 use Rattle.tracker.proofs.state.counts_in_range.Statement.{statement}
 use Rattle.tracker.proofs.state.counts_in_range.Tie as tie
 
@@ -17,9 +18,9 @@ record Left (t : List ℕ) (used spillover i : ℕ) : Type 0 where
   same : counts-allowed spillover (drop i (take used t)) ≡ counts-allowed spillover (take used t)
 
 module _ {t : List ℕ} {used spillover i : ℕ} (l : Left t used spillover i) (fits : used ≤ length t) where
-  here : i < used → counts-allowed spillover (take used t) ≡ (leb 1 (getD t i 0) && leb spillover (getD t i 0) && leb (getD t i 0) 2000000000 && counts-allowed spillover (drop (i + 1) (take used t)))
+  here : i < used → counts-allowed spillover (take used t) ≡ (leb 1 (getD t i 0) && leb spillover (getD t i 0) && leb (getD t i 0) most-count && counts-allowed spillover (drop (i + 1) (take used t)))
   unfolding counts-allowed
-  here h = sym (l .same) ∙ rw (left-here t used i fits h)
+  here h = sym (l .same) ∙ rw (used-step t used i fits h, add-one i)
 
   done : used ≤ i → true ≡ counts-allowed spillover (take used t)
   unfolding counts-allowed

@@ -11,13 +11,10 @@ use lib.ListN.{take, drop}
 use Rattle.device.specs.declared.Settings.{Settings}
 use Rattle.device.proofs.Acceptance.{both}
 use Rattle.tracker.specs.declared.Position.{Position}
-use Rattle.tracker.specs.State.{zeros, ascending, counts-allowed, valid}
+use Rattle.tracker.specs.State.{zeros, ascending, counts-allowed, valid, most-count}
+use Rattle.tracker.specs.Contracts.{position-allowed}
 use Rattle.tracker.proofs.state.valid_state.Statement.{statement}
 use Rattle.tracker.proofs.state.valid_state.Tie as tie
-
-abbrev position-allowed : Settings → Position → Bool
-position-allowed s p =
-    ltb (p .events) (s .window) && leb (p .activations) (s .interval) && leb (p .tracked) (s .counters) && leb (p .spillover) 2000000000
 
 regroup : (x d e f g h : Bool) → (x && d && e && f && g && h) ≡ (x && h && (d && e) && (f && g))
 regroup false d e f g h = refl
@@ -33,12 +30,12 @@ module _ (s : Settings) (rows counts : List ℕ) (p : Position) where
       (zeros (drop (p .tracked) rows))
       (zeros (drop (p .tracked) counts))
       (counts-allowed (p .spillover) (take (p .tracked) counts))
-      (leb (p .spillover) 2000000000)
+      (leb (p .spillover) most-count)
 
 tracked-fits : (s : Settings) (p : Position) → position-allowed s p ≡ true → p .tracked ≤ s .counters
 tracked-fits s p e =
     let timely = ltb (p .events) (s .window) && leb (p .activations) (s .interval) in
-    let others = both (timely && leb (p .tracked) (s .counters)) (leb (p .spillover) 2000000000) e in
+    let others = both (timely && leb (p .tracked) (s .counters)) (leb (p .spillover) most-count) e in
     leb-true (p .tracked) (s .counters) (both timely (leb (p .tracked) (s .counters)) (others .0) .1)
 
 returns : tie.Need-returns

@@ -1,5 +1,4 @@
 -- `tracker::victims::activate_row` meets its contract.
-use mathlib.Core.Path.{_≡_}
 use mathlib.Core.List.{[], _∷_}
 use borrow.Author.Needs.{needs}
 use Rattle.summary.specs.Steps.{activation}

@@ -1,13 +1,11 @@
 -- `tracker::victims::disturb_victims` meets its contract: the rows below the row, then those above it.
-use mathlib.Core.Path.{_≡_}
-use Prim.Native.Nat.{_-_, _/_, _≤_, _<_}
 use native.Mathlib.Omega.{arith}
 use borrow.Author.Needs.{needs}
 use lib.ListN.{length}
 use Rattle.summary.specs.Tables.{read}
 use Rattle.summary.proofs.Contracts.Holds.{held-read, long-rows, held-again}
 use Rattle.summary.proofs.Rules.Room.{room-more}
-use Rattle.tracker.proofs.Spread.{room-between, victims-split}
+use Rattle.tracker.proofs.Calls.VictimsIn.{room-between, victims-split}
 use Rattle.tracker.proofs.victims.disturb_victims.Statement.{statement}
 use Rattle.tracker.proofs.victims.disturb_victims.Tie as tie
 
@@ -18,21 +16,25 @@ disturb-run-requires c κs =
 
 disturb-run-requires-2 : tie.Need-disturb-run-requires-2
 disturb-run-requires-2 c κs =
+    let less-by = c .before .before .before .before .before .before .before .before .before .before .less-by in
+    let smaller = c .before .before .before .before .before .before .before .before .before .smaller in
     let a = c .before .before .before .before .before .before .before .before .before .before .before .before .before .before in
     let x = c .before .before .before .before .before .before .disturb-run .ensures in (
       held-again x,
       (
-        omega (arith, c .before .before .before .before .before .before .before .before .before .smaller .ensures, a .pre .1 .0 .0),
-        rw (held-read x) (room-between (length (a .args .rows .now)) _ (a .args .row) _ (a .pre .1 .1) (omega (arith, c .before .before .before .before .before .before .before .before .before .before .less-by .ensures, a .pre .1 .0 .0))),
+        omega (arith, smaller .ensures, a .pre .1 .0 .0),
+        rw (held-read x) (room-between (length (a .args .rows .now)) _ (a .args .row) _ (a .pre .1 .1) (omega (arith, less-by .ensures, a .pre .1 .0 .0))),
       ),
     )
 
 returns : tie.Need-returns
 returns c =
+    let less-by = c .before .before .before .before .before .before .before .before .before .before .before .before .before .before .before .less-by in
+    let smaller = c .before .before .before .before .before .before .before .before .before .before .before .before .before .before .smaller in
     let a = c .before .before .before .before .before .before .before .before .before .before .before .before .before .before .before .before .before .before .before in
     let x = c .before .before .before .before .before .before .before .before .before .before .before .disturb-run .ensures in
     let sum = read (a .args .rows .now) (a .args .counts .now) (a .args .t .tracked) (a .args .t .spillover) in
-    rw (victims-split (a .args .s) (length (a .args .rows .now)) (a .args .row) sum (c .before .before .before .before .before .before .before .before .before .before .before .before .before .before .before .less-by .ensures) (c .before .before .before .before .before .before .before .before .before .before .before .before .before .before .smaller .ensures))
+    rw (victims-split (a .args .s) (length (a .args .rows .now)) (a .args .row) sum (less-by .ensures) (smaller .ensures))
     (rw (held-read x, long-rows x) at (c .before .before .before .before .disturb-run2 .ensures))
 
 pub disturb-victims-spec : {M : Type 1} → statement M

@@ -1,4 +1,4 @@
--- From the tests of a valid state to facts: its tables hold the summary that is read from them, and it is the state that holds it.
+-- `valid`: from the tests of a valid state to facts. Its tables hold the summary that is read from them.
 use mathlib.Core.Path.{_≡_, refl, ap, _∙_, sym}
 use mathlib.Core.Bool.{true, _&&_}
 use mathlib.Core.List.{List, [], _∷_, _++_}
@@ -15,7 +15,7 @@ use Rattle.summary.specs.Tables.{table, entries-of, read}
 use Rattle.summary.specs.Contracts.{Holds}
 use Rattle.summary.specs.Rules.{Floor, floor-none, floor-more, Ceiling, bare, under, Ordered, ordered-none, ordered-more, Room}
 use Rattle.summary.proofs.Entries.Lengths.{length-rows}
-use Rattle.tracker.specs.State.{State, summary-of, zeros, ascending, counts-allowed, valid}
+use Rattle.tracker.specs.State.{State, summary-of, zeros, ascending, counts-allowed, valid, most-count}
 use Rattle.tracker.specs.Calls.{tables-long}
 
 -- what is read from the front of two tables
@@ -37,20 +37,20 @@ length-read : (k : ℕ) (rows counts : List ℕ) → k ≤ length rows → k ≤
 length-read k rows counts h h′ =
     sym (length-rows (entries-of k rows counts)) ∙ ap length (rows-read k rows counts h h′) ∙ length-take-le k rows h
 
-all-zeros : (t : List ℕ) → zeros t ≡ true → t ≡ replicate (length t) 0
+zeros-are : (t : List ℕ) → zeros t ≡ true → t ≡ replicate (length t) 0
 unfolding zeros
-all-zeros [] e = refl
-all-zeros (x ∷ xs) e =
+zeros-are [] e = refl
+zeros-are (x ∷ xs) e =
     let parts = both (eqb x 0) (zeros xs) e in
-    cc (eqb-true x 0 (parts .0), all-zeros xs (parts .1))
+    cc (eqb-true x 0 (parts .0), zeros-are xs (parts .1))
 
 -- a table with only zeros behind its front
-laid : (places k : ℕ) (t : List ℕ) → length t ≡ places → k ≤ places → zeros (drop k t) ≡ true → t ≡ table places (take k t)
+table-front : (places k : ℕ) (t : List ℕ) → length t ≡ places → k ≤ places → zeros (drop k t) ≡ true → t ≡ table places (take k t)
 unfolding table
-laid places k t long h e =
+table-front places k t long h e =
     let fits : k ≤ length t = omega arith in
     let left : length (drop k t) ≡ places - length (take k t) = omega (arith, length-drop k t, length-take-le k t fits) in
-    sym (take-append-drop k t) ∙ ap (λ (behind : List ℕ). take k t ++ behind) (all-zeros (drop k t) e ∙ ap (λ (n : ℕ). replicate n 0) left)
+    sym (take-append-drop k t) ∙ ap (λ (behind : List ℕ). take k t ++ behind) (zeros-are (drop k t) e ∙ ap (λ (n : ℕ). replicate n 0) left)
 
 -- the rules of the entries that are read
 ordered-read : (high low k : ℕ) (rows counts : List ℕ) → ascending low high (take k rows) ≡ true → Ordered high low (entries-of k rows counts)
@@ -67,7 +67,7 @@ ordered-read high low (suc k) (row ∷ rows) (count ∷ counts) e =
 record Allowed (spillover : ℕ) (es : List Entry) : Type 0 where
   floor : Floor spillover es
   positive : Floor 1 es
-  ceiling : Ceiling 2000000000 es
+  ceiling : Ceiling most-count es
 
 allowed-read : (spillover k : ℕ) (rows counts : List ℕ) → counts-allowed spillover (take k counts) ≡ true → Allowed spillover (entries-of k rows counts)
 unfolding counts-allowed entries-of
@@ -76,14 +76,14 @@ allowed-read spillover (suc k) [] counts e = record { floor = floor-none; positi
 allowed-read spillover (suc k) (row ∷ rows) [] e = record { floor = floor-none; positive = floor-none; ceiling = bare }
 allowed-read spillover (suc k) (row ∷ rows) (count ∷ counts) e =
     let x : Entry = record { row = row; count = count } in
-    let p3 = both (leb 1 count && leb spillover count && leb count 2000000000) (counts-allowed spillover (take k counts)) e in
-    let p2 = both (leb 1 count && leb spillover count) (leb count 2000000000) (p3 .0) in
+    let p3 = both (leb 1 count && leb spillover count && leb count most-count) (counts-allowed spillover (take k counts)) e in
+    let p2 = both (leb 1 count && leb spillover count) (leb count most-count) (p3 .0) in
     let p1 = both (leb 1 count) (leb spillover count) (p2 .0) in
     let rest = allowed-read spillover k rows counts (p3 .1) in
     record {
       floor = floor-more x (rest .floor) (leb-true spillover count (p1 .1));
       positive = floor-more x (rest .positive) (leb-true 1 count (p1 .0));
-      ceiling = under x (rest .ceiling) (leb-true count 2000000000 (p2 .1));
+      ceiling = under x (rest .ceiling) (leb-true count most-count (p2 .1));
     }
 
 -- what the tests of a valid state say
@@ -91,7 +91,7 @@ pub record Facts (s : Settings) (st : State) : Type 0 where
   pub early : st .position .events < s .window
   pub within : st .position .activations ≤ s .interval
   pub holds : Holds (s .counters) (s .rows) (summary-of st) (st .rows) (st .counts) (st .position .tracked) (st .position .spillover)
-  pub room : Room 2000000000 (summary-of st)
+  pub room : Room most-count (summary-of st)
 
 pub valid-facts : (s : Settings) (st : State) → tables-long s (st .rows) (st .counts) ≡ true → valid s st ≡ true → Facts s st
 unfolding tables-long valid summary-of read
@@ -100,7 +100,7 @@ valid-facts s st long e =
     let rows-long = eqb-true (length (st .rows)) (s .counters) (lengths .0) in
     let counts-long = eqb-true (length (st .counts)) (s .counters) (lengths .1) in
     let k = st .position .tracked in
-    let p7 = both _ (leb (st .position .spillover) 2000000000) e in
+    let p7 = both _ (leb (st .position .spillover) most-count) e in
     let p6 = both _ (counts-allowed (st .position .spillover) (take k (st .counts))) (p7 .0) in
     let p5 = both _ (zeros (drop k (st .counts))) (p6 .0) in
     let p4 = both _ (zeros (drop k (st .rows))) (p5 .0) in
@@ -116,8 +116,8 @@ valid-facts s st long e =
       early = ltb-true (st .position .events) (s .window) (p1 .0);
       within = leb-true (st .position .activations) (s .interval) (p1 .1);
       holds = record {
-        rows-laid = rw (rows-read k (st .rows) (st .counts) in-rows in-counts) (laid (s .counters) k (st .rows) rows-long fits (p4 .1));
-        counts-laid = rw (counts-read k (st .rows) (st .counts) in-rows in-counts) (laid (s .counters) k (st .counts) counts-long fits (p5 .1));
+        rows-laid = rw (rows-read k (st .rows) (st .counts) in-rows in-counts) (table-front (s .counters) k (st .rows) rows-long fits (p4 .1));
+        counts-laid = rw (counts-read k (st .rows) (st .counts) in-rows in-counts) (table-front (s .counters) k (st .counts) counts-long fits (p5 .1));
         tracked-is = sym read-length;
         spillover-is = refl;
         sound = record {
@@ -127,5 +127,5 @@ valid-facts s st long e =
           fits = omega arith;
         };
       };
-      room = record { counts = allowed .ceiling; spillover-le = leb-true (st .position .spillover) 2000000000 (p7 .1) };
+      room = record { counts = allowed .ceiling; spillover-le = leb-true (st .position .spillover) most-count (p7 .1) };
     }

@@ -1,0 +1,117 @@
+-- What a call has in hand that no test refuses: accepted-settings settings, tables as long as they should be, a valid state.
+use mathlib.Core.Path.{_≡_, sym, _∙_}
+use mathlib.Core.Bool.{true, not, _&&_}
+use mathlib.Core.Logic.{⊎-elim}
+use mathlib.Core.List.{List}
+use Prim.Native.Nat.{ℕ, _≤_, _<_}
+use native.Mathlib.Omega.{arith}
+use borrow.Author.Tests.{eqb-true, ltb-true, leb-true}
+use lib.Dec.{eqb, ltb, leb}
+use lib.ListN.{length}
+use Rattle.device.specs.declared.Settings.{Settings}
+use Rattle.device.specs.Refusal.{refuse, first-failed}
+use Rattle.device.specs.Acceptance.{settings-tests}
+use Rattle.device.proofs.Acceptance.{Accepted, accepted-settings, both}
+use Rattle.summary.specs.Entries.{Entry}
+use Rattle.summary.specs.Rules.{Ordered, ordered-none, ordered-more}
+use Rattle.summary.specs.Contracts.{Holds, Held}
+use Rattle.summary.specs.Tables.{read}
+use Rattle.summary.proofs.Contracts.Holds.{held-again, long-rows}
+use Rattle.tracker.specs.State.{State, summary-of, valid}
+use Rattle.tracker.specs.Calls.{tables-long, set-up-tests, activation-tests, refresh-tests, agreement-tests}
+use Rattle.tracker.proofs.States.Valid.{Facts, valid-facts}
+use Rattle.tracker.proofs.Calls.Tests.{or-later-none, passed-test, set-up-tested, activation-tested, refresh-tested, agreement-tested}
+
+pub tables-long-fit : (s : Settings) (rows counts : List ℕ) → tables-long s rows counts ≡ true → (length rows ≡ s .counters) × (length counts ≡ s .counters)
+unfolding tables-long
+tables-long-fit s rows counts long =
+    let each = both (eqb (length rows) (s .counters)) (eqb (length counts) (s .counters)) long in
+    (eqb-true (length rows) (s .counters) (each .0), eqb-true (length counts) (s .counters) (each .1))
+
+-- no refusal of setting up
+pub record Open (s : Settings) (rows counts : List ℕ) : Type 0 where
+  pub settled : first-failed (settings-tests s) ≡ 0
+  pub long : tables-long s rows counts ≡ true
+  pub rows-long : length rows ≡ s .counters
+  pub counts-long : length counts ≡ s .counters
+
+pub open-tables : (s : Settings) (rows counts : List ℕ) → first-failed (set-up-tests s rows counts) ≡ 0 → Open s rows counts
+open-tables s rows counts e =
+    let parts = or-later-none (first-failed (settings-tests s)) (refuse (not (tables-long s rows counts)) 8 0) (sym (set-up-tested s rows counts) ∙ e) in
+    let long = passed-test (tables-long s rows counts) 7 0 (parts .1) .0 in
+    let fit = tables-long-fit s rows counts long in
+    record { settled = parts .0; long = long; rows-long = fit .0; counts-long = fit .1 }
+
+-- no refusal of an activation, or of an event
+pub record Ready (s : Settings) (st : State) : Type 0 where
+  pub fitting : Open s (st .rows) (st .counts)
+  pub settings : Accepted s
+  pub facts : Facts s st
+
+ready : (s : Settings) (st : State) → first-failed (set-up-tests s (st .rows) (st .counts)) ≡ 0 → valid s st ≡ true → Ready s st
+ready s st e v =
+    let o = open-tables s (st .rows) (st .counts) e in
+    record { fitting = o; settings = accepted-settings s (o .settled); facts = valid-facts s st (o .long) v }
+
+pub activation-ready : (s : Settings) (st : State) (row : ℕ) → first-failed (activation-tests s st row) ≡ 0 → Ready s st × (row < s .rows) × (st .position .activations < s .interval)
+activation-ready s st row e =
+    let parts = or-later-none (first-failed (set-up-tests s (st .rows) (st .counts))) _ (sym (activation-tested s st row) ∙ e) in
+    let nine = passed-test (ltb row (s .rows)) 8 (refuse (not (valid s st)) 21 (refuse (not (ltb (st .position .activations) (s .interval))) 22 0)) (parts .1) in
+    let state = passed-test (valid s st) 20 (refuse (not (ltb (st .position .activations) (s .interval))) 22 0) (nine .1) in
+    let full = passed-test (ltb (st .position .activations) (s .interval)) 21 0 (state .1) in
+    (ready s st (parts .0) (state .0), ltb-true row (s .rows) (nine .0), ltb-true (st .position .activations) (s .interval) (full .0))
+
+pub refresh-ready : (s : Settings) (st : State) (picks : List ℕ) → first-failed (refresh-tests s st picks) ≡ 0 → Ready s st × (s .volume ≤ length picks)
+refresh-ready s st picks e =
+    let parts = or-later-none (first-failed (set-up-tests s (st .rows) (st .counts))) _ (sym (refresh-tested s st picks) ∙ e) in
+    let ten = passed-test (leb (s .volume) (length picks)) 9 (refuse (not (valid s st)) 21 0) (parts .1) in
+    let state = passed-test (valid s st) 20 0 (ten .1) in
+    (ready s st (parts .0) (state .0), leb-true (s .volume) (length picks) (ten .0))
+
+-- rows below the bank's end are 32-bit numbers
+ordered-wider : {high high′ low : ℕ} {es : List Entry} → Ordered high low es → high ≤ high′ → Ordered high′ low es
+ordered-wider ordered-none h = ordered-none
+ordered-wider (ordered-more low x o l b) h = ordered-more low x (ordered-wider o h) l (omega arith)
+
+pub ready-held : {s : Settings} {st : State} → Ready s st → Held (st .rows) (st .counts) (st .position .tracked) (st .position .spillover)
+ready-held {s} {st} r =
+    let h = r .facts .holds in
+    let wide : Holds (s .counters) 4294967296 (summary-of st) (st .rows) (st .counts) (st .position .tracked) (st .position .spillover) =
+    record {
+      rows-laid = h .rows-laid;
+      counts-laid = h .counts-laid;
+      tracked-is = h .tracked-is;
+      spillover-is = h .spillover-is;
+      sound = record {
+        floor = h .sound .floor;
+        positive = h .sound .positive;
+        ordered = ordered-wider (h .sound .ordered) (omega (arith, r .settings .others .rows .most));
+        fits = h .sound .fits;
+      };
+    } in
+    held-again wide
+
+pub diameter-four : {s : Settings} → Accepted s → s .«blast_diameter» ≤ 4
+diameter-four ok = ⊎-elim (λ e. omega (arith, e)) (λ e. omega (arith, e)) (ok .others .diameter)
+
+-- both summaries as the comparison wants them
+pub record Compared (s : Settings) (st : State) (s′ : Settings) (st′ : State) : Type 0 where
+  pub first : Facts s st
+  pub second : Facts s′ st′
+
+pub agreement-ready : (s : Settings) (st : State) (s′ : Settings) (st′ : State) → first-failed (agreement-tests s st s′ st′) ≡ 0 → Compared s st s′ st′
+agreement-ready s st s′ st′ e =
+    let l = tables-long s (st .rows) (st .counts) in
+    let l′ = tables-long s′ (st′ .rows) (st′ .counts) in
+    let one = or-later-none (first-failed (settings-tests s)) _ (sym (agreement-tested s st s′ st′) ∙ e) in
+    let two = or-later-none (first-failed (settings-tests s′)) (refuse (not (l && l′)) 8 (refuse (not (valid s st && valid s′ st′)) 21 0)) (one .1) in
+    let eight = passed-test (l && l′) 7 (refuse (not (valid s st && valid s′ st′)) 21 0) (two .1) in
+    let state = passed-test (valid s st && valid s′ st′) 20 0 (eight .1) in
+    let longs = both l l′ (eight .0) in
+    let valids = both (valid s st) (valid s′ st′) (state .0) in
+    record { first = valid-facts s st (longs .0) (valids .0); second = valid-facts s′ st′ (longs .1) (valids .1) }
+
+-- tables of a valid state, with their own length for the number of places
+pub holds-own-length : {s : Settings} {st : State} → Facts s st → Holds (length (st .rows)) (s .rows) (read (st .rows) (st .counts) (st .position .tracked) (st .position .spillover)) (st .rows) (st .counts) (st .position .tracked) (st .position .spillover)
+unfolding summary-of
+holds-own-length f = rw (long-rows (f .holds)) (f .holds)

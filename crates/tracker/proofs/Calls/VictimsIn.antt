@@ -1,0 +1,36 @@
+-- `victims-in`: the rows that a row disturbs are two runs, at most four rows, and raise counts by little.
+use mathlib.Core.Path.{_≡_, refl}
+use mathlib.Core.List.{List, [], _∷_, _++_}
+use Prim.Native.Nat.{ℕ, _+_, _-_, _/_, _≤_, min}
+use native.Mathlib.Omega.{arith}
+use lib.ListN.{length}
+use Rattle.device.specs.declared.Settings.{Settings}
+use Rattle.device.specs.Victims.{rows-between, victims}
+use Rattle.device.proofs.Victims.{between-length, length-victims-le}
+use Rattle.summary.specs.Steps.{Summary, disturb, disturb-each}
+use Rattle.summary.specs.Rules.{Room}
+use Rattle.summary.proofs.Rules.Room.{room-more, room-each}
+use Rattle.tracker.specs.Calls.{victims-in}
+use Rattle.tracker.specs.Contracts.{Room-for}
+
+each-append : (counters : ℕ) (xs ys : List ℕ) (s : Summary) → disturb-each counters (xs ++ ys) s ≡ disturb-each counters ys (disturb-each counters xs s)
+unfolding disturb-each
+each-append counters [] ys s = refl
+each-append counters (x ∷ xs) ys s = each-append counters xs ys (disturb counters x s)
+
+-- the victims of a row: those below it, then those above it
+pub victims-split : (s : Settings) (counters row : ℕ) (sum : Summary) {low high : ℕ} → low ≡ row - s .«blast_diameter» / 2 → high ≡ min (row + 1 + s .«blast_diameter» / 2) (s .rows) → disturb-each counters (victims-in s row) sum ≡ disturb-each counters (rows-between (row + 1) high) (disturb-each counters (rows-between low row) sum)
+unfolding victims-in victims
+victims-split s counters row sum {low} {high} el eh =
+    rw (el, eh)
+    (each-append counters (rows-between (row - s .«blast_diameter» / 2) row) (rows-between (row + 1) (min (row + 1 + s .«blast_diameter» / 2) (s .rows))) sum)
+
+-- a short run raises counts by little
+pub room-between : (counters low high : ℕ) (sum : Summary) → Room-for 128 sum → high - low ≤ 64 → Room-for 64 (disturb-each counters (rows-between low high) sum)
+room-between counters low high sum r few =
+    room-more (room-each counters (rows-between low high) sum r) (omega (arith, between-length low high))
+
+-- the victims of an accepted device's row are at most four
+pub victims-four : (s : Settings) (row : ℕ) → s .«blast_diameter» ≤ 4 → length (victims-in s row) ≤ 4
+unfolding victims-in
+victims-four s row h = omega (arith, length-victims-le (s .rows) (s .«blast_diameter») row)

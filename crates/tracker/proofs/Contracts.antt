@@ -1,0 +1,3 @@
+-- Laws of specs/Contracts.antt.
+pub mod Walk
+pub mod TwoWalks

@@ -1,0 +1,3 @@
+-- Laws of specs/State.antt.
+pub mod StateOf
+pub mod Valid

@@ -1,0 +1,50 @@
+-- What only inner contracts say, and no call's promise: room for more disturbances, ranges of an event's numbers, tables of a bank, and what
+-- a walk over a summary's two tables, in the order of rows, finds at a place i of them.
+use Prim.Native.Nat.{ℕ, _+_, _-_, _≤_}
+use mathlib.Core.Bool.{Bool, _&&_, cond}
+use mathlib.Core.List.{List}
+use denote.Ref.{now}
+use lib.Dec.{leb, ltb, eqb}
+use lib.ListN.{length, getD}
+use Rattle.device.specs.declared.Settings.{Settings}
+use Rattle.summary.specs.Steps.{Summary}
+use Rattle.summary.specs.Rules.{Room}
+use Rattle.summary.specs.Contracts.{Holds, Slice, summary}
+use Rattle.summary.specs.declared.Tally.{Tally}
+use Rattle.tracker.specs.declared.Position.{Position}
+use Rattle.tracker.specs.State.{most-count}
+
+-- room for so many more disturbances: by them no number of the summary passes 4,000,000,000
+abbrev pub Room-for : ℕ → Summary → Type 0
+Room-for more sum = Room (4000000000 - more) sum
+
+-- an accepted event: its settings, its place in the window and the places of the list for its picks
+abbrev pub Ranges : Settings → ℕ → ℕ → Type 0
+Ranges s e places =
+    (s .«blast_diameter» ≤ 4) × (s .rows ≤ 65536) × (s .volume ≤ 16) × (s .block ≤ 64) × (1 ≤ s .window) × (e ≤ 8192) × (s .volume ≤ places)
+
+-- the rules of a valid state that are about its position
+abbrev pub position-allowed : Settings → Position → Bool
+position-allowed s p =
+    ltb (p .events) (s .window) && leb (p .activations) (s .interval) && leb (p .tracked) (s .counters) && leb (p .spillover) most-count
+
+-- two lent tables and their tally hold a summary of rows below high
+abbrev pub Tracks-below : ℕ → Slice → Slice → Tally → Type 0
+Tracks-below high rows counts t =
+    Holds (length (now rows)) high (summary rows counts t) (now rows) (now counts) (t .tracked) (t .spillover)
+
+-- the row at the place, or the bank's end behind the last
+unfoldable pub next-row : List ℕ → ℕ → ℕ → ℕ → ℕ
+next-row rows tracked high i = cond (ltb i tracked) (getD rows i 0) high
+
+-- whether a row is the one at the place
+unfoldable pub at-row : List ℕ → ℕ → ℕ → ℕ → Bool
+at-row rows tracked row i = ltb i tracked && eqb (getD rows i 0) row
+
+-- a row's estimate, where the place is the first whose row is not below it
+unfoldable pub estimate-at : List ℕ → List ℕ → ℕ → ℕ → ℕ → ℕ → ℕ
+estimate-at rows counts tracked spillover row i = cond (at-row rows tracked row i) (getD counts i 0) spillover
+
+-- the place behind that row
+unfoldable pub place-after : List ℕ → ℕ → ℕ → ℕ → ℕ
+place-after rows tracked row i = cond (at-row rows tracked row i) (i + 1) i
