@@ -1,22 +1,16 @@
 -- What only inner contracts say, and no call's promise: room for more disturbances, ranges of an event's numbers, tables of a bank, and what
 -- a walk over a summary's two tables, in the order of rows, finds at a place i of them.
-use Prim.Native.Nat.{ℕ, _+_, _-_, _≤_}
+use Prim.Native.Nat.{ℕ, _+_, _≤_}
 use mathlib.Core.Bool.{Bool, _&&_, cond}
 use mathlib.Core.List.{List}
 use denote.Ref.{now}
 use lib.Dec.{leb, ltb, eqb}
 use lib.ListN.{length, getD}
 use Rattle.device.specs.declared.Settings.{Settings}
-use Rattle.summary.specs.Steps.{Summary}
-use Rattle.summary.specs.Rules.{Room}
 use Rattle.summary.specs.Contracts.{Holds, Slice, summary}
 use Rattle.summary.specs.declared.Tally.{Tally}
 use Rattle.tracker.specs.declared.Position.{Position}
 use Rattle.tracker.specs.State.{most-count}
-
--- room for so many more disturbances: by them no number of the summary passes 4,000,000,000
-abbrev pub Room-for : ℕ → Summary → Type 0
-Room-for more sum = Room (4000000000 - more) sum
 
 -- an accepted event: its settings, its place in the window and the places of the list for its picks
 abbrev pub Ranges : Settings → ℕ → ℕ → Type 0

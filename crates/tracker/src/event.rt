@@ -11,7 +11,8 @@ ghost use Rattle.summary.specs.Steps.{spread, besides, taken-out, cleared-if, e
 ghost use Rattle.summary.specs.Rules.{Below, Ordered};
 ghost use Rattle.summary.specs.Contracts.{summary, places, Tracks, Turns, Names};
 ghost use Rattle.tracker.specs.Calls.{victims-in, block-rows, ends-window};
-ghost use Rattle.tracker.specs.Contracts.{Room-for, Ranges};
+ghost use Rattle.summary.specs.Rules.{Room-for};
+ghost use Rattle.tracker.specs.Contracts.{Ranges};
 
 // The picked rows are named at the front of the lent picks and dropped, and so are the block's.
 fn take_out(

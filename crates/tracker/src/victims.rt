@@ -7,7 +7,7 @@ ghost use lib.ListN.{length};
 ghost use Rattle.summary.specs.Steps.{disturb-each, activation};
 ghost use Rattle.summary.specs.Contracts.{summary, places, Tracks, Turns};
 ghost use Rattle.tracker.specs.Calls.{victims-in};
-ghost use Rattle.tracker.specs.Contracts.{Room-for};
+ghost use Rattle.summary.specs.Rules.{Room-for};
 
 // a - b, not below 0.
 fn less_by(a: u32, b: u32) -> u32

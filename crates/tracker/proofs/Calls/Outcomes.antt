@@ -9,7 +9,6 @@ use lib.Dec.{eqb}
 use lib.ListN.{length, replicate}
 use Rattle.device.specs.declared.Settings.{Settings}
 use Rattle.device.specs.Refusal.{first-failed, refused, accepted as accepted-with, tested}
-use Rattle.device.proofs.Acceptance.{accepted-settings}
 use Rattle.device.proofs.Refusal.{tested-failed}
 use Rattle.summary.specs.Entries.{rows-of, counts-of}
 use Rattle.summary.specs.Steps.{empty, picked, event}

@@ -17,7 +17,7 @@ use Rattle.summary.proofs.Rules.Sound.{sound-empty}
 use Rattle.summary.proofs.Contracts.Holds.{held-read, long-rows}
 use Rattle.summary.proofs.Rules.Room.{room-more, room-drop}
 use Rattle.summary.proofs.Entries.Picks.{picks-below, length-picks-le}
-use Rattle.tracker.specs.Contracts.{Room-for}
+use Rattle.summary.specs.Rules.{Room-for}
 use Rattle.tracker.proofs.Steps.Spread.{spread-append, room-spread}
 
 -- picked rows out, then the block's

@@ -11,7 +11,7 @@ use Rattle.summary.specs.Tables.{read}
 use Rattle.summary.specs.Contracts.{Holds, Held}
 use Rattle.summary.proofs.Contracts.Holds.{held-read, long-rows, held-again}
 use Rattle.summary.proofs.Rules.Room.{room-more, room-each}
-use Rattle.tracker.specs.Contracts.{Room-for}
+use Rattle.summary.specs.Rules.{Room-for}
 
 pub spread-append : (counters : ℕ) (victims-of : ℕ → List ℕ) (xs ys : List ℕ) (s : Summary) → spread counters victims-of (xs ++ ys) s ≡ spread counters victims-of ys (spread counters victims-of xs s)
 unfolding spread
@@ -35,7 +35,7 @@ pub record Spreading (places : ℕ) (victims-of : ℕ → List ℕ) (whole rest 
   pub room : Room most sum
 
 module _ {places : ℕ} {victims-of : ℕ → List ℕ} {whole rest : List ℕ} {start : Summary} {rows counts : List ℕ} {k spill most : ℕ} (l : Spreading places victims-of whole rest start rows counts k spill most) where
-  pub spreading-ready : most ≤ 4000000000 - 128 → Held rows counts k spill × Room-for 128 (read rows counts k spill)
+  pub spreading-ready : most ≤ 4294967295 - 128 → Held rows counts k spill × Room-for 128 (read rows counts k spill)
   spreading-ready few = (held-again (l .holds), rw (held-read (l .holds)) (room-more (l .room) few))
 
   pub spreading-done : rest ≡ [] → Holds places 4294967296 (spread places victims-of whole start) rows counts k spill

@@ -17,7 +17,7 @@ use Rattle.tracker.proofs.event.spread_picks.Tie as tie
 
 abbrev Inv-loop : tie.InvT-loop
 Inv-loop s rows₀ counts₀ list used t₀ i₀ rows counts t i =
-    Spreading (length rows₀) (victims-in s) (take used list) (drop i (take used list)) (read rows₀ counts₀ (t₀ .tracked) (t₀ .spillover)) rows counts (t .tracked) (t .spillover) (4000000000 - 192 + 4 * i) ×
+    Spreading (length rows₀) (victims-in s) (take used list) (drop i (take used list)) (read rows₀ counts₀ (t₀ .tracked) (t₀ .spillover)) rows counts (t .tracked) (t .spillover) (4294967295 - 192 + 4 * i) ×
     (i ≤ used)
 
 abbrev μ-loop : tie.MeasureT-loop

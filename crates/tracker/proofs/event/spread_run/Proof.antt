@@ -17,7 +17,7 @@ use Rattle.tracker.proofs.event.spread_run.Tie as tie
 
 abbrev Inv-loop : tie.InvT-loop
 Inv-loop s rows₀ counts₀ list used low high t₀ row₀ rows counts t row =
-    Spreading (length rows₀) (victims-in s) (besides (take used list) (rows-between low high)) (besides (take used list) (rows-between row high)) (read rows₀ counts₀ (t₀ .tracked) (t₀ .spillover)) rows counts (t .tracked) (t .spillover) (4000000000 - 384 + 4 * (row - low)) ×
+    Spreading (length rows₀) (victims-in s) (besides (take used list) (rows-between low high)) (besides (take used list) (rows-between row high)) (read rows₀ counts₀ (t₀ .tracked) (t₀ .spillover)) rows counts (t .tracked) (t .spillover) (4294967295 - 384 + 4 * (row - low)) ×
     (low ≤ row)
 
 abbrev μ-loop : tie.MeasureT-loop
