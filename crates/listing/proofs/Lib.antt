@@ -1,18 +1,8 @@
--- Laws of the listing and of printing.
-pub mod Fronts
-pub mod Cuts
-pub mod Writing
-pub mod Accepts
-pub mod Turns
+-- The listing's laws, by the definitions that they are about; proofs of functions stand in folders of the functions' names.
+pub mod Output
+pub mod Steps
+pub mod Texts
+pub mod Memory
+pub mod Chunks
 pub mod Parts
-pub mod Alike
-pub mod Settled
-pub mod Carries
-pub mod Progress
-pub mod Lengths
-pub mod Taking
-pub mod Going
-pub mod Turning
-pub mod Kept
-pub mod Last
-pub mod Moves
+pub mod Claims

@@ -12,21 +12,29 @@ use Rattle.trace.specs.Numbers.{written}
 use Rattle.trace.specs.Lines.{ended}
 use Rattle.listing.specs.declared.Part.{Part}
 use Rattle.listing.specs.declared.Chunk.{Chunk}
-use Rattle.listing.specs.Output.{refusal-line}
+use Rattle.listing.specs.Output.{line-modulus, refusal-line}
 use Rattle.listing.specs.Steps.{Step, line-step}
 use Rattle.listing.specs.Texts.{lines, read}
-use Rattle.listing.specs.Memory.{Memory, memory-of, carried, stored}
+use Rattle.listing.specs.Memory.{Memory, memory-of, tracker-of, stored}
 
 -- the number of the line behind so many
 unfoldable pub next-number : ℕ → ℕ
-next-number lines = lines % 10000000000 + 1
+next-number lines = lines % line-modulus + 1
 
 -- what the next line does, as it was read, and what it leaves
 unfoldable pub step-in : Memory → Outcome Record → Step
-step-in m o = line-step (next-number (m .place .lines)) (carried m) o
+step-in m o = line-step (next-number (m .place .lines)) (tracker-of m) o
 
 unfoldable pub next-in : Memory → Outcome Record → Memory
 next-in m o = stored (step-in m o .tracker) (next-number (m .place .lines)) m
+
+-- the room before a line: the longest that is printed has 110 bytes
+abbrev pub line-room : ℕ
+line-room = 200
+
+-- of a line that has not ended so many bytes are kept: no record is as long
+abbrev pub most-kept : ℕ
+most-kept = 64
 
 -- how far a listing has come in a text and in a buffer: the bytes taken, and the place behind what was printed
 pub record Going : Type 0 where
@@ -46,9 +54,9 @@ gone q line =
       end = q .end + length prints;
     }
 
--- a line is taken if it has ended and 200 bytes are left to print in
+-- a line is taken if it has ended and there is room to print in
 unfoldable pub takes : Going → List ℕ → Bool
-takes q line = ended line && leb (q .end + 200) (length (q .buffer))
+takes q line = ended line && leb (q .end + line-room) (length (q .buffer))
 
 -- lines are taken until one is not
 unfoldable pub going : Going → List (List ℕ) → Going
@@ -59,9 +67,9 @@ going q (line ∷ lines) = cond (takes q line) (going (gone q line) lines) q
 unfoldable pub part : Memory → List ℕ → List ℕ → Going
 part m text buffer = going (record { memory = m; taken = 0; buffer = buffer; end = 0 }) (lines text)
 
--- of the bytes of a text from one place to another, the first 64
+-- of the bytes of a text from one place to another, the first
 unfoldable pub kept-bytes : ℕ → ℕ → List ℕ → List ℕ
-kept-bytes from to text = take 64 (drop from (take to text))
+kept-bytes from to text = take most-kept (drop from (take to text))
 
 -- what lies between two reads leaves: the memory, the buffer with what was printed, the text with the kept bytes at its front, and how many
 pub record Turned : Type 0 where

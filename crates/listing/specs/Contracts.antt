@@ -18,7 +18,7 @@ use Rattle.listing.specs.declared.Listed.{Listed}
 use Rattle.listing.specs.declared.Moved.{Moved}
 use Rattle.listing.specs.Output.{bound-line, refusal-line, Prints}
 use Rattle.listing.specs.Steps.{Step, refresh-step}
-use Rattle.listing.specs.Memory.{Memory, memory-of, stood, stored}
+use Rattle.listing.specs.Memory.{Memory, memory-of, tracker-in, stored}
 
 -- a text is printed into a lent buffer at a place; the place behind it
 abbrev pub Prints-into : Lent → ℕ → List ℕ → ℕ → Type 0
@@ -36,7 +36,7 @@ settings-line number (refused k) = refusal-line number k
 -- what a line did to a tracker that stands, in tables of C places, and what it printed
 pub record Lists (step : Step) (s : Settings) (rows counts : List ℕ) (p : Position) (before : List ℕ) (at : ℕ) (after : List ℕ) (end : ℕ) : Type 0 where
   pub printed : Prints before at (step .prints) after end
-  pub left : step .tracker ≡ stood s rows counts p
+  pub left : step .tracker ≡ tracker-in s rows counts p
 
 -- the places behind the first keep what they had
 pub record Behind (first : ℕ) (rows counts rows′ counts′ : List ℕ) : Type 0 where

@@ -5,4 +5,5 @@ pub mod Texts
 pub mod Memory
 pub mod Chunks
 pub mod Parts
+pub mod Claims
 pub mod Contracts

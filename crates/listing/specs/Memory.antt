@@ -12,7 +12,8 @@ use Rattle.tracker.specs.declared.Position.{Position}
 use Rattle.tracker.specs.Answers.{given}
 use Rattle.limit.specs.Reachable.{Reached}
 use Rattle.listing.specs.declared.Place.{Place}
-use Rattle.listing.specs.Steps.{Standing, Progress}
+use Rattle.listing.specs.Output.{line-modulus}
+use Rattle.listing.specs.Steps.{Tracker, Progress}
 
 -- what the caller keeps of a listing: where it is, and both tables
 pub record Memory : Type 0 where
@@ -31,7 +32,7 @@ memory-of place rows counts = memory place (now rows) (now counts)
 unfoldable pub start-place : Place
 start-place =
     record {
-      stands = false;
+      active = false;
       settings = record {
         rows = 0;
         «blast_diameter» = 0;
@@ -46,43 +47,43 @@ start-place =
     }
 
 -- a tracker in tables of C places
-unfoldable pub stood : Settings → List ℕ → List ℕ → Position → Option Standing
-stood s rows counts p = some (record { settings = s; state = given rows counts p })
+unfoldable pub tracker-in : Settings → List ℕ → List ℕ → Position → Option Tracker
+tracker-in s rows counts p = some (record { settings = s; state = given rows counts p })
 
 -- the tracker that the memory holds, if one stands
-unfoldable pub carried : Memory → Option Standing
-carried m =
+unfoldable pub tracker-of : Memory → Option Tracker
+tracker-of m =
     let s = m .place .settings in
-    cond (m .place .stands) (stood s (take (s .counters) (m .rows)) (take (s .counters) (m .counts)) (m .place .position)) none
+    cond (m .place .active) (tracker-in s (take (s .counters) (m .rows)) (take (s .counters) (m .counts)) (m .place .position)) none
 
 -- the memory with a tracker, if one stands, and so many lines: places that are not the tracker's keep what they had, and so do
 -- settings and position where none stands
-unfoldable pub stored : Option Standing → ℕ → Memory → Memory
+unfoldable pub stored : Option Tracker → ℕ → Memory → Memory
 stored none lines m =
     memory
-    (record { stands = false; settings = m .place .settings; position = m .place .position; lines = lines })
+    (record { active = false; settings = m .place .settings; position = m .place .position; lines = lines })
     (m .rows)
     (m .counts)
 stored (some t) lines m =
     let c = t .settings .counters in
     memory
-    (record { stands = true; settings = t .settings; position = t .state .position; lines = lines })
+    (record { active = true; settings = t .settings; position = t .state .position; lines = lines })
     (t .state .rows ++ drop c (m .rows))
     (t .state .counts ++ drop c (m .counts))
 
 -- a tracker that stands was reached by calls after an accepted setting up
-unfoldable pub Running : Option Standing → Type 0
+unfoldable pub Running : Option Tracker → Type 0
 Running none = Unit {0}
 Running (some t) = Reached (t .settings) (t .state)
 
 -- the memory is a listing's: both tables have 2,048 places, and a tracker that stands was reached
 pub record Ready (m : Memory) : Type 0 where
-  pub running : Running (carried m)
+  pub running : Running (tracker-of m)
   pub rows-long : length (m .rows) ≡ 2048
   pub counts-long : length (m .counts) ≡ 2048
 
 -- the memory holds where a listing is, its lines counted modulo 10,000,000,000
 pub record Represents (m : Memory) (g : Progress) : Type 0 where
   pub ready : Ready m
-  pub tracker : g .tracker ≡ carried m
-  pub lines : m .place .lines % 10000000000 ≡ g .count % 10000000000
+  pub tracker : g .tracker ≡ tracker-of m
+  pub lines : m .place .lines % line-modulus ≡ g .count % line-modulus

@@ -27,33 +27,8 @@ unfoldable pub joined : List (List ℕ) → List ℕ
 joined [] = []
 joined (part ∷ parts) = part ++ joined parts
 
--- however a text is cut into parts, and whatever is listed when: what is printed is the listing of the whole
-unfoldable pub Parts-joined : Type 0
-Parts-joined =
-    (g : Progress) (text : List ℕ) (parts : List (List ℕ)) (out : List ℕ) → Printed g text parts out → out ≡ listing g (text ++ joined parts)
-
 -- moves that begin where the memory says that the listing is: they print some bytes first, and leave other memory and other bytes at hand
 pub record Moves (g : Progress) (text printed : List ℕ) (m : Memory) (left : List ℕ) : Type 0 where
   pub next : Progress
   pub represents : Represents m next
   pub moves : (parts : List (List ℕ)) (out : List ℕ) → Printed next left parts out → Printed g text parts (printed ++ out)
-
--- what `list_part` promises is the move `lists`
-unfoldable pub Part-moves : Type 0
-Part-moves =
-    (m : Memory) (g : Progress) (text buffer : List ℕ) → Represents m g →
-    let q = part m text buffer in
-    Moves g text (take (q .end) (q .buffer)) (q .memory) (drop (q .taken) text)
-
--- what `list_chunk` promises, with `keep` in it, are the moves `lists` and `keeps`
-unfoldable pub Chunk-moves : Type 0
-Chunk-moves =
-    (m : Memory) (g : Progress) (text : List ℕ) (len : ℕ) (buffer : List ℕ) → Represents m g → len ≤ length text → 55 * len + 200 ≤ length buffer →
-    let q = turned m text len buffer in
-    Moves g (take len text) (take (q .end) (q .buffer)) (q .memory) (take (q .kept) (q .text))
-
--- what `list_end` promises is the move `ends`
-unfoldable pub End-moves : Type 0
-End-moves =
-    (m : Memory) (g : Progress) (text : List ℕ) (room : ℕ) → Represents m g → ended text ≡ false → 18 ≤ room →
-    Printed g text [] (last-line (next-number (m .place .lines)) text room)

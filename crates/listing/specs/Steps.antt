@@ -14,13 +14,13 @@ use Rattle.trace.specs.declared.Record.the-variants.{Set, Activate, Refresh, Bl
 use Rattle.listing.specs.Output.{bound-line, refresh-line, refusal-line}
 
 -- a tracker that stands: its settings, and its state in tables of C places
-pub record Standing : Type 0 where
+pub record Tracker : Type 0 where
   pub settings : Settings
   pub state : State
 
 -- where a listing is: the tracker, if one stands, and the number of lines so far
 pub record Progress : Type 0 where
-  pub tracker : Option Standing
+  pub tracker : Option Tracker
   pub count : ℕ
 
 -- before the first line
@@ -30,10 +30,10 @@ start = record { tracker = none; count = 0 }
 -- what a line prints, and the tracker behind it, if one stands
 pub record Step : Type 0 where
   pub prints : List ℕ
-  pub tracker : Option Standing
+  pub tracker : Option Tracker
 
 -- 'a refused line prints `X`, its line number .. and the refusal'
-unfoldable pub refused-step : ℕ → ℕ → Option Standing → Step
+unfoldable pub refused-step : ℕ → ℕ → Option Tracker → Step
 refused-step number k left = record { prints = refusal-line number k; tracker = left }
 
 -- 'sets up afresh and prints `B`'; 'after an `S` line of the right form whose settings are refused no tracker stands'
@@ -67,7 +67,7 @@ refresh-step number s e call =
     }
 
 -- a record, by the tracker that stands; 11: '`A` or `R` while no tracker stands'. An event is lent a list of V places
-unfoldable pub record-step : ℕ → Option Standing → Record → Step
+unfoldable pub record-step : ℕ → Option Tracker → Record → Step
 record-step number t (Set s) =
     let call = set-up s (replicate (s .counters) 0) (replicate (s .counters) 0) in
     set-up-step number s call (call .answer)
@@ -80,7 +80,7 @@ record-step number (some t) Refresh =
 record-step number t Blank = record { prints = []; tracker = t }
 
 -- a line as it was read: its record or its refusal
-unfoldable pub line-step : ℕ → Option Standing → Outcome Record → Step
+unfoldable pub line-step : ℕ → Option Tracker → Outcome Record → Step
 line-step number t (accepted r) = record-step number t r
 line-step number t (refused k) = refused-step number k t
 

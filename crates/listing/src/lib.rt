@@ -20,7 +20,7 @@ const ROOM: usize = 200;
 
 // Where a listing is: whether a tracker stands, its settings and position, and the lines so far, which count modulo 10,000,000,000.
 pub struct Place {
-    pub stands: bool,
+    pub active: bool,
     pub settings: Settings,
     pub position: Position,
     pub lines: u64,
@@ -57,7 +57,7 @@ pub fn start() -> Place
     ensures { λ r. ⌜ r ≡ start-place ⌝ }
 {
     Place {
-        stands: false,
+        active: false,
         settings: Settings {
             rows: 0,
             blast_diameter: 0,

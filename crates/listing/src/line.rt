@@ -16,7 +16,7 @@ ghost use Rattle.tracker.specs.Calls.{activation-on};
 ghost use Rattle.tracker.specs.Answers.{lent};
 ghost use Rattle.limit.specs.Reachable.{Reached};
 ghost use Rattle.listing.specs.Steps.{record-step, activation-step};
-ghost use Rattle.listing.specs.Memory.{memory-of, carried};
+ghost use Rattle.listing.specs.Memory.{memory-of, tracker-of};
 ghost use Rattle.listing.specs.Contracts.{Prints-into, settings-line, front, event-step, Lists-whole, Lists-front, Keeps-behind, Sets-up-front, Lists-line};
 
 // An activation line, on tables of C places.
@@ -134,7 +134,7 @@ pub fn list_settings(
     at: usize,
 ) -> Listed
     requires { ⌜ (at + 200 ≤ length (now out)) × (length (now rows) ≡ 2048) × (length (now counts) ≡ 2048) ⌝ }
-    ensures { λ r. ⌜ Lists-line (record-step line (carried (memory-of p (rows .entry) (counts .entry))) (Set s)) line p rows counts out at r ⌝ }
+    ensures { λ r. ⌜ Lists-line (record-step line (tracker-of (memory-of p (rows .entry) (counts .entry))) (Set s)) line p rows counts out at r ⌝ }
 {
     let end = print_settings(out, at, line, bound::bound(s));
     if device::settings_refusal(s) != 0 {
@@ -142,7 +142,7 @@ pub fn list_settings(
         let position = p.position;
         return Listed {
             place: Place {
-                stands: false,
+                active: false,
                 settings,
                 position,
                 lines: line,
@@ -159,7 +159,7 @@ pub fn list_settings(
     };
     Listed {
         place: Place {
-            stands: true,
+            active: true,
             settings: s,
             position,
             lines: line,

@@ -13,17 +13,17 @@ ghost use lib.ListN.{length};
 ghost use Rattle.trace.specs.declared.Record.the-variants.{Activate, Refresh};
 ghost use Rattle.trace.specs.Reading.{said};
 ghost use Rattle.listing.specs.Steps.{record-step};
-ghost use Rattle.listing.specs.Memory.{memory-of, carried, Ready};
+ghost use Rattle.listing.specs.Memory.{memory-of, tracker-of, Ready};
 ghost use Rattle.listing.specs.Contracts.{Lists-line};
 ghost use Rattle.listing.specs.Chunks.{next-number, step-in};
 
 // A place with the tracker's position as given, and so many lines.
 fn at_line(p: Place, position: Position, lines: u64) -> Place
-    ensures { λ r. ⌜ r ≡ record { stands = p .stands; settings = p .settings; position = position; lines = lines } ⌝ }
+    ensures { λ r. ⌜ r ≡ record { active = p .active; settings = p .settings; position = position; lines = lines } ⌝ }
 {
     let settings = p.settings;
     Place {
-        stands: p.stands,
+        active: p.active,
         settings,
         position,
         lines,
@@ -41,10 +41,10 @@ fn activation_line(
     at: usize,
 ) -> Listed
     requires { ⌜ Ready (memory-of p rows counts) × (at + 200 ≤ length (now out)) ⌝ }
-    ensures { λ r. ⌜ Lists-line (record-step line (carried (memory-of p (rows .entry) (counts .entry))) (Activate row)) line p rows counts out at r ⌝ }
+    ensures { λ r. ⌜ Lists-line (record-step line (tracker-of (memory-of p (rows .entry) (counts .entry))) (Activate row)) line p rows counts out at r ⌝ }
 {
     let position = p.position;
-    if p.stands {
+    if p.active {
         let s = p.settings;
         let moved = line::front_activation(s, rows, counts, position, row, line, out, at);
         let after = moved.position;
@@ -70,10 +70,10 @@ fn event_line(
     at: usize,
 ) -> Listed
     requires { ⌜ Ready (memory-of p rows counts) × (at + 200 ≤ length (now out)) ⌝ }
-    ensures { λ r. ⌜ Lists-line (record-step line (carried (memory-of p (rows .entry) (counts .entry))) Refresh) line p rows counts out at r ⌝ }
+    ensures { λ r. ⌜ Lists-line (record-step line (tracker-of (memory-of p (rows .entry) (counts .entry))) Refresh) line p rows counts out at r ⌝ }
 {
     let position = p.position;
-    if p.stands {
+    if p.active {
         let s = p.settings;
         let moved = line::front_event(s, rows, counts, position, line, out, at);
         let after = moved.position;
@@ -100,7 +100,7 @@ fn list_record(
     at: usize,
 ) -> Listed
     requires { ⌜ Ready (memory-of p rows counts) × (at + 200 ≤ length (now out)) ⌝ }
-    ensures { λ r. ⌜ Lists-line (record-step line (carried (memory-of p (rows .entry) (counts .entry))) what) line p rows counts out at r ⌝ }
+    ensures { λ r. ⌜ Lists-line (record-step line (tracker-of (memory-of p (rows .entry) (counts .entry))) what) line p rows counts out at r ⌝ }
 {
     let came = p.position;
     match what {

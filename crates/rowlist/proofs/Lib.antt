@@ -1,3 +1,3 @@
 -- Laws of the program's turns.
-pub mod Steady
-pub mod Listed
+pub mod Turns
+pub mod Claims

@@ -93,9 +93,3 @@ turn-left r rows counts text out =
 pub data Turns : Memory → List ℕ → ℕ → List (List ℕ) → List ℕ → Type 0 where
   goes-on : {m : Memory} {text : List ℕ} {kept : ℕ} (text₁ buffer : List ℕ) (len : ℕ) {parts : List (List ℕ)} {out : List ℕ} → Came (Bytes len) kept text text₁ → 55 * length text₁ + 200 ≤ length buffer → Turns (turn-of m text₁ kept (Bytes len) buffer .memory) (turn-of m text₁ kept (Bytes len) buffer .text) (turn-of m text₁ kept (Bytes len) buffer .kept) parts out → Turns m text kept (drop kept (take len text₁) ∷ parts) (take (turn-of m text₁ kept (Bytes len) buffer .end) (turn-of m text₁ kept (Bytes len) buffer .buffer) ++ out)
   stops : {m : Memory} {text : List ℕ} {kept : ℕ} (text₁ buffer : List ℕ) → Came End kept text text₁ → 200 ≤ length buffer → Turns m text kept [] (take (turn-of m text₁ kept End buffer .end) (turn-of m text₁ kept End buffer .buffer))
-
--- from the start on, all that is to be written is the listing of all that the reads brought
-unfoldable pub Turns-listed : Type 0
-Turns-listed =
-    (rows counts text : List ℕ) → length rows ≡ 2048 → length counts ≡ 2048 → (parts : List (List ℕ)) (out : List ℕ) →
-    Turns (memory start-place rows counts) text 0 parts out → out ≡ listing start (joined parts)

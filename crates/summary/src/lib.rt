@@ -163,7 +163,8 @@ pub fn drop_run(rows: &mut [u32], counts: &mut [u32], t: Tally, low: u32, high: 
 fn take_top(rows: &mut [u32], counts: &mut [u32], t: Tally) -> Taken
     requires { ⌜ Tracks rows counts t ⌝ }
     requires { ⌜ 0 < t .tracked ⌝ }
-    ensures { λ r. ⌜ (r .row ∷ [] ≡ picks 1 (summary (rows .entry) (counts .entry) t .entries)) × Turns rows counts t (drop-rows (r .row ∷ [])) (r .tally) ⌝ }
+    ensures { λ r. ⌜ r .row ∷ [] ≡ picks 1 (summary (rows .entry) (counts .entry) t .entries) ⌝ }
+    ensures { λ r. ⌜ Turns rows counts t (drop-rows (r .row ∷ [])) (r .tally) ⌝ }
 {
     let at = tables::first_highest(counts, t.tracked);
     let row = rows[at];

@@ -8,10 +8,9 @@ ghost use Prim.Native.Nat.{_-_, _≤_, _<_};
 ghost use lib.ListN.{length, take};
 ghost use Rattle.device.specs.Victims.{rows-between};
 ghost use Rattle.summary.specs.Steps.{spread, besides, taken-out, cleared-if, event};
-ghost use Rattle.summary.specs.Rules.{Below, Ordered};
+ghost use Rattle.summary.specs.Rules.{Below, Ordered, Room-for};
 ghost use Rattle.summary.specs.Contracts.{summary, places, Tracks, Turns, Names};
 ghost use Rattle.tracker.specs.Calls.{victims-in, block-rows, ends-window};
-ghost use Rattle.summary.specs.Rules.{Room-for};
 ghost use Rattle.tracker.specs.Contracts.{Ranges};
 
 // The picked rows are named at the front of the lent picks and dropped, and so are the block's.

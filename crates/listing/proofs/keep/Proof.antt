@@ -5,7 +5,7 @@ use Prim.Native.Nat.{ℕ, _-_, _≤_}
 use native.Mathlib.Omega.{arith}
 use borrow.Author.Needs.{needs}
 use lib.ListN.{length, drop}
-use Rattle.listing.proofs.Kept.{kept-few, kept-is, Copied, copied-long, front-long, copied-on}
+use Rattle.listing.proofs.Chunks.KeptBytes.{kept-few, kept-is, Copied, copied-long, front-long, copied-on}
 use Rattle.listing.proofs.keep.Statement.{statement}
 use Rattle.listing.proofs.keep.Tie as tie
 

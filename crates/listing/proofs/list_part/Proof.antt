@@ -7,8 +7,8 @@ use borrow.Author.Tests.{leb-true, leb-false}
 use lib.ListN.{length}
 use Rattle.trace.specs.Reading.{Reading}
 use Rattle.listing.specs.Chunks.{part}
-use Rattle.listing.proofs.Taking.{place-within, ends-with, ends-without}
-use Rattle.listing.proofs.Turning.{come, Turning, turning-begins, turning-on, stops-unended, stops-short, stops-end}
+use Rattle.listing.proofs.Texts.NextLine.{place-within, ends-with, ends-without}
+use Rattle.listing.proofs.Chunks.PartLoop.{come, Turning, turning-start, turning-step, going-unended, going-short, going-end}
 use Rattle.listing.proofs.list_part.Statement.{statement}
 use Rattle.listing.proofs.list_part.Tie as tie
 
@@ -19,7 +19,7 @@ abbrev μ-loop : tie.MeasureT-loop
 μ-loop rows₀ counts₀ text out₀ place₀ at₀ end₀ rows counts out place at end = length text - at
 
 loop-holds : tie.Need-loop-holds Inv-loop μ-loop
-loop-holds c = turning-begins _ _ (c .before .before .before .before .pre)
+loop-holds c = turning-start _ _ (c .before .before .before .before .pre)
 
 sub-if1 : tie.Need-sub-if1 Inv-loop μ-loop
 sub-if1 c = omega (arith, c .before .loop .inv .fits)
@@ -53,7 +53,7 @@ returns : tie.Need-returns Inv-loop μ-loop
 unfolding part
 returns c =
     let less = c .before .before .before .before .before .loop-test .taken in
-    stops-unended (c .before .before .before .before .before .before .loop .inv) less (ends-without _ _ _ (c .before .before .place-behind .ensures ∙ ap (λ (r : Reading). r .place) (c .before .before .before .read-line .ensures)) less (c .if2 .taken))
+    going-unended (c .before .before .before .before .before .before .loop .inv) less (ends-without _ _ _ (c .before .before .place-behind .ensures ∙ ap (λ (r : Reading). r .place) (c .before .before .before .read-line .ensures)) less (c .if2 .taken))
 
 list-line-requires : tie.Need-list-line-requires Inv-loop μ-loop
 list-line-requires c κs =
@@ -73,7 +73,7 @@ loop-again c =
     let less = c .before .before .before .before .before .before .before .before .before .before .before .before .before .before .before .before .loop-test .taken in
     let room : l .end + 200 ≤ length (l .out) = omega (arith, l .inv .fits, leb-true 200 (length (l .out) - l .end) (c .before .before .before .before .before .before .before .before .before .before .before .before .before .before .before .if1 .taken)) in
     rw at
-    (turning-on (l .inv) less (ends-with _ _ _ at less (c .before .before .before .before .before .before .before .before .before .before .before .if2 .left)) room (rw (c .before .before .before .before .before .before .before .before .before .before .before .before .before .before .read-line .ensures) at (c .before .before .before .before .before .before .before .list-line .ensures)))
+    (turning-step (l .inv) less (ends-with _ _ _ at less (c .before .before .before .before .before .before .before .before .before .before .before .if2 .left)) room (rw (c .before .before .before .before .before .before .before .before .before .before .before .before .before .before .read-line .ensures) at (c .before .before .before .before .before .before .before .list-line .ensures)))
 
 same-length-4 : tie.Need-same-length-4 Inv-loop μ-loop
 same-length-4 c = c .before .before .loop .inv .ready .rows-long ∙ sym (c .before .before .before .before .before .before .before .pre .rows-long)
@@ -89,7 +89,7 @@ unfolding part
 returns-2 c =
     let l = c .before .before .loop in
     let short : length (l .out) < l .end + 200 = omega (arith, l .inv .fits, leb-false 200 (length (l .out) - l .end) (c .if1 .left)) in
-    stops-short (l .inv) (c .before .loop-test .taken) short
+    going-short (l .inv) (c .before .loop-test .taken) short
 
 same-length-7 : tie.Need-same-length-7 Inv-loop μ-loop
 same-length-7 c = c .before .loop .inv .ready .rows-long ∙ sym (c .before .before .before .before .before .before .pre .rows-long)
@@ -102,7 +102,7 @@ same-length-9 c = c .before .loop .inv .long
 
 returns-3 : tie.Need-returns-3 Inv-loop μ-loop
 unfolding part
-returns-3 c = stops-end (c .before .loop .inv) (c .loop-test .left)
+returns-3 c = going-end (c .before .loop .inv) (c .loop-test .left)
 
 pub list-part-spec : {M : Type 1} → statement M
 list-part-spec =

@@ -7,9 +7,9 @@ use borrow.Author.Needs.{needs}
 use lib.ListN.{length}
 use lib.Seq.{length-take-le}
 use Rattle.listing.specs.Memory.{memory, Ready}
-use Rattle.listing.proofs.Progress.{start-represents}
+use Rattle.listing.proofs.Memory.Progress.{represents-start}
 use Rattle.rowlist.specs.declared.Turn.{Turn}
-use Rattle.rowlist.proofs.Steady.{turn-steady}
+use Rattle.rowlist.proofs.Turns.{steady-turn-left}
 use Rattle.rowlist.proofs.run.Statement.{statement}
 use Rattle.rowlist.proofs.run.Tie as tie
 
@@ -33,7 +33,7 @@ loop-holds c =
     let a = c .before .before .before .before .before in
     rw (c .first-turn .ensures)
     (record {
-      ready = start-represents (a .args .rows .now) (a .args .counts .now) (a .pre .0) (a .pre .1) .ready;
+      ready = represents-start (a .args .rows .now) (a .args .counts .now) (a .pre .0) (a .pre .1) .ready;
       text-long = a .pre .2;
       out-long = a .pre .3;
       few = omega arith;
@@ -60,7 +60,7 @@ slice-reshare-prefix-write-all c =
     let r = c .before .before .before .before .before .before .before .before .before .before .before .before .before .before .before .read-behind in
     let b = c .before .before .before .before .before .before .before .before .between-reads in
     let few : l .turn .kept ≤ length (r .last .0) = omega (arith, r .kept .0, l .inv .text-long, l .inv .few) in
-    let left = turn-steady _ _ _ _ _ _ (b .ensures) (l .inv .ready) few (r .ensures .within) in
+    let left = steady-turn-left _ _ _ _ _ _ (b .ensures) (l .inv .ready) few (r .ensures .within) in
     omega (arith, left .fits, b .kept .1 .1 .1 .1 .1 .0)
 
 slice-aggregate-write-all : tie.Need-slice-aggregate-write-all Inv-loop μ-loop
@@ -69,7 +69,7 @@ slice-aggregate-write-all c =
     let r = c .before .before .before .before .before .before .before .before .before .before .before .before .before .before .before .before .read-behind in
     let b = c .before .before .before .before .before .before .before .before .before .between-reads in
     let few : l .turn .kept ≤ length (r .last .0) = omega (arith, r .kept .0, l .inv .text-long, l .inv .few) in
-    let left = turn-steady _ _ _ _ _ _ (b .ensures) (l .inv .ready) few (r .ensures .within) in
+    let left = steady-turn-left _ _ _ _ _ _ (b .ensures) (l .inv .ready) few (r .ensures .within) in
     sym (length-take-le (b .result .end) (b .last .1 .1 .1 .1 .1 .0) (omega (arith, left .fits, b .kept .1 .1 .1 .1 .1 .0)))
 
 write-all-requires : tie.Need-write-all-requires Inv-loop μ-loop
@@ -117,7 +117,7 @@ loop-again c =
     let r = c .before .before .before .before .before .before .before .before .before .before .before .before .before .before .before .before .before .before .before .before .read-behind in
     let b = c .before .before .before .before .before .before .before .before .before .before .before .before .before .between-reads in
     let few : l .turn .kept ≤ length (r .last .0) = omega (arith, r .kept .0, l .inv .text-long, l .inv .few) in
-    let left = turn-steady _ _ _ _ _ _ (b .ensures) (l .inv .ready) few (r .ensures .within) in
+    let left = steady-turn-left _ _ _ _ _ _ (b .ensures) (l .inv .ready) few (r .ensures .within) in
     record {
       ready = left .ready;
       text-long = b .kept .1 .1 .1 .0 ∙ r .kept .0 ∙ l .inv .text-long;

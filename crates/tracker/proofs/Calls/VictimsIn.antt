@@ -8,10 +8,9 @@ use Rattle.device.specs.declared.Settings.{Settings}
 use Rattle.device.specs.Victims.{rows-between, victims}
 use Rattle.device.proofs.Victims.{between-length, length-victims-le}
 use Rattle.summary.specs.Steps.{Summary, disturb, disturb-each}
-use Rattle.summary.specs.Rules.{Room}
+use Rattle.summary.specs.Rules.{Room, Room-for}
 use Rattle.summary.proofs.Rules.Room.{room-more, room-each}
 use Rattle.tracker.specs.Calls.{victims-in}
-use Rattle.summary.specs.Rules.{Room-for}
 
 each-append : (counters : ℕ) (xs ys : List ℕ) (s : Summary) → disturb-each counters (xs ++ ys) s ≡ disturb-each counters ys (disturb-each counters xs s)
 unfolding disturb-each

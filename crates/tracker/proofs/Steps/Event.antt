@@ -8,7 +8,7 @@ use native.Mathlib.Omega.{arith}
 use lib.ListN.{length, replicate, take, drop}
 use lib.Seq.{take-at}
 use Rattle.summary.specs.Steps.{Summary, spread, besides, drop-rows, picked, taken-out, empty, cleared-if, sources, event}
-use Rattle.summary.specs.Rules.{Room, Below, below-none, below-more, bare, Ordered}
+use Rattle.summary.specs.Rules.{Room, Below, below-none, below-more, bare, Ordered, Room-for}
 use Rattle.summary.specs.Tables.{table, read}
 use Rattle.summary.specs.Contracts.{Holds, PickedFrom}
 use Rattle.summary.specs.Entries.{rows-of, counts-of, picks}
@@ -17,7 +17,6 @@ use Rattle.summary.proofs.Rules.Sound.{sound-empty}
 use Rattle.summary.proofs.Contracts.Holds.{held-read, long-rows}
 use Rattle.summary.proofs.Rules.Room.{room-more, room-drop}
 use Rattle.summary.proofs.Entries.Picks.{picks-below, length-picks-le}
-use Rattle.summary.specs.Rules.{Room-for}
 use Rattle.tracker.proofs.Steps.Spread.{spread-append, room-spread}
 
 -- picked rows out, then the block's

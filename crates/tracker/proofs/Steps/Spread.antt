@@ -6,12 +6,11 @@ use native.Mathlib.Omega.{arith}
 use lib.ListN.{length, getD}
 use Rattle.laws.proofs.Cases.{split}
 use Rattle.summary.specs.Steps.{Summary, disturb-each, spread, besides, in-rows}
-use Rattle.summary.specs.Rules.{Room, Below, below-none, below-more}
+use Rattle.summary.specs.Rules.{Room, Below, below-none, below-more, Room-for}
 use Rattle.summary.specs.Tables.{read}
 use Rattle.summary.specs.Contracts.{Holds, Held}
 use Rattle.summary.proofs.Contracts.Holds.{held-read, long-rows, held-again}
 use Rattle.summary.proofs.Rules.Room.{room-more, room-each}
-use Rattle.summary.specs.Rules.{Room-for}
 
 pub spread-append : (counters : ℕ) (victims-of : ℕ → List ℕ) (xs ys : List ℕ) (s : Summary) → spread counters victims-of (xs ++ ys) s ≡ spread counters victims-of ys (spread counters victims-of xs s)
 unfolding spread

@@ -5,7 +5,7 @@ use Rattle.tracker.specs.Calls.{activation-on}
 use Rattle.listing.specs.Steps.{activation-step}
 use Rattle.tracker.specs.Answers.{given}
 use Rattle.listing.specs.Contracts.{Lists}
-use Rattle.listing.proofs.Parts.{fronts, fronts-behind}
+use Rattle.listing.proofs.Memory.FrontPlaces.{front-places, behind-front-places}
 use Rattle.listing.proofs.line.front_activation.Statement.{statement}
 use Rattle.listing.proofs.line.front_activation.Tie as tie
 
@@ -18,7 +18,7 @@ returns : tie.Need-returns
 returns c =
     let a = c .before .before .before .before .before .before .before .before .before .before .before .before .before .before in
     let r = c .before .before .before .before .before .before .list-activation in
-    (fronts (λ rows counts rows′ counts′. Lists (activation-step (a .args .line) (a .args .s) (activation-on (a .args .s) (given rows counts (a .args .p)) (a .args .row))) (a .args .s) rows′ counts′ (r .result .position) (a .args .out .now) (a .args .at) (r .last .1 .1 .1 .1 .1 .1 .0) (r .result .end)) (a .args .s .counters) (a .args .rows .now) (a .args .counts .now) (r .last .1 .0) (r .last .1 .1 .0) _ _ (a .pre .2) (a .pre .3) (r .kept .1 .0) (r .kept .1 .1 .0) (r .ensures), fronts-behind (a .args .s .counters) (a .args .rows .now) (a .args .counts .now) (r .last .1 .0) (r .last .1 .1 .0) (a .pre .2) (a .pre .3) (r .kept .1 .0) (r .kept .1 .1 .0))
+    (front-places (λ rows counts rows′ counts′. Lists (activation-step (a .args .line) (a .args .s) (activation-on (a .args .s) (given rows counts (a .args .p)) (a .args .row))) (a .args .s) rows′ counts′ (r .result .position) (a .args .out .now) (a .args .at) (r .last .1 .1 .1 .1 .1 .1 .0) (r .result .end)) (a .args .s .counters) (a .args .rows .now) (a .args .counts .now) (r .last .1 .0) (r .last .1 .1 .0) _ _ (a .pre .2) (a .pre .3) (r .kept .1 .0) (r .kept .1 .1 .0) (r .ensures), behind-front-places (a .args .s .counters) (a .args .rows .now) (a .args .counts .now) (r .last .1 .0) (r .last .1 .1 .0) (a .pre .2) (a .pre .3) (r .kept .1 .0) (r .kept .1 .1 .0))
 
 pub front-activation-spec : {M : Type 1} → statement M
 front-activation-spec =

@@ -2,8 +2,8 @@
 use native.Mathlib.Omega.{arith}
 use borrow.Author.Needs.{needs}
 use Rattle.tracker.specs.Answers.{given}
-use Rattle.listing.proofs.Accepts.{row-outside, interval-full, activation-accepted}
-use Rattle.listing.proofs.Turns.{activation-refusal-listed, activation-listed}
+use Rattle.listing.proofs.Steps.ReachedCalls.{row-outside, interval-full, activation-accepted}
+use Rattle.listing.proofs.Steps.CallLines.{activation-refusal-listed, activation-listed}
 use Rattle.listing.proofs.line.list_activation.Statement.{statement}
 use Rattle.listing.proofs.line.list_activation.Tie as tie
 

@@ -1,8 +1,8 @@
 -- `listing::line::list_event` meets its contract.
 use native.Mathlib.Omega.{arith}
 use Rattle.tracker.specs.Answers.{given}
-use Rattle.listing.proofs.Accepts.{event-accepted}
-use Rattle.listing.proofs.Turns.{volume-most, event-few, event-listed}
+use Rattle.listing.proofs.Steps.ReachedCalls.{event-accepted}
+use Rattle.listing.proofs.Steps.CallLines.{volume-most, event-few, event-listed}
 use borrow.Author.Needs.{needs}
 use Rattle.listing.proofs.line.list_event.Statement.{statement}
 use Rattle.listing.proofs.line.list_event.Tie as tie

@@ -6,9 +6,9 @@ use lib.ListN.{take}
 use Rattle.device.proofs.Acceptance.{accepted-settings}
 use Rattle.bound.proofs.Answers.{small-bound-answer}
 use Rattle.tracker.specs.Answers.{given}
-use Rattle.listing.specs.Memory.{memory, stood, carried, stored}
-use Rattle.listing.proofs.Carries.{front-put}
-use Rattle.listing.proofs.Settled.{settings-printed, settings-refused, settings-stand}
+use Rattle.listing.specs.Memory.{memory, tracker-in, tracker-of, stored}
+use Rattle.listing.proofs.Memory.Tracker.{table-parts}
+use Rattle.listing.proofs.Steps.SettingsLine.{settings-printed, settings-refused, settings-stand}
 use Rattle.listing.proofs.line.list_settings.Statement.{statement}
 use Rattle.listing.proofs.line.list_settings.Tie as tie
 
@@ -24,8 +24,8 @@ returns c =
     let m = memory (a .args .p) (a .args .rows .now) (a .args .counts .now) in
     let b = c .before .before .before .before .before .before .before .bound in
     record {
-      printed = settings-printed (a .args .line) (a .args .s) (carried m) (b .result) (b .ensures) (c .before .before .before .before .before .before .print-settings .ensures);
-      left = rw (settings-refused (a .args .line) (a .args .s) (carried m) (λ e. c .before .before .if1 .taken (c .before .before .before .settings-refusal .ensures ∙ e)));
+      printed = settings-printed (a .args .line) (a .args .s) (tracker-of m) (b .result) (b .ensures) (c .before .before .before .before .before .before .print-settings .ensures);
+      left = rw (settings-refused (a .args .line) (a .args .s) (tracker-of m) (λ e. c .before .before .if1 .taken (c .before .before .before .settings-refusal .ensures ∙ e)));
     }
 
 front-set-up-requires : tie.Need-front-set-up-requires
@@ -35,7 +35,7 @@ front-set-up-requires c κs =
     (omega (arith, a .pre .1, ok .counters .most), omega (arith, a .pre .2, ok .counters .most))
 
 returns-2 : tie.Need-returns-2
-unfolding stored stood given
+unfolding stored tracker-in given
 returns-2 c =
     let a = c .before .before .before .before .before .before .before .before .before .before .before .before .before .before .before .before .before in
     let s = a .args .s in
@@ -47,13 +47,13 @@ returns-2 c =
     let e = sym (c .before .before .before .before .before .before .before .before .settings-refusal .ensures) ∙ c .before .before .before .before .before .before .before .if1 .left in
     let ok = accepted-settings s e in
     record {
-      printed = settings-printed (a .args .line) s (carried m) (b .result) (b .ensures) (c .before .before .before .before .before .before .before .before .before .before .before .print-settings .ensures);
+      printed = settings-printed (a .args .line) s (tracker-of m) (b .result) (b .ensures) (c .before .before .before .before .before .before .before .before .before .before .before .print-settings .ensures);
       left =
-          rw (settings-stand (a .args .line) s (carried m) (f .result) (m .rows) (m .counts) (take (s .counters) rows) (take (s .counters) counts) e
+          rw (settings-stand (a .args .line) s (tracker-of m) (f .result) (m .rows) (m .counts) (take (s .counters) rows) (take (s .counters) counts) e
           (omega (arith, a .pre .1, ok .counters .most))
           (omega (arith, a .pre .2, ok .counters .most))
           (f .ensures .0))
-          (rw (← front-put (s .counters) (m .rows) rows (f .ensures .1 .of-rows), ← front-put (s .counters) (m .counts) counts (f .ensures .1 .of-counts)));
+          (rw (← table-parts (s .counters) (m .rows) rows (f .ensures .1 .of-rows), ← table-parts (s .counters) (m .counts) counts (f .ensures .1 .of-counts)));
     }
 
 pub list-settings-spec : {M : Type 1} → statement M

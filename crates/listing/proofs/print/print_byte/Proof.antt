@@ -1,7 +1,7 @@
 -- `listing::print::print_byte` meets its contract.
 use native.Mathlib.Omega.{arith}
 use borrow.Author.Needs.{needs}
-use Rattle.listing.proofs.Writing.{prints-byte}
+use Rattle.listing.proofs.Output.Printing.{prints-byte}
 use Rattle.listing.proofs.print.print_byte.Statement.{statement}
 use Rattle.listing.proofs.print.print_byte.Tie as tie
 

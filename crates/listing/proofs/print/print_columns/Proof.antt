@@ -1,7 +1,7 @@
 -- `listing::print::print_columns` meets its contract.
 use native.Mathlib.Omega.{arith}
 use borrow.Author.Needs.{needs}
-use Rattle.listing.proofs.Writing.{prints-number}
+use Rattle.listing.proofs.Output.Printing.{prints-number}
 use Rattle.listing.proofs.print.print_columns.Statement.{statement}
 use Rattle.listing.proofs.print.print_columns.Tie as tie
 

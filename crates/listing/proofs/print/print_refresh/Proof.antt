@@ -4,7 +4,7 @@ use borrow.Author.Needs.{needs}
 use lib.Seq.{length-take-le}
 use Rattle.trace.proofs.Numbers.Printed.{length-printed}
 use Rattle.listing.specs.Output.{refresh-line}
-use Rattle.listing.proofs.Writing.{prints-then, length-taken}
+use Rattle.listing.proofs.Output.Printing.{prints-then, length-row-columns-take}
 use Rattle.listing.proofs.print.print_refresh.Statement.{statement}
 use Rattle.listing.proofs.print.print_refresh.Tie as tie
 
@@ -19,7 +19,7 @@ print-rows-requires c κs =
 print-byte-requires-2 : tie.Need-print-byte-requires-2
 print-byte-requires-2 c κs =
     let a = c .before .before .before .before .before .before .before .before .before .before .before .before .before .before .before .before .before .before .before .args in
-    omega (arith, length-printed 6 (a .e), length-printed 6 (a .count), length-taken (a .picks .now) (a .count) (omega arith))
+    omega (arith, length-printed 6 (a .e), length-printed 6 (a .count), length-row-columns-take (a .picks .now) (a .count) (omega arith))
 
 returns : tie.Need-returns
 unfolding refresh-line

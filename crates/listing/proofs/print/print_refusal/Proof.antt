@@ -4,7 +4,7 @@ use native.Mathlib.Omega.{arith}
 use borrow.Author.Needs.{needs}
 use Rattle.trace.proofs.Numbers.Printed.{length-printed}
 use Rattle.listing.specs.Output.{refusal-line}
-use Rattle.listing.proofs.Writing.{prints-then}
+use Rattle.listing.proofs.Output.Printing.{prints-then}
 use Rattle.listing.proofs.print.print_refusal.Statement.{statement}
 use Rattle.listing.proofs.print.print_refusal.Tie as tie
 

@@ -6,7 +6,7 @@ use native.Mathlib.Omega.{arith}
 use lib.ListN.{length, getD, take}
 use Rattle.trace.specs.Numbers.{printed}
 use Rattle.listing.specs.Output.{row-columns, Prints}
-use Rattle.listing.proofs.Writing.{prints-nothing, prints-then, prints-long, length-taken, rows-on}
+use Rattle.listing.proofs.Output.Printing.{prints-nothing, prints-then, prints-long, length-row-columns-take, row-columns-more}
 use Rattle.listing.proofs.print.print_rows.Statement.{statement}
 use Rattle.listing.proofs.print.print_rows.Tie as tie
 
@@ -23,11 +23,11 @@ abbrev μ-loop : tie.MeasureT-loop
 again : {out₀ picks out out′ : List ℕ} {at count place place′ i : ℕ} → Done out₀ at picks count out place i → i < count → count ≤ length picks
     → Prints out place (printed 6 (getD picks i 0)) out′ place′ → Done out₀ at picks count out′ place′ (i + 1)
 again {out₀} {picks} {out} {out′} {at} {count} {place} {place′} {i} d h fits one =
-    record { prints = rw (rows-on picks i (omega arith)) (prints-then (d .prints) one); most = omega arith }
+    record { prints = rw (row-columns-more picks i (omega arith)) (prints-then (d .prints) one); most = omega arith }
 
 behind : {out₀ picks out : List ℕ} {at count place i : ℕ} → Done out₀ at picks count out place i → count ≤ length picks → place ≡ at + 6 * i
 behind {out₀} {picks} {out} {at} {count} {place} {i} d h =
-    omega (arith, d .prints .behind, length-taken picks i (omega arith))
+    omega (arith, d .prints .behind, length-row-columns-take picks i (omega arith))
 
 done : {out₀ picks out : List ℕ} {at count place i : ℕ} → Done out₀ at picks count out place i → i ≡ count → Prints out₀ at (row-columns (take count picks)) out place
 done {out₀} {picks} {out} {at} {count} {place} {i} d h = rw h at (d .prints)

@@ -3,7 +3,7 @@ use borrow.Author.Needs.{needs}
 use Rattle.trace.specs.Reading.{said}
 use Rattle.listing.specs.Steps.{line-step, refused-step}
 use Rattle.listing.specs.Chunks.{next-number, step-in}
-use Rattle.listing.proofs.Carries.{stays}
+use Rattle.listing.proofs.Memory.Tracker.{leaves-unmoved}
 use Rattle.listing.proofs.record.list_line.Statement.{statement}
 use Rattle.listing.proofs.record.list_line.Tie as tie
 
@@ -12,7 +12,7 @@ unfolding said step-in line-step refused-step next-number
 returns c =
     let a = c .before .before .before .before .before .before .before .before .before .before .before .before in
     rw (c .before .before .before .before .before .before .enum-told .given .1)
-    (stays (a .args .p) (c .at-line .result) (a .args .rows .now) (a .args .counts .now) _ _ (c .at-line .ensures) (c .before .before .before .print-refusal .ensures))
+    (leaves-unmoved (a .args .p) (c .at-line .result) (a .args .rows .now) (a .args .counts .now) _ _ (c .at-line .ensures) (c .before .before .before .print-refusal .ensures))
 
 returns-2 : tie.Need-returns-2
 unfolding said step-in line-step next-number

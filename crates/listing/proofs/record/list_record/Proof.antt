@@ -2,8 +2,8 @@
 use native.Mathlib.Omega.{arith}
 use borrow.Author.Needs.{needs}
 use Rattle.listing.specs.Steps.{record-step}
-use Rattle.listing.proofs.Writing.{prints-nothing}
-use Rattle.listing.proofs.Carries.{stays}
+use Rattle.listing.proofs.Output.Printing.{prints-nothing}
+use Rattle.listing.proofs.Memory.Tracker.{leaves-unmoved}
 use Rattle.listing.proofs.record.list_record.Statement.{statement}
 use Rattle.listing.proofs.record.list_record.Tie as tie
 
@@ -22,7 +22,7 @@ unfolding record-step
 returns-4 c =
     let a = c .before .before .before .before .before .before .before in
     rw (c .before .enum-told2 .given .1)
-    (stays (a .args .p) (c .at-line .result) (a .args .rows .now) (a .args .counts .now) (a .args .line) _ (c .at-line .ensures) (prints-nothing (a .args .out .now) (a .args .at) (omega (arith, a .pre .1))))
+    (leaves-unmoved (a .args .p) (c .at-line .result) (a .args .rows .now) (a .args .counts .now) (a .args .line) _ (c .at-line .ensures) (prints-nothing (a .args .out .now) (a .args .at) (omega (arith, a .pre .1))))
 
 pub list-record-spec : {M : Type 1} → statement M
 list-record-spec =

@@ -20,19 +20,19 @@ use Rattle.limit.specs.Reachable.{Reached}
 use Rattle.limit.proofs.Reachable.{reached-accepted}
 use Rattle.listing.specs.Output.{refusal-line, refresh-line, Prints}
 use Rattle.listing.specs.Steps.{answered, activation-step, refresh-step}
-use Rattle.listing.specs.Memory.{stood}
+use Rattle.listing.specs.Memory.{tracker-in}
 use Rattle.listing.specs.Contracts.{Lists}
-use Rattle.listing.proofs.Writing.{prints-nothing}
-use Rattle.listing.proofs.Accepts.{event-is, event-names, event-leaves, names-few}
+use Rattle.listing.proofs.Output.Printing.{prints-nothing}
+use Rattle.listing.proofs.Steps.ReachedCalls.{event-is, event-names, event-leaves, names-few}
 
 -- a refused activation: the state is as it came
 pub activation-refusal-listed : {before after : List ℕ} {at end : ℕ} (s : Settings) (rows counts : List ℕ) (p : Position) (row line k : ℕ) → record { accepts = false; refusal = suc k; state = given rows counts p } ≡ activation-on s (given rows counts p) row → Prints before at (refusal-line line (suc k)) after end → Lists (activation-step line s (activation-on s (given rows counts p) row)) s rows counts p before at after end
-unfolding activation-step stood answered
+unfolding activation-step tracker-in answered
 activation-refusal-listed s rows counts p row line k call printed = rw (← call) (record { printed = printed; left = refl })
 
 -- an accepted-settings one prints nothing
 pub activation-listed : (s : Settings) (st : State) (row line : ℕ) (rows counts : List ℕ) (p : Position) (before : List ℕ) (at : ℕ) → first-failed (activation-tests s st row) ≡ 0 → given rows counts p ≡ activation-on s st row .state → at ≤ length before → Lists (activation-step line s (activation-on s st row)) s rows counts p before at before at
-unfolding activation-step stood answered
+unfolding activation-step tracker-in answered
 activation-listed s st row line rows counts p before at none left h =
     rw (← activation-done s st row none left) (record { printed = prints-nothing before at h; left = refl })
 
@@ -51,7 +51,7 @@ module _ {s : Settings} {st : State} (r : Reached s st) (list : List ℕ) (h : s
       omega (arith, names-few s st, volume-most r)
 
   pub event-listed : {before after : List ℕ} {at end : ℕ} (line : ℕ) → Prints before at (refresh-line (st .position .events) (take k left)) after end → Lists (refresh-step line s (st .position .events) (refresh-on s st (replicate (s .volume) 0))) s rows counts p before at after end
-  unfolding refresh-step refresh-call refresh-count refresh-position stood answered
+  unfolding refresh-step refresh-call refresh-count refresh-position tracker-in answered
   event-listed {before} {after} {at} {end} line printed =
       let lent : List ℕ = replicate (s .volume) 0 in
       let long : s .volume ≤ length lent = list-long (s .volume) in

@@ -9,8 +9,8 @@ use lib.ListN.{length, take}
 use Rattle.listing.specs.Output.{Prints}
 use Rattle.listing.specs.Memory.{Memory, Ready}
 use Rattle.listing.specs.Chunks.{next-number, Turned as Chunked, turned, last-line}
-use Rattle.listing.proofs.Moves.{turned-steady}
-use Rattle.listing.proofs.Last.{last-fits}
+use Rattle.listing.proofs.Parts.Moves.{steady-turned}
+use Rattle.listing.proofs.Chunks.LastLine.{length-last-line}
 use Rattle.rowlist.specs.declared.Input.{Input}
 use Rattle.rowlist.specs.declared.Input.the-variants.{Bytes, End, Failed}
 use Rattle.rowlist.specs.Turns.{Within, Turned, turn-of}
@@ -23,15 +23,15 @@ pub record Steady (most room : ℕ) (q : Turned) : Type 0 where
 steady-turn : (m : Memory) (text : List ℕ) (kept : ℕ) (input : Input) (buffer : List ℕ) → Ready m → kept ≤ length text → Within input kept (length text) → Steady (length text) (length buffer) (turn-of m text kept input buffer)
 unfolding Within turn-of
 steady-turn m text kept (Bytes len) buffer r few within =
-    let t = turned-steady m text len buffer r (within .1) in
+    let t = steady-turned m text len buffer r (within .1) in
     record { ready = t .0; few = t .1; fits = t .2 }
 steady-turn m text kept End buffer r few within =
-    record { ready = r; few = few; fits = last-fits (next-number (m .place .lines)) (take kept text) (length buffer) }
+    record { ready = r; few = few; fits = length-last-line (next-number (m .place .lines)) (take kept text) (length buffer) }
 steady-turn m text kept Failed buffer r few within = record { ready = r; few = few; fits = omega arith }
 
 -- so is what a turn's answer says
-pub turn-steady : (q : Turned) (m : Memory) (text : List ℕ) (kept : ℕ) (input : Input) (buffer : List ℕ) → q ≡ turn-of m text kept input buffer → Ready m → kept ≤ length text → Within input kept (length text) → Steady (length text) (length buffer) q
-turn-steady q m text kept input buffer e r few within = rw e (steady-turn m text kept input buffer r few within)
+pub steady-turn-left : (q : Turned) (m : Memory) (text : List ℕ) (kept : ℕ) (input : Input) (buffer : List ℕ) → q ≡ turn-of m text kept input buffer → Ready m → kept ≤ length text → Within input kept (length text) → Steady (length text) (length buffer) q
+steady-turn-left q m text kept input buffer e r few within = rw e (steady-turn m text kept input buffer r few within)
 
 -- a turn by what the listing's calls left
 pub turn-chunk : (m : Memory) (text : List ℕ) (kept len : ℕ) (buffer : List ℕ) (q : Chunked) → q ≡ turned m text len buffer → record { memory = q .memory; text = q .text; kept = q .kept; buffer = q .buffer; end = q .end; more = true } ≡ turn-of m text kept (Bytes len) buffer

@@ -15,8 +15,8 @@ use Rattle.trace.specs.Lines.{ended, extent}
 use Rattle.trace.specs.Reading.{reading, reading-by}
 use Rattle.listing.specs.Steps.{Progress, step, next}
 use Rattle.listing.specs.Texts.{in-front, lines, whole, read, outcomes, listed, passed, listing, after}
-use Rattle.listing.proofs.Fronts.{extent-within, read-front}
-use Rattle.listing.proofs.Cuts.{outcomes-cut, listed-append, passed-append}
+use Rattle.listing.proofs.Texts.FirstLine.{extent-within, read-front}
+use Rattle.listing.proofs.Texts.Concatenation.{outcomes-cut, listed-append, passed-append}
 
 extent-some : (text : List ℕ) → 0 < length text → 0 < extent text
 unfolding extent

@@ -11,12 +11,14 @@ use Rattle.trace.specs.Lines.{ended}
 use Rattle.listing.specs.Steps.{Progress}
 use Rattle.listing.specs.Memory.{Memory, Represents}
 use Rattle.listing.specs.Chunks.{next-number, last-line}
-use Rattle.listing.specs.Parts.{Printed, comes, Parts-joined, Chunk-moves, End-moves}
-use Rattle.listing.proofs.Progress.{start-represents}
-use Rattle.listing.proofs.Cuts.{parts-joined}
-use Rattle.listing.proofs.Moves.{chunk-moves, end-moves, kept-unended}
+use Rattle.listing.specs.Parts.{Printed, comes}
+use Rattle.listing.specs.Claims.{Parts-joined, Chunk-moves, End-moves}
+use Rattle.listing.proofs.Memory.Progress.{represents-start}
+use Rattle.listing.proofs.Parts.Moves.{ended-kept}
+use Rattle.listing.proofs.Claims.{parts-joined, chunk-moves, end-moves}
 use Rattle.rowlist.specs.declared.Input.the-variants.{Bytes}
-use Rattle.rowlist.specs.Turns.{Within, Came, turn-of, Turns, goes-on, stops, Turns-listed}
+use Rattle.rowlist.specs.Turns.{Within, Came, turn-of, Turns, goes-on, stops}
+use Rattle.rowlist.specs.Claims.{Turns-listed}
 
 -- the bytes at hand are those kept, and behind them those that the read brought
 at-hand : {kept len : ℕ} {text text₁ : List ℕ} → Came (Bytes len) kept text text₁ → take len text₁ ≡ take kept text ++ drop kept (take len text₁)
@@ -29,7 +31,7 @@ turns-printed : {m : Memory} {g : Progress} {text : List ℕ} {kept : ℕ} {part
 unfolding Chunk-moves End-moves turn-of Within written
 turns-printed {m} {g} {text} {kept} r e (goes-on text₁ buffer len {parts} {out} came room later) =
     let c = chunk-moves m g text₁ len buffer r (came .within .1) (omega (arith, came .within .1)) in
-    let unended = kept-unended m g text₁ len buffer r (came .within .1) (omega (arith, came .within .1)) in
+    let unended = ended-kept m g text₁ len buffer r (came .within .1) (omega (arith, came .within .1)) in
     comes (drop kept (take len text₁)) (rw (at-hand came) at (c .moves parts out (turns-printed (c .represents) unended later)))
 turns-printed {m} {g} {text} {kept} r e (stops text₁ buffer came room) =
     let prints : List ℕ = last-line (next-number (m .place .lines)) (take kept text) (length buffer) in
@@ -39,4 +41,4 @@ turns-printed {m} {g} {text} {kept} r e (stops text₁ buffer came room) =
 pub turns-listed : Turns-listed
 unfolding Turns-listed Parts-joined ended
 turns-listed rows counts text rows-long counts-long parts out run =
-    parts-joined _ [] parts out (turns-printed (start-represents rows counts rows-long counts-long) refl run)
+    parts-joined _ [] parts out (turns-printed (represents-start rows counts rows-long counts-long) refl run)

@@ -16,8 +16,9 @@ use Rattle.trace.specs.Reading.{Reading, reading, reading-by}
 use Rattle.trace.proofs.Reading.InParts.{reading-append-unended}
 use Rattle.listing.specs.Steps.{Progress, next}
 use Rattle.listing.specs.Texts.{in-front, lines, whole, read, outcomes, listed, passed, listing, after}
-use Rattle.listing.specs.Parts.{comes, lists, keeps, ends, joined, Parts-joined}
-use Rattle.listing.proofs.Fronts.{lines-front, outcomes-front}
+use Rattle.listing.specs.Parts.{comes, lists, keeps, ends, joined}
+use Rattle.listing.specs.Claims.{Parts-joined}
+use Rattle.listing.proofs.Texts.FirstLine.{lines-front, outcomes-front}
 
 -- behind the end of a line
 lines-cut : (a b : List ℕ) → whole a ≡ true → lines (a ++ b) ≡ lines a ++ lines b
@@ -75,14 +76,3 @@ outcomes-kept u b e =
 pub listing-kept : (g : Progress) (u b : List ℕ) → ended u ≡ false → listing g (u ++ b) ≡ listing g (take 64 u ++ b)
 unfolding listing
 listing-kept g u b e = rw (outcomes-kept u b e)
-
-pub parts-joined : Parts-joined
-unfolding Parts-joined joined
-parts-joined g text _ out (comes part {parts = parts} later) =
-    parts-joined g (text ++ part) parts out later ∙ ap (listing g) (append-assoc text part (joined parts))
-parts-joined g _ parts _ (lists a text {out = out} h later) =
-    ap (λ (o : List ℕ). listing g a ++ o) (parts-joined (after g a) text parts out later) ∙
-    sym (listing-cut g a (text ++ joined parts) h) ∙ ap (listing g) (sym (append-assoc a text (joined parts)))
-parts-joined g _ parts out (keeps text e later) =
-    parts-joined g (take 64 text) parts out later ∙ sym (listing-kept g text (joined parts) e)
-parts-joined g _ _ _ (ends text e) = ap (listing g) (sym (append-nil text))

@@ -66,13 +66,13 @@ prints-then {b} {c} {d} {x} {y} {at} {p} {q} f s =
       behind = omega arith;
     }
 
-pub length-rows : (rows : List ℕ) → length (row-columns rows) ≡ 6 * length rows
+pub length-row-columns : (rows : List ℕ) → length (row-columns rows) ≡ 6 * length rows
 unfolding row-columns
-length-rows [] = refl
-length-rows (row ∷ rows) = rw length-append (omega (arith, length-printed 6 row, length-rows rows))
+length-row-columns [] = refl
+length-row-columns (row ∷ rows) = rw length-append (omega (arith, length-printed 6 row, length-row-columns rows))
 
-pub length-taken : (rows : List ℕ) (i : ℕ) → i ≤ length rows → length (row-columns (take i rows)) ≡ 6 * i
-length-taken rows i h = length-rows (take i rows) ∙ rw (length-take-le i rows h)
+pub length-row-columns-take : (rows : List ℕ) (i : ℕ) → i ≤ length rows → length (row-columns (take i rows)) ≡ 6 * i
+length-row-columns-take rows i h = length-row-columns (take i rows) ∙ rw (length-take-le i rows h)
 
 rows-append : (xs ys : List ℕ) → row-columns (xs ++ ys) ≡ row-columns xs ++ row-columns ys
 unfolding row-columns
@@ -80,6 +80,6 @@ rows-append [] ys = refl
 rows-append (x ∷ xs) ys = rw (rows-append xs ys, append-assoc)
 
 -- one row more
-pub rows-on : (rows : List ℕ) (i : ℕ) → i < length rows → row-columns (take (i + 1) rows) ≡ row-columns (take i rows) ++ printed 6 (getD rows i 0)
+pub row-columns-more : (rows : List ℕ) (i : ℕ) → i < length rows → row-columns (take (i + 1) rows) ≡ row-columns (take i rows) ++ printed 6 (getD rows i 0)
 unfolding row-columns
-rows-on rows i h = rw (add-one i, take-suc rows i 0 h, rows-append, append-nil)
+row-columns-more rows i h = rw (add-one i, take-suc rows i 0 h, rows-append, append-nil)

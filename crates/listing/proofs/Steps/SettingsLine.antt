@@ -20,10 +20,10 @@ use Rattle.tracker.specs.Calls.{SetUp-call, kept-unless, set-up-tests, set-up}
 use Rattle.tracker.specs.Answers.{given, set-up-call}
 use Rattle.trace.specs.declared.Record.the-variants.{Set}
 use Rattle.listing.specs.Output.{Prints}
-use Rattle.listing.specs.Steps.{Standing, refused-step, set-up-step, record-step}
-use Rattle.listing.specs.Memory.{stood}
+use Rattle.listing.specs.Steps.{Tracker, refused-step, set-up-step, record-step}
+use Rattle.listing.specs.Memory.{tracker-in}
 use Rattle.listing.specs.Contracts.{settings-line}
-use Rattle.listing.proofs.Alike.{set-up-first}
+use Rattle.listing.proofs.Steps.LineNumbers.{set-up-first}
 
 cleared-first : (s : Settings) → first-failed (set-up-tests s (replicate (s .counters) 0) (replicate (s .counters) 0)) ≡ or-later (first-failed (settings-tests s)) 0
 cleared-first s =
@@ -34,7 +34,7 @@ unfolding set-up-step tested or-later settings-line refused-step
 prints-by number s call p zero = refl
 prints-by number s call p (suc k) = refl
 
-pub settings-print : (number : ℕ) (s : Settings) (t : Option Standing) → record-step number t (Set s) .prints ≡ settings-line number (bound-answer s)
+pub settings-print : (number : ℕ) (s : Settings) (t : Option Tracker) → record-step number t (Set s) .prints ≡ settings-line number (bound-answer s)
 unfolding record-step set-up bound-answer
 settings-print number s t =
     rw (cleared-first s) (prints-by number s _ (state-of s 0 0 empty .position) (first-failed (settings-tests s)))
@@ -45,14 +45,14 @@ refused-by number s call p zero h = absurd (h refl)
 refused-by number s call p (suc k) h = refl
 
 -- 'after an S line .. whose settings are refused no tracker stands'
-pub settings-refused : (number : ℕ) (s : Settings) (t : Option Standing) → (first-failed (settings-tests s) ≡ 0 → ⊥) → record-step number t (Set s) .tracker ≡ none
+pub settings-refused : (number : ℕ) (s : Settings) (t : Option Tracker) → (first-failed (settings-tests s) ≡ 0 → ⊥) → record-step number t (Set s) .tracker ≡ none
 unfolding record-step set-up
 settings-refused number s t h =
     rw (cleared-first s) (refused-by number s _ (state-of s 0 0 empty .position) (first-failed (settings-tests s)) h)
 
 -- 'an accepted S sets up afresh'
-pub settings-stand : (number : ℕ) (s : Settings) (t : Option Standing) (r : SetUp) (rows counts rows′ counts′ : List ℕ) → first-failed (settings-tests s) ≡ 0 → s .counters ≤ length rows → s .counters ≤ length counts → set-up-call r rows′ counts′ ≡ set-up s (take (s .counters) rows) (take (s .counters) counts) → record-step number t (Set s) .tracker ≡ stood s rows′ counts′ (record { events = 0; activations = 0; tracked = 0; spillover = 0 })
-unfolding record-step set-up-step set-up set-up-call tested kept-unless stood given or-later state-of empty
+pub settings-stand : (number : ℕ) (s : Settings) (t : Option Tracker) (r : SetUp) (rows counts rows′ counts′ : List ℕ) → first-failed (settings-tests s) ≡ 0 → s .counters ≤ length rows → s .counters ≤ length counts → set-up-call r rows′ counts′ ≡ set-up s (take (s .counters) rows) (take (s .counters) counts) → record-step number t (Set s) .tracker ≡ tracker-in s rows′ counts′ (record { events = 0; activations = 0; tracked = 0; spillover = 0 })
+unfolding record-step set-up-step set-up set-up-call tested kept-unless tracker-in given or-later state-of empty
 settings-stand number s t r rows counts rows′ counts′ e hr hc call =
     let c : ℕ = s .counters in
     let first = set-up-first s (take c rows) (take c counts) (length-take-le c rows hr) (length-take-le c counts hc) in
@@ -61,6 +61,6 @@ settings-stand number s t r rows counts rows′ counts′ e hr hc call =
     let ec = ap (λ (x : SetUp-call). x .counts) left in
     rw (cleared-first s, e, er, ec)
 
-pub settings-printed : {before after : List ℕ} {at end : ℕ} (number : ℕ) (s : Settings) (t : Option Standing) (answer : Answer) → outcome answer ≡ bound-answer s → Prints before at (settings-line number (outcome answer)) after end → Prints before at (record-step number t (Set s) .prints) after end
+pub settings-printed : {before after : List ℕ} {at end : ℕ} (number : ℕ) (s : Settings) (t : Option Tracker) (answer : Answer) → outcome answer ≡ bound-answer s → Prints before at (settings-line number (outcome answer)) after end → Prints before at (record-step number t (Set s) .prints) after end
 settings-printed {before} {after} {at} {end} number s t answer e p =
     subst (λ (text : List ℕ). Prints before at text after end) (ap (λ (o : Outcome ℕ). settings-line number o) e ∙ sym (settings-print number s t)) p

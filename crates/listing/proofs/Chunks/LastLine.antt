@@ -15,9 +15,9 @@ use Rattle.listing.specs.Steps.{Progress, refused-step, line-step, step}
 use Rattle.listing.specs.Texts.{lines, read, outcomes, listed, listing}
 use Rattle.listing.specs.Memory.{Memory, Represents}
 use Rattle.listing.specs.Chunks.{next-number, last-line}
-use Rattle.listing.proofs.Alike.{counted-on, refusal-alike}
-use Rattle.listing.proofs.Lengths.{refusal-length}
-use Rattle.listing.proofs.Fronts.{extent-most, outcomes-front}
+use Rattle.listing.proofs.Steps.LineNumbers.{counted-on, refusal-alike}
+use Rattle.listing.proofs.Steps.Lengths.{length-refusal-line}
+use Rattle.listing.proofs.Texts.FirstLine.{extent-most, outcomes-front}
 
 none-left : outcomes [] ≡ []
 unfolding outcomes lines
@@ -35,35 +35,35 @@ unended-listing g text e h =
     rw (outcomes-front text h, rest, none-left, e, append-nil)
 
 -- what the end of a trace prints, by what is left of it and by the room
-pub empty-last : (number : ℕ) (text : List ℕ) (room : ℕ) → length text ≡ 0 → last-line number text room ≡ []
+pub last-line-none : (number : ℕ) (text : List ℕ) (room : ℕ) → length text ≡ 0 → last-line number text room ≡ []
 unfolding last-line
-empty-last number [] room e = refl
-empty-last number (b ∷ text) room e = absurd (omega arith)
+last-line-none number [] room e = refl
+last-line-none number (b ∷ text) room e = absurd (omega arith)
 
-pub short-last : (number : ℕ) (text : List ℕ) (room : ℕ) → room < 18 → last-line number text room ≡ []
+pub last-line-short : (number : ℕ) (text : List ℕ) (room : ℕ) → room < 18 → last-line number text room ≡ []
 unfolding last-line
-short-last number [] room h = refl
-short-last number (b ∷ text) room h = rw (lt-ltb room 18 h)
+last-line-short number [] room h = refl
+last-line-short number (b ∷ text) room h = rw (lt-ltb room 18 h)
 
-pub some-last : (number : ℕ) (text : List ℕ) (room : ℕ) → 0 < length text → 18 ≤ room → last-line number text room ≡ refusal-line number 11
+pub last-line-some : (number : ℕ) (text : List ℕ) (room : ℕ) → 0 < length text → 18 ≤ room → last-line number text room ≡ refusal-line number 11
 unfolding last-line
-some-last number [] room some h = absurd (omega arith)
-some-last number (b ∷ text) room some h = rw (le-ltb room 18 h)
+last-line-some number [] room some h = absurd (omega arith)
+last-line-some number (b ∷ text) room some h = rw (le-ltb room 18 h)
 
 -- and it is the listing of what is left
-pub last-listed : (m : Memory) (g : Progress) (text : List ℕ) (room : ℕ) → Represents m g → ended text ≡ false → 18 ≤ room → last-line (next-number (m .place .lines)) text room ≡ listing g text
+pub last-line-listing : (m : Memory) (g : Progress) (text : List ℕ) (room : ℕ) → Represents m g → ended text ≡ false → 18 ≤ room → last-line (next-number (m .place .lines)) text room ≡ listing g text
 unfolding next-number
-last-listed m g [] room r e h = empty-last _ [] room refl ∙ sym (none-listed g [] refl)
-last-listed m g (b ∷ bs) room r e h =
-    some-last (m .place .lines % 10000000000 + 1) (b ∷ bs) room (omega arith) h ∙
+last-line-listing m g [] room r e h = last-line-none _ [] room refl ∙ sym (none-listed g [] refl)
+last-line-listing m g (b ∷ bs) room r e h =
+    last-line-some (m .place .lines % 10000000000 + 1) (b ∷ bs) room (omega arith) h ∙
     refusal-alike (m .place .lines % 10000000000 + 1) (suc (g .count)) (counted-on (m .place .lines) (g .count) (r .lines)) 11 ∙
     sym (unended-listing g (b ∷ bs) e (omega arith))
 
 -- it fits
-pub last-fits : (number : ℕ) (text : List ℕ) (room : ℕ) → length (last-line number text room) ≤ room
-last-fits number [] room = rw (empty-last number [] room refl) (omega arith)
-last-fits number (b ∷ bs) room =
+pub length-last-line : (number : ℕ) (text : List ℕ) (room : ℕ) → length (last-line number text room) ≤ room
+length-last-line number [] room = rw (last-line-none number [] room refl) (omega arith)
+length-last-line number (b ∷ bs) room =
     ⊎-elim
-    (λ h. rw (some-last number (b ∷ bs) room (omega arith) h) (omega (arith, refusal-length number 11)))
-    (λ h. rw (short-last number (b ∷ bs) room h) (omega arith))
+    (λ h. rw (last-line-some number (b ∷ bs) room (omega arith) h) (omega (arith, length-refusal-line number 11)))
+    (λ h. rw (last-line-short number (b ∷ bs) room h) (omega arith))
     (le-or-lt 18 room)

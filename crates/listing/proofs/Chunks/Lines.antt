@@ -17,13 +17,13 @@ use Rattle.trace.specs.Reading.{reading, reading-by}
 use Rattle.listing.specs.Output.{Prints}
 use Rattle.listing.specs.Steps.{Progress}
 use Rattle.listing.specs.Texts.{whole, read, outcomes, lines, listed, passed, listing, after}
-use Rattle.listing.specs.Memory.{Memory, carried, Represents}
+use Rattle.listing.specs.Memory.{Memory, tracker-of, Represents}
 use Rattle.listing.specs.Chunks.{next-number, step-in, Going, gone, takes, going, part}
-use Rattle.listing.proofs.Fronts.{lines-front, extent-within, ended-first, read-front}
-use Rattle.listing.proofs.Writing.{prints-nothing, prints-long, prints-then}
-use Rattle.listing.proofs.Progress.{step-same, next-represents}
-use Rattle.listing.proofs.Lengths.{line-most, line-spent}
-use Rattle.listing.proofs.Taking.{place-within, whole-on, listing-on, after-on}
+use Rattle.listing.proofs.Texts.FirstLine.{lines-front, extent-within, ended-first, read-front}
+use Rattle.listing.proofs.Output.Printing.{prints-nothing, prints-long, prints-then}
+use Rattle.listing.proofs.Memory.Progress.{step-represented, represents-next}
+use Rattle.listing.proofs.Steps.Lengths.{length-step-le, length-step-line}
+use Rattle.listing.proofs.Texts.NextLine.{place-within, whole-on, listing-on, after-on}
 
 -- whole lines were taken, their listing was printed, and few bytes of the buffer are used
 pub record Taken (g : Progress) (text buffer : List ℕ) (q : Going) : Type 0 where
@@ -33,9 +33,9 @@ pub record Taken (g : Progress) (text buffer : List ℕ) (q : Going) : Type 0 wh
   pub prints : Prints buffer 0 (listing g (take (q .taken) text)) (q .buffer) (q .end)
   pub spent : q .end ≤ 55 * q .taken
 
-pub taken-none : {m : Memory} {g : Progress} (text buffer : List ℕ) → Represents m g → Taken g text buffer (record { memory = m; taken = 0; buffer = buffer; end = 0 })
+pub taken-start : {m : Memory} {g : Progress} (text buffer : List ℕ) → Represents m g → Taken g text buffer (record { memory = m; taken = 0; buffer = buffer; end = 0 })
 unfolding whole listing after outcomes lines listed passed
-taken-none text buffer r =
+taken-start text buffer r =
     record {
       within = omega arith;
       ends = refl;
@@ -46,14 +46,14 @@ taken-none text buffer r =
 
 -- when a line is taken
 module _ (q : Going) (line : List ℕ) where
-  took-it : takes q line ≡ true → (ended line ≡ true) × (q .end + 200 ≤ length (q .buffer))
+  takes-true : takes q line ≡ true → (ended line ≡ true) × (q .end + 200 ≤ length (q .buffer))
   unfolding takes
-  took-it h =
+  takes-true h =
       split (ended line) (λ e. (e, leb-true (q .end + 200) (length (q .buffer)) (rw e at h))) (λ e. clash (sym (rw e at h)))
 
-  left-it : takes q line ≡ false → q .end + 200 ≤ length (q .buffer) → ended line ≡ false
+  takes-false : takes q line ≡ false → q .end + 200 ≤ length (q .buffer) → ended line ≡ false
   unfolding takes
-  left-it h room =
+  takes-false h room =
       split (ended line) (λ e. clash (rw (e, le-leb (q .end + 200) (length (q .buffer)) room) at h)) (λ e. e)
 
 -- the first line of a text
@@ -76,25 +76,25 @@ module _ (text : List ℕ) (at : ℕ) where
   first-says = read-front (drop at text) ∙ at-front
 
 -- one line further
-pub taken-on : {g : Progress} {text buffer : List ℕ} {q : Going} → Taken g text buffer q → q .taken < length text → takes q (first (drop (q .taken) text)) ≡ true → Taken g text buffer (gone q (first (drop (q .taken) text)))
+pub taken-gone : {g : Progress} {text buffer : List ℕ} {q : Going} → Taken g text buffer q → q .taken < length text → takes q (first (drop (q .taken) text)) ≡ true → Taken g text buffer (gone q (first (drop (q .taken) text)))
 unfolding gone step-in
-taken-on {g} {text} {buffer} {q} t less h =
+taken-gone {g} {text} {buffer} {q} t less h =
     let at : ℕ = q .taken in
     let line : List ℕ = first (drop at text) in
-    let ok = took-it q line h in
+    let ok = takes-true q line h in
     let o : Outcome Record = read line in
-    let same = step-same (t .represents) o in
+    let same = step-represented (t .represents) o in
     let running = t .represents .ready .running in
     let ends = sym (ended-first (drop at text)) ∙ ok .0 in
     let number : ℕ = next-number (q .memory .place .lines) in
-    let fits = line-most number (carried (q .memory)) o running in
+    let fits = length-step-le number (tracker-of (q .memory)) o running in
     let on : Prints (q .buffer) (q .end) (step-in (q .memory) o .prints) (written (q .buffer) (q .end) (step-in (q .memory) o .prints)) (q .end + length (step-in (q .memory) o .prints)) = record { fits = omega (arith, fits, ok .1); holds = refl; behind = refl } in
     record {
       within = rw (first-end text at) (place-within text at less .1);
       ends = rw (first-end text at) (whole-on text at less (t .ends) ends);
-      represents = rw (first-end text at, after-on text at less (t .ends) g, ← first-says text at) (next-represents (t .represents) o);
+      represents = rw (first-end text at, after-on text at less (t .ends) g, ← first-says text at) (represents-next (t .represents) o);
       prints = rw (first-end text at, listing-on text at less (t .ends) g, ← first-says text at, ← same) (prints-then (t .prints) on);
-      spent = omega (arith, t .spent, line-spent number (carried (q .memory)) line (ok .0) running);
+      spent = omega (arith, t .spent, length-step-line number (tracker-of (q .memory)) line (ok .0) running);
     }
 
 none-ended : (text : List ℕ) → length text ≡ 0 → ended text ≡ false
@@ -125,27 +125,27 @@ pub record Done (g : Progress) (text buffer : List ℕ) (q : Going) : Type 0 whe
 pub behind-first : (text : List ℕ) (at : ℕ) (l : List ℕ) → l ≡ first (drop at text) → drop (extent (drop at text)) (drop at text) ≡ drop (at + length l) text
 behind-first text at l e = rw (e, first-long (drop at text)) (drop-drop (extent (drop at text)) at text)
 
-going-done : {g : Progress} {text buffer : List ℕ} (ls : List (List ℕ)) {q : Going} → ls ≡ lines (drop (q .taken) text) → Taken g text buffer q → Done g text buffer (going q ls)
+done-going : {g : Progress} {text buffer : List ℕ} (ls : List (List ℕ)) {q : Going} → ls ≡ lines (drop (q .taken) text) → Taken g text buffer q → Done g text buffer (going q ls)
 unfolding going gone
-going-done {g} {text} {buffer} [] {q} e t =
+done-going {g} {text} {buffer} [] {q} e t =
     record { took = t; all = λ room. none-ended (drop (q .taken) text) (lines-none (drop (q .taken) text) e) }
-going-done {g} {text} {buffer} (l ∷ ls) {q} e t =
+done-going {g} {text} {buffer} (l ∷ ls) {q} e t =
     let s = lines-split (drop (q .taken) text) l ls e in
     let less : q .taken < length text = omega (arith, s .some, length-drop (q .taken) text) in
     split (takes q l)
     (λ yes.
     rw yes
-    (going-done ls (s .others ∙ ap lines (behind-first text (q .taken) l (s .line))) (rw (← s .line) at (taken-on t less (rw (s .line) at yes)))))
+    (done-going ls (s .others ∙ ap lines (behind-first text (q .taken) l (s .line))) (rw (← s .line) at (taken-gone t less (rw (s .line) at yes)))))
     (λ no.
     rw no
     (record {
       took = t;
       all = λ room.
           sym (ended-first (drop (q .taken) text)) ∙
-          rw (s .line) at (left-it q l no (omega (arith, room, t .spent, t .within, prints-long (t .prints))));
+          rw (s .line) at (takes-false q l no (omega (arith, room, t .spent, t .within, prints-long (t .prints))));
     }))
 
 -- the lines at the front of a text
-pub part-done : {m : Memory} {g : Progress} (text buffer : List ℕ) → Represents m g → Done g text buffer (part m text buffer)
+pub done-part : {m : Memory} {g : Progress} (text buffer : List ℕ) → Represents m g → Done g text buffer (part m text buffer)
 unfolding part
-part-done text buffer r = going-done (lines text) refl (taken-none text buffer r)
+done-part text buffer r = done-going (lines text) refl (taken-start text buffer r)

@@ -24,51 +24,51 @@ use Rattle.trace.specs.Reading.{reading, reading-by, or-refused}
 use Rattle.trace.proofs.Numbers.Printed.{length-printed}
 use Rattle.laws.proofs.Cases.{split, clash}
 use Rattle.listing.specs.Output.{bound-line, refresh-line, refusal-line}
-use Rattle.listing.specs.Steps.{Standing, refused-step, set-up-step, answered, activation-step, refresh-step, record-step, line-step}
+use Rattle.listing.specs.Steps.{Tracker, refused-step, set-up-step, answered, activation-step, refresh-step, record-step, line-step}
 use Rattle.listing.specs.Texts.{read}
 use Rattle.listing.specs.Memory.{Running}
-use Rattle.listing.proofs.Accepts.{event-is, names-few}
-use Rattle.listing.proofs.Turns.{volume-most, list-long}
-use Rattle.listing.proofs.Writing.{length-rows}
+use Rattle.listing.proofs.Steps.ReachedCalls.{event-is, names-few}
+use Rattle.listing.proofs.Steps.CallLines.{volume-most, list-long}
+use Rattle.listing.proofs.Output.Printing.{length-row-columns}
 
-pub refusal-length : (number k : ℕ) → length (refusal-line number k) ≡ 18
+pub length-refusal-line : (number k : ℕ) → length (refusal-line number k) ≡ 18
 unfolding refusal-line
-refusal-length number k =
+length-refusal-line number k =
     simp length-append (omega (arith, length-printed 10 (number % 10000000000), length-printed 6 k))
 
-bound-length : (h : ℕ) → length (bound-line h) ≡ 22
+length-bound-line : (h : ℕ) → length (bound-line h) ≡ 22
 unfolding bound-line
-bound-length h = simp length-append (omega (arith, length-printed 10 h, length-printed 10 (2 * h)))
+length-bound-line h = simp length-append (omega (arith, length-printed 10 h, length-printed 10 (2 * h)))
 
-refresh-length : (e : ℕ) (picks : List ℕ) → length (refresh-line e picks) ≡ 14 + 6 * length picks
+length-refresh-line : (e : ℕ) (picks : List ℕ) → length (refresh-line e picks) ≡ 14 + 6 * length picks
 unfolding refresh-line
-refresh-length e picks =
-    simp length-append (omega (arith, length-printed 6 e, length-printed 6 (length picks), length-rows picks))
+length-refresh-line e picks =
+    simp length-append (omega (arith, length-printed 6 e, length-printed 6 (length picks), length-row-columns picks))
 
 set-up-most : (number : ℕ) (s : Settings) (call : SetUp-call) (o : Outcome Position) → length (set-up-step number s call o .prints) ≤ 110
 unfolding set-up-step refused-step
-set-up-most number s call (accepted p) = omega (arith, bound-length (bound-of s))
-set-up-most number s call (refused k) = omega (arith, refusal-length number k)
+set-up-most number s call (accepted p) = omega (arith, length-bound-line (bound-of s))
+set-up-most number s call (refused k) = omega (arith, length-refusal-line number k)
 
 answered-most : (number k : ℕ) (text : List ℕ) → length text ≤ 110 → length (answered number k text) ≤ 110
 unfolding answered
 answered-most number zero text h = h
-answered-most number (suc k) text h = omega (arith, refusal-length number (suc k))
+answered-most number (suc k) text h = omega (arith, length-refusal-line number (suc k))
 
 names-most : {s : Settings} {st : State} → Reached s st → (e : ℕ) → length (refresh-line e (take (refresh-on s st (replicate (s .volume) 0) .count) (refresh-on s st (replicate (s .volume) 0) .picks))) ≤ 110
 names-most {s} {st} r e =
     rw (event-is r (replicate (s .volume) 0) (list-long (s .volume)) .named)
-    (omega (arith, refresh-length e (picked (s .volume) (summary-of st)), names-few s st, volume-most r))
+    (omega (arith, length-refresh-line e (picked (s .volume) (summary-of st)), names-few s st, volume-most r))
 
-pub line-most : (number : ℕ) (t : Option Standing) (o : Outcome Record) → Running t → length (line-step number t o .prints) ≤ 110
+pub length-step-le : (number : ℕ) (t : Option Tracker) (o : Outcome Record) → Running t → length (line-step number t o .prints) ≤ 110
 unfolding Running line-step record-step refused-step activation-step refresh-step
-line-most number t (refused k) r = omega (arith, refusal-length number k)
-line-most number t (accepted (Set s)) r = set-up-most number s _ _
-line-most number none (accepted (Activate row)) r = omega (arith, refusal-length number 11)
-line-most number (some t) (accepted (Activate row)) r = answered-most number _ [] (omega arith)
-line-most number none (accepted Refresh) r = omega (arith, refusal-length number 11)
-line-most number (some t) (accepted Refresh) r = answered-most number _ _ (names-most r (t .state .position .events))
-line-most number t (accepted Blank) r = omega arith
+length-step-le number t (refused k) r = omega (arith, length-refusal-line number k)
+length-step-le number t (accepted (Set s)) r = set-up-most number s _ _
+length-step-le number none (accepted (Activate row)) r = omega (arith, length-refusal-line number 11)
+length-step-le number (some t) (accepted (Activate row)) r = answered-most number _ [] (omega arith)
+length-step-le number none (accepted Refresh) r = omega (arith, length-refusal-line number 11)
+length-step-le number (some t) (accepted Refresh) r = answered-most number _ _ (names-most r (t .state .position .events))
+length-step-le number t (accepted Blank) r = omega arith
 
 -- a line that ended and has one byte is blank
 blank-read : (line : List ℕ) → ended line ≡ true → length line ≡ 1 → read line ≡ accepted Blank
@@ -77,8 +77,8 @@ blank-read [] e h = absurd (omega arith)
 blank-read (b ∷ []) e h = split (eqb b 10) (λ ten. let same : b ≡ 10 = eqb-true b 10 ten in rw same) (λ other. clash (sym (rw other at e)))
 blank-read (b ∷ c ∷ cs) e h = absurd (omega arith)
 
-pub line-spent : (number : ℕ) (t : Option Standing) (line : List ℕ) → ended line ≡ true → Running t → length (line-step number t (read line) .prints) ≤ 55 * length line
+pub length-step-line : (number : ℕ) (t : Option Tracker) (line : List ℕ) → ended line ≡ true → Running t → length (line-step number t (read line) .prints) ≤ 55 * length line
 unfolding line-step record-step ended
-line-spent number t [] e r = clash (sym e)
-line-spent number t (b ∷ []) e r = rw (blank-read (b ∷ []) e refl) (omega arith)
-line-spent number t (b ∷ c ∷ cs) e r = omega (arith, line-most number t (read (b ∷ c ∷ cs)) r)
+length-step-line number t [] e r = clash (sym e)
+length-step-line number t (b ∷ []) e r = rw (blank-read (b ∷ []) e refl) (omega arith)
+length-step-line number t (b ∷ c ∷ cs) e r = omega (arith, length-step-le number t (read (b ∷ c ∷ cs)) r)

@@ -16,7 +16,7 @@ use Rattle.tracker.proofs.Calls.Tests.{set-up-tested}
 use Rattle.trace.specs.declared.Record.{Record}
 use Rattle.trace.specs.declared.Record.the-variants.{Set, Activate, Refresh, Blank}
 use Rattle.listing.specs.Output.{refusal-line}
-use Rattle.listing.specs.Steps.{Standing, refused-step, set-up-step, answered, activation-step, refresh-step, record-step, line-step}
+use Rattle.listing.specs.Steps.{Tracker, refused-step, set-up-step, answered, activation-step, refresh-step, record-step, line-step}
 
 -- the number of the next line, from lines counted modulo 10,000,000,000
 pub counted-on : (lines count : ℕ) → lines % 10000000000 ≡ count % 10000000000 → (lines % 10000000000 + 1) % 10000000000 ≡ suc count % 10000000000
@@ -32,7 +32,7 @@ module _ (n m : ℕ) (e : n % 10000000000 ≡ m % 10000000000) where
   answered-alike zero text = refl
   answered-alike (suc k) text = refusal-alike (suc k)
 
-  refused-alike : (k : ℕ) (t : Option Standing) → refused-step n k t ≡ refused-step m k t
+  refused-alike : (k : ℕ) (t : Option Tracker) → refused-step n k t ≡ refused-step m k t
   unfolding refused-step
   refused-alike k t = rw (refusal-alike k)
 
@@ -41,7 +41,7 @@ module _ (n m : ℕ) (e : n % 10000000000 ≡ m % 10000000000) where
   set-up-step-alike s call (accepted p) = refl
   set-up-step-alike s call (refused k) = refused-alike k none
 
-  record-alike : (t : Option Standing) (r : Record) → record-step n t r ≡ record-step m t r
+  record-alike : (t : Option Tracker) (r : Record) → record-step n t r ≡ record-step m t r
   unfolding record-step activation-step refresh-step
   record-alike t (Set s) =
       let call = set-up s (replicate (s .counters) 0) (replicate (s .counters) 0) in
@@ -54,7 +54,7 @@ module _ (n m : ℕ) (e : n % 10000000000 ≡ m % 10000000000) where
   record-alike t Blank = refl
 
   -- any line
-  pub line-alike : (t : Option Standing) (o : Outcome Record) → line-step n t o ≡ line-step m t o
+  pub line-alike : (t : Option Tracker) (o : Outcome Record) → line-step n t o ≡ line-step m t o
   unfolding line-step
   line-alike t (accepted r) = record-alike t r
   line-alike t (refused k) = refused-alike k t

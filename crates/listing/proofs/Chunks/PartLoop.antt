@@ -15,10 +15,10 @@ use Rattle.listing.specs.Texts.{lines}
 use Rattle.listing.specs.Memory.{Memory, memory, Ready}
 use Rattle.listing.specs.Contracts.{Leaves}
 use Rattle.listing.specs.Chunks.{next-number, step-in, next-in, Going, gone, takes, going}
-use Rattle.listing.proofs.Fronts.{lines-front, ended-first}
-use Rattle.listing.proofs.Writing.{prints-long}
-use Rattle.listing.proofs.Progress.{next-ready}
-use Rattle.listing.proofs.Going.{first, first-end, first-says, behind-first}
+use Rattle.listing.proofs.Texts.FirstLine.{lines-front, ended-first}
+use Rattle.listing.proofs.Output.Printing.{prints-long}
+use Rattle.listing.proofs.Memory.Progress.{ready-next}
+use Rattle.listing.proofs.Chunks.Lines.{first, first-end, first-says, behind-first}
 
 -- how far the loop's variables say that it has come
 abbrev pub come : Place → List ℕ → List ℕ → List ℕ → ℕ → ℕ → Going
@@ -31,8 +31,8 @@ pub record Turning (text : List ℕ) (q₀ q : Going) : Type 0 where
   pub fits : q .end ≤ length (q .buffer)
   pub long : length (q .buffer) ≡ length (q₀ .buffer)
 
-pub turning-begins : {m : Memory} (text buffer : List ℕ) → Ready m → Turning text (record { memory = m; taken = 0; buffer = buffer; end = 0 }) (record { memory = m; taken = 0; buffer = buffer; end = 0 })
-turning-begins text buffer r = record { same = refl; ready = r; fits = omega arith; long = refl }
+pub turning-start : {m : Memory} (text buffer : List ℕ) → Ready m → Turning text (record { memory = m; taken = 0; buffer = buffer; end = 0 }) (record { memory = m; taken = 0; buffer = buffer; end = 0 })
+turning-start text buffer r = record { same = refl; ready = r; fits = omega arith; long = refl }
 
 lines-first : (text : List ℕ) → 0 < length text → lines text ≡ first text ∷ lines (drop (extent text) text)
 lines-first [] h = absurd (omega arith)
@@ -55,26 +55,26 @@ module _ {text : List ℕ} {q₀ q : Going} (t : Turning text q₀ q) where
     gone-as l =
         rw (first-says text (q .taken), first-end text (q .taken), ← l .left, ← l .printed .holds, ← l .printed .behind)
 
-    pub turning-on : {m′ : Memory} {buffer′ : List ℕ} {end′ : ℕ} → ended (drop (q .taken) text) ≡ true → q .end + 200 ≤ length (q .buffer) → Leaves (step-in (q .memory) (reading text (q .taken) .outcome)) (next-number (q .memory .place .lines)) (q .memory) m′ (q .buffer) (q .end) buffer′ end′ → Turning text q₀ (record { memory = m′; taken = reading text (q .taken) .place; buffer = buffer′; end = end′ })
+    pub turning-step : {m′ : Memory} {buffer′ : List ℕ} {end′ : ℕ} → ended (drop (q .taken) text) ≡ true → q .end + 200 ≤ length (q .buffer) → Leaves (step-in (q .memory) (reading text (q .taken) .outcome)) (next-number (q .memory .place .lines)) (q .memory) m′ (q .buffer) (q .end) buffer′ end′ → Turning text q₀ (record { memory = m′; taken = reading text (q .taken) .place; buffer = buffer′; end = end′ })
     unfolding next-in
-    turning-on {m′} {buffer′} {end′} e room l =
+    turning-step {m′} {buffer′} {end′} e room l =
         let behind = behind-first text (q .taken) (first (drop (q .taken) text)) refl ∙ ap (λ (n : ℕ). drop n text) (first-end text (q .taken)) in
         record {
           same = taken-one e room ∙ rw (behind, gone-as l);
-          ready = rw (l .left) (next-ready (t .ready) (reading text (q .taken) .outcome));
+          ready = rw (l .left) (ready-next (t .ready) (reading text (q .taken) .outcome));
           fits = omega (arith, l .printed .fits, l .printed .behind, prints-long (l .printed));
           long = prints-long (l .printed) ∙ t .long;
         }
 
     -- a line that has not ended is not taken
-    pub stops-unended : ended (drop (q .taken) text) ≡ false → q ≡ going q₀ (lines text)
+    pub going-unended : ended (drop (q .taken) text) ≡ false → q ≡ going q₀ (lines text)
     unfolding going takes
-    stops-unended e = sym (t .same ∙ rw (lines-first (drop (q .taken) text) left, ended-first (drop (q .taken) text), e))
+    going-unended e = sym (t .same ∙ rw (lines-first (drop (q .taken) text) left, ended-first (drop (q .taken) text), e))
 
     -- nor is one before which less than 200 bytes are left
-    pub stops-short : length (q .buffer) < q .end + 200 → q ≡ going q₀ (lines text)
+    pub going-short : length (q .buffer) < q .end + 200 → q ≡ going q₀ (lines text)
     unfolding going takes
-    stops-short h =
+    going-short h =
         let no = lt-leb (q .end + 200) (length (q .buffer)) h in
         sym
         (t .same ∙
@@ -83,6 +83,6 @@ module _ {text : List ℕ} {q₀ q : Going} (t : Turning text q₀ q) where
         (λ e. rw (lines-first (drop (q .taken) text) left, ended-first (drop (q .taken) text), e)))
 
   -- no byte is left
-  pub stops-end : length text ≤ q .taken → q ≡ going q₀ (lines text)
+  pub going-end : length text ≤ q .taken → q ≡ going q₀ (lines text)
   unfolding going lines
-  stops-end h = sym (t .same ∙ rw (drop-of-length-le text h))
+  going-end h = sym (t .same ∙ rw (drop-of-length-le text h))

@@ -1,0 +1,5 @@
+-- Laws of the lines taken from a text.
+pub mod Lines
+pub mod PartLoop
+pub mod KeptBytes
+pub mod LastLine

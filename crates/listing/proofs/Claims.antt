@@ -1,0 +1,54 @@
+-- The claims of specs/Claims.antt, each under its own name.
+use mathlib.Core.Path.{_≡_, refl, ap, sym, _∙_}
+use mathlib.Core.List.{List, [], _∷_, _++_, append-assoc, append-nil}
+use Prim.Native.Nat.{ℕ}
+use lib.ListN.{length, take, drop}
+use lib.Seq.{take-at, length-take-le}
+use Rattle.listing.specs.Texts.{listing, after}
+use Rattle.listing.specs.Chunks.{part, kept-bytes, turned}
+use Rattle.listing.specs.Parts.{comes, lists, keeps, ends, joined}
+use Rattle.listing.specs.Claims.{Parts-joined, Part-moves, Chunk-moves, End-moves}
+use Rattle.listing.proofs.Texts.Concatenation.{listing-cut, listing-kept}
+use Rattle.listing.proofs.Chunks.Lines.{done-part}
+use Rattle.listing.proofs.Chunks.LastLine.{last-line-listing}
+use Rattle.listing.proofs.Parts.Moves.{printed-taken}
+
+pub parts-joined : Parts-joined
+unfolding Parts-joined joined
+parts-joined g text _ out (comes part {parts = parts} later) =
+    parts-joined g (text ++ part) parts out later ∙ ap (listing g) (append-assoc text part (joined parts))
+parts-joined g _ parts _ (lists a text {out = out} h later) =
+    ap (λ (o : List ℕ). listing g a ++ o) (parts-joined (after g a) text parts out later) ∙
+    sym (listing-cut g a (text ++ joined parts) h) ∙ ap (listing g) (sym (append-assoc a text (joined parts)))
+parts-joined g _ parts out (keeps text e later) =
+    parts-joined g (take 64 text) parts out later ∙ sym (listing-kept g text (joined parts) e)
+parts-joined g _ _ _ (ends text e) = ap (listing g) (sym (append-nil text))
+
+pub part-moves : Part-moves
+unfolding Part-moves
+part-moves m g text buffer r =
+    let d = done-part text buffer r in
+    record {
+      next = after g (take (part m text buffer .taken) text);
+      represents = d .took .represents;
+      moves = printed-taken (d .took);
+    }
+
+pub end-moves : End-moves
+unfolding End-moves
+end-moves m g text room r e h = rw (last-line-listing m g text room r e h) (ends text e)
+
+pub chunk-moves : Chunk-moves
+unfolding Chunk-moves turned kept-bytes
+chunk-moves m g text len buffer r h room =
+    let at-hand : List ℕ = take len text in
+    let d = done-part at-hand buffer r in
+    let rest : List ℕ = drop (part m at-hand buffer .taken) at-hand in
+    let unended = d .all (rw (length-take-le len text h) room) in
+    record {
+      next = after g (take (part m at-hand buffer .taken) at-hand);
+      represents = d .took .represents;
+      moves = λ parts out later.
+          printed-taken (d .took) parts out
+          (keeps rest unended (rw (take-at (take 64 rest) (drop (length (take 64 rest)) text) (length (take 64 rest)) refl) at later));
+    }

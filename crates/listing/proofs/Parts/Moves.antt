@@ -1,0 +1,59 @@
+-- What the listing's calls promise are the moves of a text that comes in parts.
+use mathlib.Core.Path.{_≡_, refl}
+use mathlib.Core.Bool.{false}
+use mathlib.Core.List.{List, _++_}
+use Prim.Native.Nat.{ℕ, _+_, _*_, _≤_}
+use native.Mathlib.Omega.{arith}
+use lib.ListN.{length, take, drop, length-take, length-drop, take-append-drop}
+use lib.Seq.{take-at, length-take-le}
+use Rattle.trace.specs.Numbers.{written}
+use Rattle.trace.specs.Lines.{ended}
+use Rattle.listing.specs.Output.{Prints}
+use Rattle.listing.specs.Steps.{Progress}
+use Rattle.listing.specs.Texts.{after}
+use Rattle.listing.specs.Memory.{Memory, Ready, Represents}
+use Rattle.listing.specs.Chunks.{Going, part, kept-bytes, Turned, turned}
+use Rattle.listing.specs.Parts.{Printed, lists, keeps, ends}
+use Rattle.listing.specs.Claims.{Part-moves, Chunk-moves, End-moves}
+use Rattle.listing.proofs.Memory.Progress.{represents-memory}
+use Rattle.listing.proofs.Chunks.Lines.{Taken, done-part}
+use Rattle.listing.proofs.Texts.Concatenation.{ended-less}
+use Rattle.listing.proofs.Chunks.LastLine.{last-line-listing}
+
+-- what was printed stands at the buffer's front
+take-printed : {before text buffer : List ℕ} {end : ℕ} → Prints before 0 text buffer end → take end buffer ≡ text
+unfolding written
+take-printed {before} {text} {buffer} {end} p =
+    rw (p .holds, p .behind) (take-at text (drop (0 + length text) before) (0 + length text) (omega arith))
+
+module _ {g : Progress} {text buffer : List ℕ} {q : Going} (t : Taken g text buffer q) where
+  pub printed-taken : (parts : List (List ℕ)) (out : List ℕ) → Printed (after g (take (q .taken) text)) (drop (q .taken) text) parts out → Printed g text parts (take (q .end) (q .buffer) ++ out)
+  printed-taken parts out later =
+      let move = lists (take (q .taken) text) (drop (q .taken) text) (t .ends) later in
+      rw (take-printed (t .prints)) (rw (take-append-drop (q .taken) text) at move)
+
+-- what lies between two reads, by what listing and keeping left
+pub turned-parts : (m : Memory) (text : List ℕ) (len : ℕ) (buffer : List ℕ) {q : Going} {kept : ℕ} {text′ : List ℕ} → q ≡ part m (take len text) buffer → kept ≡ length (kept-bytes (q .taken) len text) → text′ ≡ kept-bytes (q .taken) len text ++ drop kept text → _≡_ {A = Turned} (record { memory = q .memory; buffer = q .buffer; end = q .end; text = text′; kept = kept }) (turned m text len buffer)
+unfolding turned
+turned-parts m text len buffer e k t = rw (t, k, e)
+
+-- the bytes kept are those of a line that has not ended
+pub ended-kept : (m : Memory) (g : Progress) (text : List ℕ) (len : ℕ) (buffer : List ℕ) → Represents m g → len ≤ length text → 55 * len + 200 ≤ length buffer → ended (take (turned m text len buffer .kept) (turned m text len buffer .text)) ≡ false
+unfolding turned kept-bytes
+ended-kept m g text len buffer r h room =
+    let at-hand : List ℕ = take len text in
+    let rest : List ℕ = drop (part m at-hand buffer .taken) at-hand in
+    let unended = done-part at-hand buffer r .all (rw (length-take-le len text h) room) in
+    rw (take-at (take 64 rest) (drop (length (take 64 rest)) text) (length (take 64 rest)) refl) (ended-less 64 rest unended)
+
+-- the memory stays a listing's, no more is kept than the text holds, and no more printed than the buffer
+pub steady-turned : (m : Memory) (text : List ℕ) (len : ℕ) (buffer : List ℕ) → Ready m → len ≤ length text → Ready (turned m text len buffer .memory) × (turned m text len buffer .kept ≤ length text) × (turned m text len buffer .end ≤ length buffer)
+unfolding turned kept-bytes
+steady-turned m text len buffer ready h =
+    let at-hand : List ℕ = take len text in
+    let t = done-part at-hand buffer (represents-memory ready) .took in
+    let rest : List ℕ = drop (part m at-hand buffer .taken) at-hand in (
+      t .represents .ready,
+      omega (arith, length-take 64 rest, length-drop (part m at-hand buffer .taken) at-hand, length-take-le len text h),
+      omega (arith, t .prints .fits, t .prints .behind),
+    )

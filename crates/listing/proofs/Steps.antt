@@ -1,0 +1,6 @@
+-- Laws of a line's step.
+pub mod LineNumbers
+pub mod ReachedCalls
+pub mod CallLines
+pub mod SettingsLine
+pub mod Lengths

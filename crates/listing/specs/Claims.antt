@@ -1,0 +1,37 @@
+-- What is claimed of the listing, besides the calls' contracts. proofs/Claims.antt proves each under the same name.
+use Prim.Native.Nat.{ℕ, _+_, _*_, _≤_}
+use mathlib.Core.Path.{_≡_}
+use mathlib.Core.Bool.{false}
+use mathlib.Core.List.{List, [], _++_}
+use lib.ListN.{length, take, drop}
+use Rattle.trace.specs.Lines.{ended}
+use Rattle.listing.specs.Steps.{Progress}
+use Rattle.listing.specs.Texts.{listing}
+use Rattle.listing.specs.Memory.{Memory, Represents}
+use Rattle.listing.specs.Chunks.{next-number, line-room, part, turned, last-line}
+use Rattle.listing.specs.Parts.{Printed, joined, Moves}
+
+-- however a text is cut into parts, and whatever is listed when: what is printed is the listing of the whole
+unfoldable pub Parts-joined : Type 0
+Parts-joined =
+    (g : Progress) (text : List ℕ) (parts : List (List ℕ)) (out : List ℕ) → Printed g text parts out → out ≡ listing g (text ++ joined parts)
+
+-- what `list_part` promises is the move `lists`
+unfoldable pub Part-moves : Type 0
+Part-moves =
+    (m : Memory) (g : Progress) (text buffer : List ℕ) → Represents m g →
+    let q = part m text buffer in
+    Moves g text (take (q .end) (q .buffer)) (q .memory) (drop (q .taken) text)
+
+-- what `list_chunk` promises, with `keep` in it, are the moves `lists` and `keeps`
+unfoldable pub Chunk-moves : Type 0
+Chunk-moves =
+    (m : Memory) (g : Progress) (text : List ℕ) (len : ℕ) (buffer : List ℕ) → Represents m g → len ≤ length text → 55 * len + line-room ≤ length buffer →
+    let q = turned m text len buffer in
+    Moves g (take len text) (take (q .end) (q .buffer)) (q .memory) (take (q .kept) (q .text))
+
+-- what `list_end` promises is the move `ends`
+unfoldable pub End-moves : Type 0
+End-moves =
+    (m : Memory) (g : Progress) (text : List ℕ) (room : ℕ) → Represents m g → ended text ≡ false → 18 ≤ room →
+    Printed g text [] (last-line (next-number (m .place .lines)) text room)

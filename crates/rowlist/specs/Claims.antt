@@ -1,0 +1,16 @@
+-- What is claimed of the program, besides its functions' contracts. proofs/Claims.antt proves it under the same name.
+use Prim.Native.Nat.{ℕ}
+use mathlib.Core.Path.{_≡_}
+use mathlib.Core.List.{List}
+use lib.ListN.{length}
+use Rattle.listing.specs.Steps.{start}
+use Rattle.listing.specs.Texts.{listing}
+use Rattle.listing.specs.Memory.{memory, start-place}
+use Rattle.listing.specs.Parts.{joined}
+use Rattle.rowlist.specs.Turns.{Turns}
+
+-- from the start on, all that is to be written is the listing of all that the reads brought
+unfoldable pub Turns-listed : Type 0
+Turns-listed =
+    (rows counts text : List ℕ) → length rows ≡ 2048 → length counts ≡ 2048 → (parts : List (List ℕ)) (out : List ℕ) →
+    Turns (memory start-place rows counts) text 0 parts out → out ≡ listing start (joined parts)
