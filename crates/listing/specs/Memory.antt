@@ -6,6 +6,7 @@ use mathlib.Core.List.{List, _++_}
 use mathlib.Core.Option.{Option, none, some}
 use lib.ListN.{length, take, drop}
 use denote.Ref.{now}
+use Rattle.device.specs.Acceptance.{most-counters}
 use Rattle.laws.specs.Lent.{Slice}
 use Rattle.device.specs.declared.Settings.{Settings}
 use Rattle.tracker.specs.declared.Position.{Position}
@@ -79,8 +80,8 @@ Running (some t) = Reached (t .settings) (t .state)
 -- the memory is a listing's: both tables have 2,048 places, and a tracker that stands was reached
 pub record Ready (m : Memory) : Type 0 where
   pub running : Running (tracker-of m)
-  pub rows-long : length (m .rows) ≡ 2048
-  pub counts-long : length (m .counts) ≡ 2048
+  pub rows-long : length (m .rows) ≡ most-counters
+  pub counts-long : length (m .counts) ≡ most-counters
 
 -- the memory holds where a listing is, its lines counted modulo 10,000,000,000
 pub record Represents (m : Memory) (g : Progress) : Type 0 where

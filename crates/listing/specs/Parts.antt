@@ -1,15 +1,15 @@
 -- A text that comes in parts: what a program that reads it may do with the bytes at hand, what it has printed in the end, and that the calls
 -- of the listing do just that.
-use Prim.Native.Nat.{ℕ, _+_, _*_, _≤_}
+use Prim.Native.Nat.{ℕ}
 use mathlib.Core.Path.{_≡_}
 use mathlib.Core.Bool.{true, false}
 use mathlib.Core.List.{List, [], _∷_, _++_}
-use lib.ListN.{length, take, drop}
+use lib.ListN.{take}
 use Rattle.trace.specs.Lines.{ended}
 use Rattle.listing.specs.Steps.{Progress}
 use Rattle.listing.specs.Texts.{whole, listing, after}
 use Rattle.listing.specs.Memory.{Memory, Represents}
-use Rattle.listing.specs.Chunks.{next-number, part, turned, last-line}
+use Rattle.listing.specs.Chunks.{part}
 
 -- from where the listing is, with these bytes at hand and these parts still to come, all that is printed
 pub data Printed : Progress → List ℕ → List (List ℕ) → List ℕ → Type 0 where

@@ -10,6 +10,7 @@ use tracker::SetUp;
 ghost use mathlib.Core.Path.{_≡_};
 ghost use Prim.Native.Nat.{_+_, _≤_};
 ghost use lib.ListN.{length};
+ghost use Rattle.device.specs.Acceptance.{most-counters};
 ghost use Rattle.bound.specs.Answers.{outcome, Small};
 ghost use Rattle.trace.specs.declared.Record.the-variants.{Set};
 ghost use Rattle.tracker.specs.Calls.{activation-on};
@@ -133,7 +134,7 @@ pub fn list_settings(
     out: &mut [u8],
     at: usize,
 ) -> Listed
-    requires { ⌜ (at + 200 ≤ length (now out)) × (length (now rows) ≡ 2048) × (length (now counts) ≡ 2048) ⌝ }
+    requires { ⌜ (at + 200 ≤ length (now out)) × (length (now rows) ≡ most-counters) × (length (now counts) ≡ most-counters) ⌝ }
     ensures { λ r. ⌜ Lists-line (record-step line (tracker-of (memory-of p (rows .entry) (counts .entry))) (Set s)) line p rows counts out at r ⌝ }
 {
     let end = print_settings(out, at, line, bound::bound(s));

@@ -7,11 +7,8 @@ use lib.ListN.{length, take, drop}
 use denote.Ref.{now}
 use Rattle.laws.specs.Lent.{Slice, Lent}
 use Rattle.trace.specs.Numbers.{written}
-use Rattle.listing.specs.Steps.{start}
-use Rattle.listing.specs.Texts.{listing}
-use Rattle.listing.specs.Memory.{Memory, memory, memory-of, start-place}
+use Rattle.listing.specs.Memory.{Memory, memory, memory-of}
 use Rattle.listing.specs.Chunks.{next-number, turned, last-line}
-use Rattle.listing.specs.Parts.{joined}
 use Rattle.rowlist.specs.declared.Input.{Input}
 use Rattle.rowlist.specs.declared.Input.the-variants.{Bytes, End, Failed}
 use Rattle.rowlist.specs.declared.Turn.{Turn}

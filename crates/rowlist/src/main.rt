@@ -6,8 +6,16 @@ ghost use mathlib.Core.Path.{_≡_};
 ghost use mathlib.Core.Bool.{true};
 ghost use Prim.Native.Nat.{_+_, _*_, _≤_};
 ghost use lib.ListN.{length};
+ghost use Rattle.device.specs.Acceptance.{most-counters};
 ghost use Rattle.listing.specs.Memory.{memory-of, start-place, Ready};
 ghost use Rattle.rowlist.specs.Turns.{Readable, Came, turn-from, turn-left};
+
+// The most counters that settings allow, the bytes of a read, and room for what they print.
+const MOST_COUNTERS: usize = 2_048;
+
+const TEXT: usize = 4_096;
+
+const OUT: usize = 262_144;
 
 // What a read came to: so many bytes at hand, the input's end, or a failure.
 enum Input {
@@ -100,7 +108,7 @@ fn first_turn() -> Turn
 
 // Reads, lists and writes, until the input ends or a read or write fails.
 fn run(rows: &mut [u32], counts: &mut [u32], text: &mut [u8], out: &mut [u8])
-    requires { ⌜ (length (now rows) ≡ 2048) × (length (now counts) ≡ 2048) × (length (now text) ≡ 4096) × (length (now out) ≡ 262144) ⌝ }
+    requires { ⌜ (length (now rows) ≡ most-counters) × (length (now counts) ≡ most-counters) × (length (now text) ≡ 4096) × (length (now out) ≡ 262144) ⌝ }
 {
     let mut turn = first_turn();
     let mut turns = u64::MAX;
@@ -119,9 +127,9 @@ fn run(rows: &mut [u32], counts: &mut [u32], text: &mut [u8], out: &mut [u8])
 }
 
 fn main() {
-    let mut rows = [0u32; 2048];
-    let mut counts = [0u32; 2048];
-    let mut text = [0u8; 4096];
-    let mut out = [0u8; 262144];
+    let mut rows = [0u32; MOST_COUNTERS];
+    let mut counts = [0u32; MOST_COUNTERS];
+    let mut text = [0u8; TEXT];
+    let mut out = [0u8; OUT];
     run(&mut rows, &mut counts, &mut text, &mut out);
 }

@@ -6,6 +6,7 @@ use mathlib.Core.List.{List}
 use denote.Ref.{now}
 use lib.Dec.{leb, ltb, eqb}
 use lib.ListN.{length, getD}
+use Rattle.device.specs.Acceptance.{most-rows}
 use Rattle.device.specs.declared.Settings.{Settings}
 use Rattle.summary.specs.Contracts.{Holds, Slice, summary}
 use Rattle.summary.specs.declared.Tally.{Tally}
@@ -15,7 +16,7 @@ use Rattle.tracker.specs.State.{most-count}
 -- an accepted event: its settings, its place in the window and the places of the list for its picks
 abbrev pub Ranges : Settings → ℕ → ℕ → Type 0
 Ranges s e places =
-    (s .«blast_diameter» ≤ 4) × (s .rows ≤ 65536) × (s .volume ≤ 16) × (s .block ≤ 64) × (1 ≤ s .window) × (e ≤ 8192) × (s .volume ≤ places)
+    (s .«blast_diameter» ≤ 4) × (s .rows ≤ most-rows) × (s .volume ≤ 16) × (s .block ≤ 64) × (1 ≤ s .window) × (e ≤ 8192) × (s .volume ≤ places)
 
 -- the rules of a valid state that are about its position
 abbrev pub position-allowed : Settings → Position → Bool

@@ -6,6 +6,7 @@ use summary::Tally;
 ghost use mathlib.Core.List.{_∷_, []};
 ghost use Prim.Native.Nat.{_-_, _≤_, _<_};
 ghost use lib.ListN.{length, take};
+ghost use Rattle.device.specs.Acceptance.{most-rows};
 ghost use Rattle.device.specs.Victims.{rows-between};
 ghost use Rattle.summary.specs.Steps.{spread, besides, taken-out, cleared-if, event};
 ghost use Rattle.summary.specs.Rules.{Below, Ordered, Room-for};
@@ -64,7 +65,7 @@ fn spread_picks(
     used: usize,
 ) -> Tally
     requires { ⌜ Tracks rows counts t ⌝ }
-    requires { ⌜ (s .«blast_diameter» ≤ 4) × (used ≤ 16) × (used ≤ length (now picks)) × Below 65536 (take used (now picks)) ⌝ }
+    requires { ⌜ (s .«blast_diameter» ≤ 4) × (used ≤ 16) × (used ≤ length (now picks)) × Below most-rows (take used (now picks)) ⌝ }
     requires { ⌜ Room-for 192 (summary rows counts t) ⌝ }
     ensures { λ r. ⌜ Turns rows counts t (spread (places rows) (victims-in s) (take used (now (picks .entry)))) r ⌝ }
 {
@@ -88,7 +89,7 @@ fn spread_unlisted(
     row: u32,
 ) -> Tally
     requires { ⌜ Tracks rows counts t ⌝ }
-    requires { ⌜ (s .«blast_diameter» ≤ 4) × (row < 65536) × (used ≤ length (now picks)) ⌝ }
+    requires { ⌜ (s .«blast_diameter» ≤ 4) × (row < most-rows) × (used ≤ length (now picks)) ⌝ }
     requires { ⌜ Room-for 128 (summary rows counts t) ⌝ }
     ensures { λ r. ⌜ Turns rows counts t (spread (places rows) (victims-in s) (besides (take used (now (picks .entry))) (row ∷ []))) r ⌝ }
 {
@@ -111,7 +112,7 @@ fn spread_run(
     high: u32,
 ) -> Tally
     requires { ⌜ Tracks rows counts t ⌝ }
-    requires { ⌜ (s .«blast_diameter» ≤ 4) × (used ≤ length (now picks)) × (high ≤ 65536) × (high - low ≤ 64) ⌝ }
+    requires { ⌜ (s .«blast_diameter» ≤ 4) × (used ≤ length (now picks)) × (high ≤ most-rows) × (high - low ≤ 64) ⌝ }
     requires { ⌜ Room-for 384 (summary rows counts t) ⌝ }
     ensures { λ r. ⌜ Turns rows counts t (spread (places rows) (victims-in s) (besides (take used (now (picks .entry))) (rows-between low high))) r ⌝ }
 {

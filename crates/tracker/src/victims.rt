@@ -4,6 +4,7 @@ use summary::Tally;
 ghost use mathlib.Core.Path.{_≡_};
 ghost use Prim.Native.Nat.{_-_, _≤_, _<_, min};
 ghost use lib.ListN.{length};
+ghost use Rattle.device.specs.Acceptance.{most-rows};
 ghost use Rattle.summary.specs.Steps.{disturb-each, activation};
 ghost use Rattle.summary.specs.Contracts.{summary, places, Tracks, Turns};
 ghost use Rattle.tracker.specs.Calls.{victims-in};
@@ -32,7 +33,7 @@ pub fn disturb_victims(
     row: u32,
 ) -> Tally
     requires { ⌜ Tracks rows counts t ⌝ }
-    requires { ⌜ (s .«blast_diameter» ≤ 4) × (row < 65536) ⌝ }
+    requires { ⌜ (s .«blast_diameter» ≤ 4) × (row < most-rows) ⌝ }
     requires { ⌜ Room-for 128 (summary rows counts t) ⌝ }
     ensures { λ r. ⌜ Turns rows counts t (disturb-each (places rows) (victims-in s row)) r ⌝ }
 {
@@ -46,7 +47,7 @@ pub fn disturb_victims(
 // A row is dropped if tracked, then it disturbs its victims.
 pub fn activate_row(s: Settings, rows: &mut [u32], counts: &mut [u32], t: Tally, row: u32) -> Tally
     requires { ⌜ Tracks rows counts t ⌝ }
-    requires { ⌜ (s .«blast_diameter» ≤ 4) × (row < 65536) ⌝ }
+    requires { ⌜ (s .«blast_diameter» ≤ 4) × (row < most-rows) ⌝ }
     requires { ⌜ Room-for 128 (summary rows counts t) ⌝ }
     ensures { λ r. ⌜ Turns rows counts t (activation (places rows) (victims-in s) row) r ⌝ }
 {

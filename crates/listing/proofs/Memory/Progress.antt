@@ -4,6 +4,7 @@ use mathlib.Core.List.{List}
 use mathlib.Core.Option.{Option, none, some}
 use Prim.Native.Nat.{ℕ, suc, _+_, _%_}
 use lib.ListN.{length, replicate}
+use Rattle.device.specs.Acceptance.{most-counters}
 use Rattle.device.specs.declared.Settings.{Settings}
 use Rattle.device.specs.Refusal.{Outcome, accepted, refused}
 use Rattle.tracker.specs.declared.Position.{Position}
@@ -71,7 +72,7 @@ pub ready-next : {m : Memory} → Ready m → (o : Outcome Record) → Ready (ne
 ready-next r o = represents-next (represents-memory r) o .ready
 
 -- where a listing begins
-pub represents-start : (rows counts : List ℕ) → length rows ≡ 2048 → length counts ≡ 2048 → Represents (memory start-place rows counts) start
+pub represents-start : (rows counts : List ℕ) → length rows ≡ most-counters → length counts ≡ most-counters → Represents (memory start-place rows counts) start
 unfolding start-place start tracker-of Running
 represents-start rows counts rows-long counts-long =
     record {

@@ -7,6 +7,7 @@ use Prim.Native.Nat.{ℕ, _≤_}
 use native.Mathlib.Omega.{arith}
 use lib.ListN.{length, take, drop, length-append, length-drop, take-append-drop}
 use lib.Seq.{take-at}
+use Rattle.device.specs.Acceptance.{most-counters}
 use Rattle.device.specs.declared.Settings.{Settings}
 use Rattle.device.proofs.Acceptance.{accepted-settings}
 use Rattle.laws.proofs.Cases.{split}
@@ -35,7 +36,7 @@ module _ (m : Memory) where
   reached-active e r = rw (tracker-active e) at r
 
 -- C is at most 2,048
-pub counters-le : {s : Settings} {st : State} (t : List ℕ) → Reached s st → length t ≡ 2048 → s .counters ≤ length t
+pub counters-le : {s : Settings} {st : State} (t : List ℕ) → Reached s st → length t ≡ most-counters → s .counters ≤ length t
 counters-le {s} t r e = omega (arith, e, accepted-settings s (reached-accepted r) .counters .most)
 
 -- a place with another position, at a line
@@ -76,7 +77,7 @@ module _ (m : Memory) (lines : ℕ) (ready : Ready m) where
       let long = reached-length r in
       rw (take-at (t .state .rows) (drop c (m .rows)) c (long .0), take-at (t .state .counts) (drop c (m .counts)) c (long .1))
 
-  front-long : {s : Settings} {st : State} (front t : List ℕ) → Reached s st → length front ≡ s .counters → length t ≡ 2048 → length (front ++ drop (s .counters) t) ≡ 2048
+  front-long : {s : Settings} {st : State} (front t : List ℕ) → Reached s st → length front ≡ s .counters → length t ≡ most-counters → length (front ++ drop (s .counters) t) ≡ most-counters
   front-long {s} front t r e long =
       rw (length-append, e, length-drop) (omega (arith, long, counters-le t r long))
 

@@ -13,12 +13,10 @@ use Rattle.listing.specs.Steps.{Progress}
 use Rattle.listing.specs.Texts.{after}
 use Rattle.listing.specs.Memory.{Memory, Ready, Represents}
 use Rattle.listing.specs.Chunks.{Going, part, kept-bytes, Turned, turned}
-use Rattle.listing.specs.Parts.{Printed, lists, keeps, ends}
-use Rattle.listing.specs.Claims.{Part-moves, Chunk-moves, End-moves}
+use Rattle.listing.specs.Parts.{Printed, lists, ends}
 use Rattle.listing.proofs.Memory.Progress.{represents-memory}
 use Rattle.listing.proofs.Chunks.Lines.{Taken, done-part}
 use Rattle.listing.proofs.Texts.Concatenation.{ended-less}
-use Rattle.listing.proofs.Chunks.LastLine.{last-line-listing}
 
 -- what was printed stands at the buffer's front
 take-printed : {before text buffer : List ℕ} {end : ℕ} → Prints before 0 text buffer end → take end buffer ≡ text

@@ -2,7 +2,7 @@
 use mathlib.Core.Path.{_≡_, refl, ap, sym, _∙_}
 use mathlib.Core.Bool.{true, false}
 use mathlib.Core.Logic.{⊎-elim}
-use mathlib.Core.List.{List, [], _∷_, _++_, append-assoc, append-nil, map-append}
+use mathlib.Core.List.{List, [], _∷_, _++_, append-assoc, map-append}
 use Prim.Native.Nat.{ℕ, zero, suc, _+_, _≤_}
 use native.Mathlib.Omega.{arith}
 use lib.Dec.{eqb}
@@ -16,8 +16,6 @@ use Rattle.trace.specs.Reading.{Reading, reading, reading-by}
 use Rattle.trace.proofs.Reading.InParts.{reading-append-unended}
 use Rattle.listing.specs.Steps.{Progress, next}
 use Rattle.listing.specs.Texts.{in-front, lines, whole, read, outcomes, listed, passed, listing, after}
-use Rattle.listing.specs.Parts.{comes, lists, keeps, ends, joined}
-use Rattle.listing.specs.Claims.{Parts-joined}
 use Rattle.listing.proofs.Texts.FirstLine.{lines-front, outcomes-front}
 
 -- behind the end of a line

@@ -20,25 +20,30 @@ loop-holds c = (refl, omega arith)
 
 slice-read-text : tie.Need-slice-read-text Inv-loop μ-loop
 slice-read-text c =
+    let start = c .before .before .before .before .before .before .before in
+    let smaller = c .before .before .before .before .before .smaller in
     let l = c .before .before .loop in
-    let few = kept-few (c .before .before .before .before .before .before .before .args .text .now) (c .before .before .before .before .before .before .before .args .from) (c .before .before .before .before .before .before .before .args .to) (c .before .before .before .before .before .smaller .ensures) (c .before .before .before .before .smaller2 .ensures) (c .before .before .before .smaller3 .ensures) in
-    omega (arith, few .1, c .before .loop-test .taken, copied-long (c .before .before .before .before .before .before .before .args .text .now) (c .before .before .before .before .smaller2 .result) (l .i) (omega (arith, few .1, l .inv .1)) (l .inv .0))
+    let few = kept-few (start .args .text .now) (start .args .from) (start .args .to) (smaller .ensures) (c .before .before .before .before .smaller2 .ensures) (c .before .before .before .smaller3 .ensures) in
+    omega (arith, few .1, c .before .loop-test .taken, copied-long (start .args .text .now) (c .before .before .before .before .smaller2 .result) (l .i) (omega (arith, few .1, l .inv .1)) (l .inv .0))
 
 slice-write-text : tie.Need-slice-write-text Inv-loop μ-loop
 slice-write-text c = omega (arith, slice-read-text c)
 
 loop-again : tie.Need-loop-again Inv-loop μ-loop
 loop-again c =
+    let start = c .before .before .before .before .before .before .before in
+    let smaller = c .before .before .before .before .before .smaller in
     let l = c .before .before .loop in
-    let few = kept-few (c .before .before .before .before .before .before .before .args .text .now) (c .before .before .before .before .before .before .before .args .from) (c .before .before .before .before .before .before .before .args .to) (c .before .before .before .before .before .smaller .ensures) (c .before .before .before .before .smaller2 .ensures) (c .before .before .before .smaller3 .ensures) in
+    let few = kept-few (start .args .text .now) (start .args .from) (start .args .to) (smaller .ensures) (c .before .before .before .before .smaller2 .ensures) (c .before .before .before .smaller3 .ensures) in
     let less = c .before .loop-test .taken in
-    (copied-on (c .before .before .before .before .before .before .before .args .text .now) (c .before .before .before .before .smaller2 .result) (l .i) (omega (arith, few .1, l .inv .1)) (l .inv .0) (omega (arith, few .1, less)), omega (arith, less))
+    (copied-on (start .args .text .now) (c .before .before .before .before .smaller2 .result) (l .i) (omega (arith, few .1, l .inv .1)) (l .inv .0) (omega (arith, few .1, less)), omega (arith, less))
 
 same-length : tie.Need-same-length Inv-loop μ-loop
 same-length c =
+    let start = c .before .before .before .before .before .before in
     let l = c .before .loop in
-    let few = kept-few (c .before .before .before .before .before .before .args .text .now) (c .before .before .before .before .before .before .args .from) (c .before .before .before .before .before .before .args .to) (c .before .before .before .before .smaller .ensures) (c .before .before .before .smaller2 .ensures) (c .before .before .smaller3 .ensures) in
-    copied-long (c .before .before .before .before .before .before .args .text .now) (c .before .before .before .smaller2 .result) (l .i) (omega (arith, few .1, l .inv .1)) (l .inv .0)
+    let few = kept-few (start .args .text .now) (start .args .from) (start .args .to) (c .before .before .before .before .smaller .ensures) (c .before .before .before .smaller2 .ensures) (c .before .before .smaller3 .ensures) in
+    copied-long (start .args .text .now) (c .before .before .before .smaller2 .result) (l .i) (omega (arith, few .1, l .inv .1)) (l .inv .0)
 
 returns : tie.Need-returns Inv-loop μ-loop
 returns c =

@@ -7,7 +7,9 @@ use Rattle.listing.proofs.list_chunk.Statement.{statement}
 use Rattle.listing.proofs.list_chunk.Tie as tie
 
 list-part-requires : tie.Need-list-part-requires
-list-part-requires c κs = c .before .before .before .before .before .before .before .before .before .pre .0
+list-part-requires c κs =
+    let start = c .before .before .before .before .before .before .before .before .before in
+    start .pre .0
 
 returns : tie.Need-returns
 returns c =

@@ -22,9 +22,11 @@ returns-2 c =
 returns-3 : tie.Need-returns-3
 unfolding next-number
 returns-3 c =
+    let if1 = c .before .before .before .before .before .before .if1 in
+    let if2 = c .before .before .before .before .before .if2 in
     let a = c .before .before .before .before .before .before .before .before .before .args in
-    let some : 0 < length (a .text .now) = omega (arith, c .before .before .before .before .before .before .if1 .left) in
-    rw (last-line-some (next-number (a .p .lines)) (a .text .now) (length (a .out .now)) some (c .before .before .before .before .before .if2 .left)) (c .before .before .print-refusal .ensures)
+    let some : 0 < length (a .text .now) = omega (arith, if1 .left) in
+    rw (last-line-some (next-number (a .p .lines)) (a .text .now) (length (a .out .now)) some (if2 .left)) (c .before .before .print-refusal .ensures)
 
 pub list-end-spec : {M : Type 1} → statement M
 list-end-spec =

@@ -32,54 +32,81 @@ place-behind-requires c κs = search needs
 
 sub-if2 : tie.Need-sub-if2 Inv-loop μ-loop
 sub-if2 c =
+    let start = c .before .before .before .before .before .before .before .before .before in
     let at = c .place-behind .ensures ∙ ap (λ (r : Reading). r .place) (c .before .read-line .ensures) in
-    omega (arith, at, place-within (c .before .before .before .before .before .before .before .before .before .args .text .now) (c .before .before .before .before .loop .at) (c .before .before .before .loop-test .taken) .0)
+    omega (arith, at, place-within (start .args .text .now) (c .before .before .before .before .loop .at) (c .before .before .before .loop-test .taken) .0)
 
 shared-slice-read-if2 : tie.Need-shared-slice-read-if2 Inv-loop μ-loop
 shared-slice-read-if2 c =
+    let start = c .before .before .before .before .before .before .before .before .before .before in
+    let turn = c .before .before .before .before .before .loop in
     let at = c .before .place-behind .ensures ∙ ap (λ (r : Reading). r .place) (c .before .before .read-line .ensures) in
-    omega (arith, at, place-within (c .before .before .before .before .before .before .before .before .before .before .args .text .now) (c .before .before .before .before .before .loop .at) (c .before .before .before .before .loop-test .taken))
+    omega (arith, at, place-within (start .args .text .now) (turn .at) (c .before .before .before .before .loop-test .taken))
 
 same-length : tie.Need-same-length Inv-loop μ-loop
-same-length c = c .before .before .before .before .before .before .loop .inv .ready .rows-long ∙ sym (c .before .before .before .before .before .before .before .before .before .before .before .pre .rows-long)
+same-length c =
+    let start = c .before .before .before .before .before .before .before .before .before .before .before in
+    let turn = c .before .before .before .before .before .before .loop in
+    turn .inv .ready .rows-long ∙ sym (start .pre .rows-long)
 
 same-length-2 : tie.Need-same-length-2 Inv-loop μ-loop
-same-length-2 c = c .before .before .before .before .before .before .loop .inv .ready .counts-long ∙ sym (c .before .before .before .before .before .before .before .before .before .before .before .pre .counts-long)
+same-length-2 c =
+    let start = c .before .before .before .before .before .before .before .before .before .before .before in
+    let turn = c .before .before .before .before .before .before .loop in
+    turn .inv .ready .counts-long ∙ sym (start .pre .counts-long)
 
 same-length-3 : tie.Need-same-length-3 Inv-loop μ-loop
-same-length-3 c = c .before .before .before .before .before .before .loop .inv .long
+same-length-3 c =
+    let turn = c .before .before .before .before .before .before .loop in
+    turn .inv .long
 
 returns : tie.Need-returns Inv-loop μ-loop
 unfolding part
 returns c =
+    let turn = c .before .before .before .before .before .before .loop in
     let less = c .before .before .before .before .before .loop-test .taken in
-    going-unended (c .before .before .before .before .before .before .loop .inv) less (ends-without _ _ _ (c .before .before .place-behind .ensures ∙ ap (λ (r : Reading). r .place) (c .before .before .before .read-line .ensures)) less (c .if2 .taken))
+    going-unended (turn .inv) less (ends-without _ _ _ (c .before .before .place-behind .ensures ∙ ap (λ (r : Reading). r .place) (c .before .before .before .read-line .ensures)) less (c .if2 .taken))
 
 list-line-requires : tie.Need-list-line-requires Inv-loop μ-loop
 list-line-requires c κs =
+    let if1 = c .before .before .before .before .before .before .before .if1 in
     let l = c .before .before .before .before .before .before .before .before .before .loop in
-    (l .inv .ready, omega (arith, l .inv .fits, leb-true 200 (length (l .out) - l .end) (c .before .before .before .before .before .before .before .if1 .taken)))
+    (l .inv .ready, omega (arith, l .inv .fits, leb-true 200 (length (l .out) - l .end) (if1 .taken)))
 
 loop-less : tie.Need-loop-less Inv-loop μ-loop
 loop-less c =
-    let at = c .before .before .before .before .before .before .before .before .before .before .before .before .before .place-behind .ensures ∙ ap (λ (r : Reading). r .place) (c .before .before .before .before .before .before .before .before .before .before .before .before .before .before .read-line .ensures) in
-    let w = place-within (c .before .before .before .before .before .before .before .before .before .before .before .before .before .before .before .before .before .before .before .before .before .before .args .text .now) (c .before .before .before .before .before .before .before .before .before .before .before .before .before .before .before .before .before .loop .at) (c .before .before .before .before .before .before .before .before .before .before .before .before .before .before .before .before .loop-test .taken) in
+    let start = c .before .before .before .before .before .before .before .before .before .before .before .before .before .before .before .before .before .before .before .before .before .before in
+    let turn = c .before .before .before .before .before .before .before .before .before .before .before .before .before .before .before .before .before .loop in
+    let test = c .before .before .before .before .before .before .before .before .before .before .before .before .before .before .before .before .loop-test in
+    let read-line = c .before .before .before .before .before .before .before .before .before .before .before .before .before .before .read-line in
+    let place-behind = c .before .before .before .before .before .before .before .before .before .before .before .before .before .place-behind in
+    let at = place-behind .ensures ∙ ap (λ (r : Reading). r .place) (read-line .ensures) in
+    let w = place-within (start .args .text .now) (turn .at) (test .taken) in
     omega (arith, at, w .0, w .1)
 
 loop-again : tie.Need-loop-again Inv-loop μ-loop
 loop-again c =
+    let if1 = c .before .before .before .before .before .before .before .before .before .before .before .before .before .before .before .if1 in
+    let read-line = c .before .before .before .before .before .before .before .before .before .before .before .before .before .before .read-line in
+    let place-behind = c .before .before .before .before .before .before .before .before .before .before .before .before .before .place-behind in
+    let if2 = c .before .before .before .before .before .before .before .before .before .before .before .if2 in
+    let list-line = c .before .before .before .before .before .before .before .list-line in
     let l = c .before .before .before .before .before .before .before .before .before .before .before .before .before .before .before .before .before .loop in
-    let at = c .before .before .before .before .before .before .before .before .before .before .before .before .before .place-behind .ensures ∙ ap (λ (r : Reading). r .place) (c .before .before .before .before .before .before .before .before .before .before .before .before .before .before .read-line .ensures) in
+    let at = place-behind .ensures ∙ ap (λ (r : Reading). r .place) (read-line .ensures) in
     let less = c .before .before .before .before .before .before .before .before .before .before .before .before .before .before .before .before .loop-test .taken in
-    let room : l .end + 200 ≤ length (l .out) = omega (arith, l .inv .fits, leb-true 200 (length (l .out) - l .end) (c .before .before .before .before .before .before .before .before .before .before .before .before .before .before .before .if1 .taken)) in
+    let room : l .end + 200 ≤ length (l .out) = omega (arith, l .inv .fits, leb-true 200 (length (l .out) - l .end) (if1 .taken)) in
     rw at
-    (turning-step (l .inv) less (ends-with _ _ _ at less (c .before .before .before .before .before .before .before .before .before .before .before .if2 .left)) room (rw (c .before .before .before .before .before .before .before .before .before .before .before .before .before .before .read-line .ensures) at (c .before .before .before .before .before .before .before .list-line .ensures)))
+    (turning-step (l .inv) less (ends-with _ _ _ at less (if2 .left)) room (rw (read-line .ensures) at (list-line .ensures)))
 
 same-length-4 : tie.Need-same-length-4 Inv-loop μ-loop
-same-length-4 c = c .before .before .loop .inv .ready .rows-long ∙ sym (c .before .before .before .before .before .before .before .pre .rows-long)
+same-length-4 c =
+    let start = c .before .before .before .before .before .before .before in
+    c .before .before .loop .inv .ready .rows-long ∙ sym (start .pre .rows-long)
 
 same-length-5 : tie.Need-same-length-5 Inv-loop μ-loop
-same-length-5 c = c .before .before .loop .inv .ready .counts-long ∙ sym (c .before .before .before .before .before .before .before .pre .counts-long)
+same-length-5 c =
+    let start = c .before .before .before .before .before .before .before in
+    c .before .before .loop .inv .ready .counts-long ∙ sym (start .pre .counts-long)
 
 same-length-6 : tie.Need-same-length-6 Inv-loop μ-loop
 same-length-6 c = c .before .before .loop .inv .long
@@ -92,10 +119,14 @@ returns-2 c =
     going-short (l .inv) (c .before .loop-test .taken) short
 
 same-length-7 : tie.Need-same-length-7 Inv-loop μ-loop
-same-length-7 c = c .before .loop .inv .ready .rows-long ∙ sym (c .before .before .before .before .before .before .pre .rows-long)
+same-length-7 c =
+    let start = c .before .before .before .before .before .before in
+    c .before .loop .inv .ready .rows-long ∙ sym (start .pre .rows-long)
 
 same-length-8 : tie.Need-same-length-8 Inv-loop μ-loop
-same-length-8 c = c .before .loop .inv .ready .counts-long ∙ sym (c .before .before .before .before .before .before .pre .counts-long)
+same-length-8 c =
+    let start = c .before .before .before .before .before .before in
+    c .before .loop .inv .ready .counts-long ∙ sym (start .pre .counts-long)
 
 same-length-9 : tie.Need-same-length-9 Inv-loop μ-loop
 same-length-9 c = c .before .loop .inv .long

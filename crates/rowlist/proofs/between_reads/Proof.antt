@@ -10,17 +10,23 @@ use Rattle.rowlist.proofs.between_reads.Tie as tie
 list-chunk-requires : tie.Need-list-chunk-requires
 unfolding Within
 list-chunk-requires c κs =
+    let input = c .before .before .before .before .before .input in
     let a = c .before .before .before .before .before .before .before .before .before .before .before .before in
-    let within = rw (c .before .before .before .before .before .input .given .1) at (a .pre .1 .within) in
+    let within = rw (input .given .1) at (a .pre .1 .within) in
     (a .pre .0, within .1, omega (arith, within .1, a .pre .1 .room))
 
 returns : tie.Need-returns
-returns c = rw (c .before .before .before .before .before .before .before .before .before .before .before .before .before .before .before .input .given .1) (turn-chunk _ _ _ _ _ _ (c .before .before .before .before .before .before .before .before .before .list-chunk .ensures))
+returns c =
+    let input = c .before .before .before .before .before .before .before .before .before .before .before .before .before .before .before .input in
+    let list-chunk = c .before .before .before .before .before .before .before .before .before .list-chunk in
+    rw (input .given .1) (turn-chunk _ _ _ _ _ _ (list-chunk .ensures))
 
 returns-2 : tie.Need-returns-2
 returns-2 c =
+    let start = c .before .before .before .before .before .before .before .before .before .before .before .before .before in
+    let enum-told = c .before .before .before .before .before .before .enum-told in
     let l = c .before .before .list-end in
-    rw (c .before .before .before .before .before .before .enum-told .given .1) (turn-end _ _ _ _ (rw (sub-zero (c .before .before .before .before .before .before .before .before .before .before .before .before .before .args .from .kept)) at (l .ensures)))
+    rw (enum-told .given .1) (turn-end _ _ _ _ (rw (sub-zero (start .args .from .kept)) at (l .ensures)))
 
 returns-3 : tie.Need-returns-3
 unfolding turn-of

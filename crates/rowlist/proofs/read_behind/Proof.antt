@@ -16,11 +16,15 @@ front-at text kept part h = take-at (take kept text) part kept (length-take-le k
 
 returns : tie.Need-returns
 unfolding Within
-returns c = record { front = front-at (c .before .before .before .before .before .before .before .before .before .args .text .now) (c .before .before .before .before .before .before .before .before .before .args .kept) _ (c .before .before .before .before .before .before .before .before .before .pre); within = tt }
+returns c =
+    let start = c .before .before .before .before .before .before .before .before .before in
+    record { front = front-at (start .args .text .now) (start .args .kept) _ (start .pre); within = tt }
 
 returns-2 : tie.Need-returns-2
 unfolding Within
-returns-2 c = record { front = front-at (c .before .before .before .before .before .before .before .before .before .before .before .before .args .text .now) (c .before .before .before .before .before .before .before .before .before .before .before .before .args .kept) _ (c .before .before .before .before .before .before .before .before .before .before .before .before .pre); within = tt }
+returns-2 c =
+    let start = c .before .before .before .before .before .before .before .before .before .before .before .before in
+    record { front = front-at (start .args .text .now) (start .args .kept) _ (start .pre); within = tt }
 
 same-length-3 : tie.Need-same-length-3
 same-length-3 c = search needs

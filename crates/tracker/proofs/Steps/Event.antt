@@ -7,6 +7,7 @@ use native.Mathlib.Nat.{sub-zero}
 use native.Mathlib.Omega.{arith}
 use lib.ListN.{length, replicate, take, drop}
 use lib.Seq.{take-at}
+use Rattle.device.specs.Acceptance.{most-rows}
 use Rattle.summary.specs.Steps.{Summary, spread, besides, drop-rows, picked, taken-out, empty, cleared-if, sources, event}
 use Rattle.summary.specs.Rules.{Room, Below, below-none, below-more, bare, Ordered, Room-for}
 use Rattle.summary.specs.Tables.{table, read}
@@ -54,7 +55,7 @@ module _ {volume : ℕ} {sum : Summary} {list₀ list : List ℕ} {count : ℕ} 
   pub count-picked-le : count ≤ volume
   count-picked-le = rw (p .counted) (length-picks-le volume (sum .entries))
 
-  pub take-picked-below : {high : ℕ} → Ordered high 0 (sum .entries) → high ≤ 65536 → Below 65536 (take count list)
+  pub take-picked-below : {high : ℕ} → Ordered high 0 (sum .entries) → high ≤ most-rows → Below most-rows (take count list)
   unfolding picked
   take-picked-below o h = rw take-picked (below-higher (picks-below volume (sum .entries) o) h)
 

@@ -20,11 +20,12 @@ print-settings-requires c κs =
 returns : tie.Need-returns
 unfolding stored
 returns c =
+    let print-settings = c .before .before .before .before .before .before .print-settings in
     let a = c .before .before .before .before .before .before .before .before .before .before .before .before in
     let m = memory (a .args .p) (a .args .rows .now) (a .args .counts .now) in
     let b = c .before .before .before .before .before .before .before .bound in
     record {
-      printed = settings-printed (a .args .line) (a .args .s) (tracker-of m) (b .result) (b .ensures) (c .before .before .before .before .before .before .print-settings .ensures);
+      printed = settings-printed (a .args .line) (a .args .s) (tracker-of m) (b .result) (b .ensures) (print-settings .ensures);
       left = rw (settings-refused (a .args .line) (a .args .s) (tracker-of m) (λ e. c .before .before .if1 .taken (c .before .before .before .settings-refusal .ensures ∙ e)));
     }
 
@@ -37,6 +38,9 @@ front-set-up-requires c κs =
 returns-2 : tie.Need-returns-2
 unfolding stored tracker-in given
 returns-2 c =
+    let print-settings = c .before .before .before .before .before .before .before .before .before .before .before .print-settings in
+    let settings-refusal = c .before .before .before .before .before .before .before .before .settings-refusal in
+    let if1 = c .before .before .before .before .before .before .before .if1 in
     let a = c .before .before .before .before .before .before .before .before .before .before .before .before .before .before .before .before .before in
     let s = a .args .s in
     let m = memory (a .args .p) (a .args .rows .now) (a .args .counts .now) in
@@ -44,10 +48,10 @@ returns-2 c =
     let f = c .before .before .before .before .front-set-up in
     let rows = f .last .1 .0 in
     let counts = f .last .1 .1 .0 in
-    let e = sym (c .before .before .before .before .before .before .before .before .settings-refusal .ensures) ∙ c .before .before .before .before .before .before .before .if1 .left in
+    let e = sym (settings-refusal .ensures) ∙ if1 .left in
     let ok = accepted-settings s e in
     record {
-      printed = settings-printed (a .args .line) s (tracker-of m) (b .result) (b .ensures) (c .before .before .before .before .before .before .before .before .before .before .before .print-settings .ensures);
+      printed = settings-printed (a .args .line) s (tracker-of m) (b .result) (b .ensures) (print-settings .ensures);
       left =
           rw (settings-stand (a .args .line) s (tracker-of m) (f .result) (m .rows) (m .counts) (take (s .counters) rows) (take (s .counters) counts) e
           (omega (arith, a .pre .1, ok .counters .most))

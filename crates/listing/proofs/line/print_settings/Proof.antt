@@ -15,11 +15,15 @@ print-bound-requires c κs =
 
 returns : tie.Need-returns
 unfolding outcome settings-line
-returns c = rw (c .before .before .before .before .before .answer .given .1) (c .before .before .print-bound .ensures)
+returns c =
+    let answer = c .before .before .before .before .before .answer in
+    rw (answer .given .1) (c .before .before .print-bound .ensures)
 
 returns-2 : tie.Need-returns-2
 unfolding outcome settings-line
-returns-2 c = rw (c .before .before .before .before .before .answer2 .given .1) (c .before .before .print-refusal .ensures)
+returns-2 c =
+    let answer2 = c .before .before .before .before .before .answer2 in
+    rw (answer2 .given .1) (c .before .before .print-refusal .ensures)
 
 pub print-settings-spec : {M : Type 1} → statement M
 print-settings-spec =

@@ -9,7 +9,9 @@ use Rattle.listing.proofs.print.print_refresh.Statement.{statement}
 use Rattle.listing.proofs.print.print_refresh.Tie as tie
 
 print-columns-requires-2 : tie.Need-print-columns-requires-2
-print-columns-requires-2 c κs = omega (arith, length-printed 6 (c .before .before .before .before .before .before .before .before .before .before .before .args .e))
+print-columns-requires-2 c κs =
+    let start = c .before .before .before .before .before .before .before .before .before .before .before in
+    omega (arith, length-printed 6 (start .args .e))
 
 print-rows-requires : tie.Need-print-rows-requires
 print-rows-requires c κs =
@@ -24,14 +26,19 @@ print-byte-requires-2 c κs =
 returns : tie.Need-returns
 unfolding refresh-line
 returns c =
-    let a = c .before .before .before .before .before .before .before .before .before .before .before .before .before .before .before .before .before .before .before .before .before .before .args in
-    rw (length-take-le (a .count) (a .picks .now) (omega arith))
+    let print-byte = c .before .before .before .before .before .before .before .before .before .before .before .before .before .before .before .before .before .before .print-byte in
+    let print-columns = c .before .before .before .before .before .before .before .before .before .before .before .before .before .before .print-columns in
+    let print-columns2 = c .before .before .before .before .before .before .before .before .before .before .print-columns2 in
+    let print-rows = c .before .before .before .before .before .before .print-rows in
+    let start = c .before .before .before .before .before .before .before .before .before .before .before .before .before .before .before .before .before .before .before .before .before .before in
+    let a = start .args in
+    rw (length-take-le (a .count) (a .picks .now) (omega (arith, start .pre)))
     (prints-then
     (prints-then
     (prints-then
-    (prints-then (c .before .before .before .before .before .before .before .before .before .before .before .before .before .before .before .before .before .before .print-byte .ensures) (c .before .before .before .before .before .before .before .before .before .before .before .before .before .before .print-columns .ensures))
-    (c .before .before .before .before .before .before .before .before .before .before .print-columns2 .ensures))
-    (c .before .before .before .before .before .before .print-rows .ensures))
+    (prints-then (print-byte .ensures) (print-columns .ensures))
+    (print-columns2 .ensures))
+    (print-rows .ensures))
     (c .before .before .print-byte2 .ensures))
 
 pub print-refresh-spec : {M : Type 1} → statement M

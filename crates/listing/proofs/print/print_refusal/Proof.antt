@@ -9,7 +9,9 @@ use Rattle.listing.proofs.print.print_refusal.Statement.{statement}
 use Rattle.listing.proofs.print.print_refusal.Tie as tie
 
 print-columns-requires-2 : tie.Need-print-columns-requires-2
-print-columns-requires-2 c κs = omega (arith, length-printed 10 (c .before .before .before .before .before .before .before .before .before .before .args .line % 10000000000))
+print-columns-requires-2 c κs =
+    let start = c .before .before .before .before .before .before .before .before .before .before in
+    omega (arith, length-printed 10 (start .args .line % 10000000000))
 
 print-byte-requires-2 : tie.Need-print-byte-requires-2
 print-byte-requires-2 c κs =
@@ -19,10 +21,13 @@ print-byte-requires-2 c κs =
 returns : tie.Need-returns
 unfolding refusal-line
 returns c =
+    let print-byte = c .before .before .before .before .before .before .before .before .before .before .before .before .before .before .print-byte in
+    let print-columns = c .before .before .before .before .before .before .before .before .before .before .print-columns in
+    let print-columns2 = c .before .before .before .before .before .before .print-columns2 in
     prints-then
     (prints-then
-    (prints-then (c .before .before .before .before .before .before .before .before .before .before .before .before .before .before .print-byte .ensures) (c .before .before .before .before .before .before .before .before .before .before .print-columns .ensures))
-    (c .before .before .before .before .before .before .print-columns2 .ensures))
+    (prints-then (print-byte .ensures) (print-columns .ensures))
+    (print-columns2 .ensures))
     (c .before .before .print-byte2 .ensures)
 
 pub print-refusal-spec : {M : Type 1} → statement M

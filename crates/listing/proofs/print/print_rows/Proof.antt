@@ -42,7 +42,9 @@ print-columns-requires c κs =
     omega (arith, behind (l .inv) (omega arith), prints-long (l .inv .prints))
 
 loop-again : tie.Need-loop-again Inv-loop μ-loop
-loop-again c = again (c .before .before .before .before .before .before .loop .inv) (omega arith) (omega arith) (c .before .before .print-columns .ensures)
+loop-again c =
+    let turn = c .before .before .before .before .before .before .loop in
+    again (turn .inv) (omega arith) (omega arith) (c .before .before .print-columns .ensures)
 
 same-length : tie.Need-same-length Inv-loop μ-loop
 same-length c = prints-long (c .before .loop .inv .prints)

@@ -24,8 +24,9 @@ returns c =
 returns-2 : tie.Need-returns-2
 unfolding record-step refused-step
 returns-2 c =
+    let if1 = c .before .before .before .before .before .if1 in
     let a = c .before .before .before .before .before .before .before .before .before .before in
-    let none = tracker-inactive (memory (a .args .p) (a .args .rows .now) (a .args .counts .now)) (c .before .before .before .before .before .if1 .left) in
+    let none = tracker-inactive (memory (a .args .p) (a .args .rows .now) (a .args .counts .now)) (if1 .left) in
     rw none
     (rw none at
     (leaves-unmoved (a .args .p) (c .at-line2 .result) (a .args .rows .now) (a .args .counts .now) (a .args .line) _ (c .at-line2 .ensures) (c .before .before .before .print-refusal .ensures)))

@@ -10,13 +10,17 @@ use Rattle.listing.proofs.record.list_line.Tie as tie
 returns : tie.Need-returns
 unfolding said step-in line-step refused-step next-number
 returns c =
+    let enum-told = c .before .before .before .before .before .before .enum-told in
     let a = c .before .before .before .before .before .before .before .before .before .before .before .before in
-    rw (c .before .before .before .before .before .before .enum-told .given .1)
+    rw (enum-told .given .1)
     (leaves-unmoved (a .args .p) (c .at-line .result) (a .args .rows .now) (a .args .counts .now) _ _ (c .at-line .ensures) (c .before .before .before .print-refusal .ensures))
 
 returns-2 : tie.Need-returns-2
 unfolding said step-in line-step next-number
-returns-2 c = rw (c .before .before .before .before .before .before .before .before .before .before .before .answer .given .1) (c .before .before .before .before .before .before .list-record .ensures)
+returns-2 c =
+    let answer = c .before .before .before .before .before .before .before .before .before .before .before .answer in
+    let list-record = c .before .before .before .before .before .before .list-record in
+    rw (answer .given .1) (list-record .ensures)
 
 pub list-line-spec : {M : Type 1} → statement M
 list-line-spec =

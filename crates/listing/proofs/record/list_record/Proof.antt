@@ -9,13 +9,22 @@ use Rattle.listing.proofs.record.list_record.Tie as tie
 
 returns : tie.Need-returns
 unfolding record-step
-returns c = rw (c .before .before .before .before .before .before .before .before .before .before .before .what .given .1) (c .before .before .before .before .before .before .list-settings .ensures)
+returns c =
+    let what = c .before .before .before .before .before .before .before .before .before .before .before .what in
+    let list-settings = c .before .before .before .before .before .before .list-settings in
+    rw (what .given .1) (list-settings .ensures)
 
 returns-2 : tie.Need-returns-2
-returns-2 c = rw (c .before .before .before .before .before .before .before .before .before .before .before .what2 .given .1) (c .before .before .before .before .before .before .activation-line .ensures)
+returns-2 c =
+    let what2 = c .before .before .before .before .before .before .before .before .before .before .before .what2 in
+    let activation-line = c .before .before .before .before .before .before .activation-line in
+    rw (what2 .given .1) (activation-line .ensures)
 
 returns-3 : tie.Need-returns-3
-returns-3 c = rw (c .before .before .before .before .before .before .before .before .before .before .enum-told .given .1) (c .before .before .before .before .before .before .event-line .ensures)
+returns-3 c =
+    let enum-told = c .before .before .before .before .before .before .before .before .before .before .enum-told in
+    let event-line = c .before .before .before .before .before .before .event-line in
+    rw (enum-told .given .1) (event-line .ensures)
 
 returns-4 : tie.Need-returns-4
 unfolding record-step
