@@ -1,12 +1,12 @@
 -- What it says of the settings that they are accepted, as facts about numbers; their refusals are 1 to 7.
 use mathlib.Core.Path.{_≡_, refl}
-use mathlib.Core.Bool.{Bool, true, false, _&&_, _||_, not}
+use mathlib.Core.Bool.{Bool, true, false, _||_, not}
 use mathlib.Core.Logic.{_⊎_, inl, inr, ⊎-map}
 use mathlib.Core.List.{List, _++_}
 use Prim.Native.Nat.{ℕ, _*_, _%_, _≤_}
 use borrow.Author.Tests.{leb-true, eqb-true}
 use lib.Dec.{leb, eqb, lit≤}
-use Rattle.laws.proofs.Cases.{zero-one}
+use Rattle.laws.proofs.Cases.{and-both}
 use Rattle.device.specs.declared.Settings.{Settings}
 use Rattle.device.specs.Refusal.{Test, first-failed, unless}
 use Rattle.device.specs.Acceptance.{most-rows, most-counters, within, rows-allowed, diameter-allowed, block-allowed, settings-tests-with, settings-tests, settings-tests-but-counters}
@@ -33,10 +33,6 @@ pub record Accepted (s : Settings) : Type 0 where
   pub others : InRange s
   pub counters : Between (s .volume) most-counters (s .counters)
 
-pub both : (a b : Bool) → (a && b) ≡ true → (a ≡ true) × (b ≡ true)
-both true b e = (refl, e)
-both false b e = zero-one (cc)
-
 or-true-either : (a b : Bool) → (a || b) ≡ true → (a ≡ true) ⊎ (b ≡ true)
 or-true-either true b e = inl refl
 or-true-either false b e = inr e
@@ -44,7 +40,7 @@ or-true-either false b e = inr e
 within-between : (low high x : ℕ) → within low high x ≡ true → Between low high x
 unfolding within
 within-between low high x e =
-    let parts = both (leb low x) (leb x high) e in
+    let parts = and-both (leb low x) (leb x high) e in
     record { least = leb-true low x (parts .0); most = leb-true x high (parts .1) }
 
 diameter-of : (b : ℕ) → diameter-allowed b ≡ true → (b ≡ 2) ⊎ (b ≡ 4)
@@ -61,8 +57,8 @@ tests-passed counters-allowed s e =
     let p5 = refuse-passed (within 1 4096 (s .interval)) 4 _ (p4 .1) in
     let p6 = refuse-passed (within 1 8192 (s .window)) 5 _ (p5 .1) in
     let p7 = refuse-passed (block-allowed (s .block) (s .window) (s .rows)) 6 _ (p6 .1) in
-    let whole = both (within 16 most-rows (s .rows)) (eqb (s .rows % 16) 0) (p1 .0) in
-    let regular = both (within 1 64 (s .block)) (leb (s .rows) (s .block * s .window)) (p7 .0) in (
+    let whole = and-both (within 16 most-rows (s .rows)) (eqb (s .rows % 16) 0) (p1 .0) in
+    let regular = and-both (within 1 64 (s .block)) (leb (s .rows) (s .block * s .window)) (p7 .0) in (
       p4 .0,
       record {
         rows = within-between 16 most-rows (s .rows) (whole .0);

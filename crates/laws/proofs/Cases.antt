@@ -1,6 +1,6 @@
 -- Case splits: on a test, on the order of two numbers, on an option; and cases that cannot be.
 use mathlib.Core.Path.{_≡_, refl}
-use mathlib.Core.Bool.{Bool, true, false, cond}
+use mathlib.Core.Bool.{Bool, true, false, _&&_, _||_, cond}
 use mathlib.Core.Logic.{_⊎_, inl, inr}
 use mathlib.Core.Option.{Option, none, some}
 use Prim.Native.Nat.{ℕ, _≤_, _<_}
@@ -28,6 +28,15 @@ clash e = zero-one (cc)
 
 pub missing {ℓ} : {X : Type ℓ} {A : Type 0} {a : A} → none ≡ some a → X
 missing e = zero-one (cc)
+
+-- two tests that both hold, and two of which neither does
+pub and-both : (a b : Bool) → (a && b) ≡ true → (a ≡ true) × (b ≡ true)
+and-both true b e = (refl, e)
+and-both false b e = zero-one (cc)
+
+pub or-neither : (a b : Bool) → (a || b) ≡ false → (a ≡ false) × (b ≡ false)
+or-neither true b e = zero-one (cc)
+or-neither false b e = (refl, e)
 
 -- something found behind a test: the test held, and it was found there
 pub cond-test : {A : Type 0} (b : Bool) (o : Option A) (a : A) → cond b o none ≡ some a → b ≡ true

@@ -8,7 +8,7 @@ use lib.ListN.{length, getD, take, drop, drop-of-length-le}
 use lib.Seq.{drop-cons, getD-take, length-take-le}
 
 module _ (t : List ℕ) (used i : ℕ) (fits : used ≤ length t) where
-  pub left-here : i < used → drop i (take used t) ≡ getD t i 0 ∷ drop (i + 1) (take used t)
+  left-here : i < used → drop i (take used t) ≡ getD t i 0 ∷ drop (i + 1) (take used t)
   left-here h =
       let long = length-take-le used t fits in
       rw (add-one i, drop-cons (take used t) i 0 (omega arith), getD-take used t i 0 h)

@@ -1,11 +1,12 @@
 -- A place put in, and a place taken out: one turn of the loop leaves what is to be done the same, and the last store does it.
-use mathlib.Core.Path.{_≡_, refl, _∙_, ap}
+use mathlib.Core.Path.{_≡_, refl, _∙_}
 use mathlib.Core.List.{List, [], _∷_, _++_, append-assoc}
 use Prim.Native.Nat.{ℕ, suc, _+_, _-_, _≤_, _<_}
 use native.Mathlib.Numerals.{add-one}
 use native.Mathlib.Omega.{arith}
-use lib.ListN.{length, getD, take, drop, set, length-drop, length-set}
-use lib.Seq.{take-set-le, drop-set-lt, drop-set-add, set-split, take-suc, drop-cons, take-suc-set, getD-drop, getD-set-same}
+use lib.ListN.{length, getD, take, drop, set, length-drop}
+use lib.Seq.{take-set-le, drop-set-lt, drop-set-add, set-split, take-suc, drop-cons, take-suc-set, getD-drop}
+use Rattle.laws.proofs.Lists.{drop-set}
 use Rattle.tables.specs.Contracts.{put-in, taken-at}
 
 pub put-in-last : (t : List ℕ) (n x : ℕ) → n < length t → set t n x ≡ put-in t n n x
@@ -20,12 +21,6 @@ before-store t at k n v h = go (n - at) (omega arith) (omega arith)
   where
     go : (m : ℕ) → at + m ≡ n → k ≤ m → take k (drop at (set t n v)) ≡ take k (drop at t)
     go m e l = rw (← e, drop-set-add) (take-set-le k (drop at t) m v l)
-
--- what lies from a store on
-from-store : (t : List ℕ) (n v : ℕ) → n < length t → drop n (set t n v) ≡ v ∷ drop (suc n) t
-from-store t n v h =
-    let inside : n < length (set t n v) = rw length-set h in
-    rw (drop-cons (set t n v) n 0 inside, getD-set-same t n v 0 h) (ap (λ (l : List ℕ). v ∷ l) (drop-set-lt (suc n) t n v (omega arith)))
 
 -- the elements from a place on, with one more
 one-more : (t : List ℕ) (at k : ℕ) → at + k < length t → take (suc k) (drop at t) ≡ take k (drop at t) ++ (getD t (at + k) 0 ∷ [])
@@ -42,7 +37,7 @@ put-in-again t n at x h l =
     let wider : n - at ≡ suc k = omega arith in
     let last : at + k ≡ n - 1 = omega arith in
     let more : take (suc k) (drop at t) ≡ take k (drop at t) ++ (v ∷ []) = rw last at (one-more t at k (omega arith)) in
-    rw (one-less, from-store t n v l, before-store t at k n v (omega arith), take-set-le at t n v (omega arith), wider, more, add-one)
+    rw (one-less, drop-set t n v l, before-store t at k n v (omega arith), take-set-le at t n v (omega arith), wider, more, add-one)
     (simp append-assoc)
 
 pub taken-at-last : (t : List ℕ) (n i : ℕ) → i + 1 ≡ n → n ≤ length t → set t i 0 ≡ taken-at t n i

@@ -1,8 +1,8 @@
--- The sizes D(j): at least 1, growing with j, at most C + 1; and rounded div-le-div keep the order.
+-- The sizes D(j): at least 1, growing with j, at most C + 1.
 use mathlib.Core.Path.{_≡_}
 use mathlib.Core.Logic.{⊎-elim}
-use Prim.Native.Nat.{ℕ, zero, suc, _+_, _*_, _/_, _≤_, _<_, min}
-use native.Mathlib.Nat.{div-zero, le-div-iff-mul-le, div-mul-le-self, le-trans, le-refl, mul-le-mul, mul-le-mul-right, mul-comm, mul-right-comm, le-of-mul-le-mul-right, zero-lt-suc}
+use Prim.Native.Nat.{ℕ, suc, _+_, _*_, _≤_, _<_, min}
+use native.Mathlib.Nat.{mul-le-mul, mul-comm}
 use native.Mathlib.Omega.{arith}
 use Rattle.laws.proofs.Cases.{le-or-lt}
 use Rattle.bound.specs.Totals.{size}
@@ -27,17 +27,6 @@ size-first v c = omega arith
 pub size-steps : (v c j : ℕ) → size v c (suc j) ≤ size v c j + v
 unfolding size
 size-steps v c j = omega arith
-
-pub div-mono : (k : ℕ) {a b : ℕ} → a ≤ b → a / k ≤ b / k
-div-mono zero {a} {b} h = rw (div-zero a, div-zero b) (le-refl 0)
-div-mono (suc k) {a} {b} h = le-div-iff-mul-le (zero-lt-suc k) .1 (le-trans (div-mul-le-self a (suc k)) h)
-
--- a / b ≤ c / d, rounded down, where a × d ≤ c × b
-pub div-le-div : (a b c d : ℕ) → 0 < b → 0 < d → a * d ≤ c * b → a / b ≤ c / d
-div-le-div a b c d hb hd h =
-    let floor : a / b * b * d ≤ a * d = mul-le-mul-right d (div-mul-le-self a b) in
-    let swapped : a / b * d * b ≤ c * b = rw mul-right-comm (le-trans floor h) in
-    le-div-iff-mul-le hd .1 (le-of-mul-le-mul-right swapped hb)
 
 -- of two numbers a ≤ b cut at c, and at a later c′: the later cut does not raise the min-ratio-le of the first to the second
 min-ratio-le : (a b c c′ : ℕ) → a ≤ b → c ≤ c′ → min a c′ * min b c ≤ min a c * min b c′

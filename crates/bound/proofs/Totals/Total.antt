@@ -4,8 +4,9 @@ use Prim.Native.Nat.{ℕ, zero, suc, _+_, _-_, _*_, _/_, _≤_, _<_}
 use native.Mathlib.Nat.{add-zero, add-suc, le-dest, le-trans, le-refl, mul-le-mul, mul-le-mul-left, mul-le-mul-right, mul-comm, mul-assoc, div-le-of-le-mul}
 use native.Mathlib.Numerals.{sub-one}
 use native.Mathlib.Omega.{arith}
+use Rattle.laws.proofs.Division.{div-mono, div-le-div}
 use Rattle.bound.specs.Totals.{size, total}
-use Rattle.bound.proofs.Totals.Size.{size-positive, size-ratio, div-mono, div-le-div}
+use Rattle.bound.proofs.Totals.Size.{size-positive, size-ratio}
 
 module _ (D : ℕ → ℕ) (added : ℕ) where
   -- one step, as the code takes it

@@ -9,7 +9,7 @@ use borrow.Author.Tests.{leb-true, le-leb}
 use lib.ListN.{length, take, drop, length-drop}
 use lib.Seq.{drop-drop, length-take-le}
 use Rattle.device.specs.Refusal.{Outcome}
-use Rattle.laws.proofs.Cases.{split, clash}
+use Rattle.laws.proofs.Cases.{split, clash, zero-one}
 use Rattle.trace.specs.declared.Record.{Record}
 use Rattle.trace.specs.Numbers.{written}
 use Rattle.trace.specs.Lines.{ended, extent}
@@ -33,7 +33,7 @@ pub record Taken (g : Progress) (text buffer : List ℕ) (q : Going) : Type 0 wh
   pub prints : Prints buffer 0 (listing g (take (q .taken) text)) (q .buffer) (q .end)
   pub spent : q .end ≤ 55 * q .taken
 
-pub taken-start : {m : Memory} {g : Progress} (text buffer : List ℕ) → Represents m g → Taken g text buffer (record { memory = m; taken = 0; buffer = buffer; end = 0 })
+taken-start : {m : Memory} {g : Progress} (text buffer : List ℕ) → Represents m g → Taken g text buffer (record { memory = m; taken = 0; buffer = buffer; end = 0 })
 unfolding whole listing after outcomes lines listed passed
 taken-start text buffer r =
     record {
@@ -76,7 +76,7 @@ module _ (text : List ℕ) (at : ℕ) where
   first-says = read-front (drop at text) ∙ at-front
 
 -- one line further
-pub taken-gone : {g : Progress} {text buffer : List ℕ} {q : Going} → Taken g text buffer q → q .taken < length text → takes q (first (drop (q .taken) text)) ≡ true → Taken g text buffer (gone q (first (drop (q .taken) text)))
+taken-gone : {g : Progress} {text buffer : List ℕ} {q : Going} → Taken g text buffer q → q .taken < length text → takes q (first (drop (q .taken) text)) ≡ true → Taken g text buffer (gone q (first (drop (q .taken) text)))
 unfolding gone step-in
 taken-gone {g} {text} {buffer} {q} t less h =
     let at : ℕ = q .taken in
@@ -105,7 +105,7 @@ none-ended (b ∷ bs) e = absurd (omega arith)
 -- the lines of a text: none where no byte is left, else the first and those behind it
 lines-none : (text : List ℕ) → [] ≡ lines text → length text ≡ 0
 lines-none [] e = refl
-lines-none (b ∷ bs) e = let z : _≡_ {A = ℕ} 0 1 = cc (lines-front b bs) in absurd (omega arith)
+lines-none (b ∷ bs) e = zero-one (cc (lines-front b bs))
 
 record Split (text : List ℕ) (l : List ℕ) (ls : List (List ℕ)) : Type 0 where
   some : 0 < length text
@@ -114,7 +114,7 @@ record Split (text : List ℕ) (l : List ℕ) (ls : List (List ℕ)) : Type 0 wh
 
 lines-split : (text l : List ℕ) (ls : List (List ℕ)) → l ∷ ls ≡ lines text → Split text l ls
 unfolding lines
-lines-split [] l ls e = let z : _≡_ {A = ℕ} 0 1 = cc in absurd (omega arith)
+lines-split [] l ls e = zero-one (cc)
 lines-split (b ∷ bs) l ls e = record { some = omega arith; line = cc (lines-front b bs); others = cc (lines-front b bs) }
 
 -- what the lines of a text come to: with room enough, no line that has ended is left

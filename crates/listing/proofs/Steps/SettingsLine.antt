@@ -34,7 +34,7 @@ unfolding set-up-step tested or-later settings-line refused-step
 prints-by number s call p zero = refl
 prints-by number s call p (suc k) = refl
 
-pub settings-print : (number : ℕ) (s : Settings) (t : Option Tracker) → record-step number t (Set s) .prints ≡ settings-line number (bound-answer s)
+settings-print : (number : ℕ) (s : Settings) (t : Option Tracker) → record-step number t (Set s) .prints ≡ settings-line number (bound-answer s)
 unfolding record-step set-up bound-answer
 settings-print number s t =
     rw (cleared-first s) (prints-by number s _ (state-of s 0 0 empty .position) (first-failed (settings-tests s)))

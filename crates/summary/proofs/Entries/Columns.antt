@@ -7,12 +7,11 @@ use native.Mathlib.Omega.{arith}
 use borrow.Author.Tests.{eqb-false, eq-eqb, ne-eqb, ltb-true, ltb-false, lt-ltb, le-ltb}
 use lib.Dec.{eqb, ltb, leb·suc-suc}
 use lib.ListN.{length, getD, take, drop, set, length-append, length-take, length-drop}
-use Rattle.laws.proofs.Cases.{split, zero-one}
+use Rattle.laws.proofs.Cases.{split, zero-one, or-neither}
 use Rattle.tables.specs.Contracts.{Rising, lower-place, equal-place, highest-from, highest-place}
 use Rattle.summary.specs.Entries.{Entry, rows-of, counts-of, has, without, raised, entered, has-count, without-count, top}
 use Rattle.summary.specs.Steps.{in-rows}
 use Rattle.summary.specs.Rules.{Ordered, ordered-none, ordered-more}
-use Rattle.summary.proofs.Entries.Tracked.{neither}
 use Rattle.summary.proofs.Entries.Lengths.{length-rows}
 
 -- a list without a place, and with a number put in before a place
@@ -107,7 +106,7 @@ module _ {high : ℕ} (row count : ℕ) where
   unfolding has entered lower-place rows-of
   rows-entered ordered-none e = refl
   rows-entered (ordered-more low x {xs} o l b) e =
-      let parts = neither (eqb (x .row) row) (has row xs) e in
+      let parts = or-neither (eqb (x .row) row) (has row xs) e in
       let other = eqb-false (x .row) row (parts .0) in
       split (ltb (x .row) row)
       (λ on.
@@ -121,7 +120,7 @@ module _ {high : ℕ} (row count : ℕ) where
   unfolding has entered lower-place rows-of counts-of
   counts-entered ordered-none e = refl
   counts-entered (ordered-more low x {xs} o l b) e =
-      let parts = neither (eqb (x .row) row) (has row xs) e in
+      let parts = or-neither (eqb (x .row) row) (has row xs) e in
       let other = eqb-false (x .row) row (parts .0) in
       split (ltb (x .row) row)
       (λ on.

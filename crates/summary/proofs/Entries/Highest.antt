@@ -9,11 +9,11 @@ use native.Mathlib.Omega.{arith}
 use borrow.Author.Tests.{eqb-true, eqb-false, eq-eqb, ne-eqb, ltb-true, ltb-false}
 use lib.Dec.{eqb, ltb}
 use lib.ListN.{length, getD}
-use Rattle.laws.proofs.Cases.{split, clash}
+use Rattle.laws.proofs.Cases.{split, clash, or-neither}
 use Rattle.summary.specs.Entries.{Entry, has, count-or, without, top, picks}
 use Rattle.summary.specs.Steps.{in-rows}
 use Rattle.summary.specs.Rules.{Ordered, ordered-none, ordered-more}
-use Rattle.summary.proofs.Entries.Tracked.{tracked, has-kept, has-back, neither, has-member, has-dropped}
+use Rattle.summary.proofs.Entries.Tracked.{tracked, has-kept, has-back, has-member, has-dropped}
 use Rattle.summary.proofs.Entries.Lengths.{length-without-tracked}
 use Rattle.summary.proofs.Entries.Picks.{top-or, top-in, top-best}
 use Rattle.summary.proofs.Rules.Order.{ordered-parts, ordered-from, ordered-without, ordered-member}
@@ -130,7 +130,7 @@ module _ (spill : ℕ) {high : ℕ} where
   picks-above-others {low} (suc k) (x ∷ xs) o row other e t f =
       let v : ℕ = top x xs .row in
       let rest : List Entry = without v (x ∷ xs) in
-      let parts = neither (eqb v other) (in-rows other (picks k rest)) f in
+      let parts = or-neither (eqb v other) (in-rows other (picks k rest)) f in
       let apart : v ≡ other → ⊥ = eqb-false v other (parts .0) in
       split (eqb v row)
       (λ on. rw (eqb-true v row on) at (over-top x xs o other t apart))

@@ -1,21 +1,17 @@
 -- Whether a row is tracked: through drops, and by its entry.
 use mathlib.Core.Path.{_≡_, refl, _∙_, sym, ap}
-use mathlib.Core.Bool.{Bool, true, false, _||_}
+use mathlib.Core.Bool.{true, false}
 use mathlib.Core.List.{List, [], _∷_, List·Memᴰ, List·Memᴰ·not-nil, List·Memᴰ·cases-cons, List·Memᴰ·head, List·Memᴰ·tail}
 use mathlib.Core.Logic.{⊎-elim}
 use Prim.Native.Nat.{ℕ, _<_}
 use native.Mathlib.Omega.{arith}
 use borrow.Author.Tests.{eqb-false, eqb-true, ne-eqb}
 use lib.Dec.{eqb}
-use Rattle.laws.proofs.Cases.{split, zero-one, clash}
+use Rattle.laws.proofs.Cases.{split, clash, or-neither}
 use Rattle.summary.specs.Entries.{Entry, has, without, without-count}
 use Rattle.summary.specs.Rules.{Ordered, ordered-none, ordered-more}
 
--- of a test and a later one, neither holds
-pub neither : (a b : Bool) → (a || b) ≡ false → (a ≡ false) × (b ≡ false)
-neither true b e = zero-one (cc)
-neither false b e = (refl, e)
-
+-- of a test and a later one, or-neither holds
 -- a row below the range is not tracked
 has-below : (row : ℕ) {high low : ℕ} {es : List Entry} → Ordered high low es → row < low → has row es ≡ false
 unfolding has
@@ -36,7 +32,7 @@ pub has-without : (row v : ℕ) (es : List Entry) → has row es ≡ false → h
 unfolding has without
 has-without row v [] e = e
 has-without row v (x ∷ xs) e =
-    let parts = neither (eqb (x .row) row) (has row xs) e in
+    let parts = or-neither (eqb (x .row) row) (has row xs) e in
     split (eqb (x .row) v) (λ on. rw on (parts .1)) (λ off. rw (off, parts .0) (has-without row v xs (parts .1)))
 
 pub has-member : (x : Entry) (es : List Entry) → List·Memᴰ x es → has (x .row) es ≡ true
@@ -89,7 +85,7 @@ pub untracked-without-count : (row count : ℕ) (es : List Entry) → has row es
 unfolding has without-count
 untracked-without-count row count [] e = e
 untracked-without-count row count (x ∷ xs) e =
-    let parts = neither (eqb (x .row) row) (has row xs) e in
+    let parts = or-neither (eqb (x .row) row) (has row xs) e in
     split (eqb (x .count) count)
     (λ t. rw t (parts .1))
     (λ t. rw (t, parts .0) (untracked-without-count row count xs (parts .1)))
@@ -99,5 +95,5 @@ pub without-untracked : (row : ℕ) (es : List Entry) → has row es ≡ false �
 unfolding has without
 without-untracked row [] e = refl
 without-untracked row (x ∷ xs) e =
-    let parts = neither (eqb (x .row) row) (has row xs) e in
+    let parts = or-neither (eqb (x .row) row) (has row xs) e in
     rw (parts .0) (ap (λ (ys : List Entry). x ∷ ys) (without-untracked row xs (parts .1)))

@@ -6,10 +6,9 @@ use Prim.Native.Nat.{ℕ, suc, _+_, _≤_}
 use native.Mathlib.Omega.{arith}
 use borrow.Author.Tests.{eqb-false}
 use lib.Dec.{eqb, ltb}
-use Rattle.laws.proofs.Cases.{split}
+use Rattle.laws.proofs.Cases.{split, or-neither}
 use Rattle.summary.specs.Rules.{Floor, floor-none, floor-more}
 use Rattle.summary.specs.Entries.{Entry, without, without-all, raised, entered, has-count, without-count}
-use Rattle.summary.proofs.Entries.Tracked.{neither}
 
 pub floor-parts : {low : ℕ} {x : Entry} {xs : List Entry} → Floor low (x ∷ xs) → (low ≤ x .count) × Floor low xs
 floor-parts (floor-more x f l) = (l, f)
@@ -56,6 +55,6 @@ module _ {low : ℕ} where
   unfolding has-count
   floor-rises floor-none e = floor-none
   floor-rises (floor-more x {xs} f l) e =
-      let parts = neither (eqb (x .count) low) (has-count low xs) e in
+      let parts = or-neither (eqb (x .count) low) (has-count low xs) e in
       let other = eqb-false (x .count) low (parts .0) in
       floor-more x (floor-rises f (parts .1)) (omega arith)

@@ -7,10 +7,9 @@ use Prim.Native.Nat.{ℕ, suc, _+_, _≤_, _<_}
 use native.Mathlib.Omega.{arith}
 use borrow.Author.Tests.{eqb-false, ltb-true, ltb-false}
 use lib.Dec.{eqb, ltb}
-use Rattle.laws.proofs.Cases.{split}
+use Rattle.laws.proofs.Cases.{split, or-neither}
 use Rattle.summary.specs.Entries.{Entry, has, without, without-all, raised, entered, without-count}
 use Rattle.summary.specs.Rules.{Ordered, ordered-none, ordered-more}
-use Rattle.summary.proofs.Entries.Tracked.{neither}
 
 pub ordered-from : {high low : ℕ} (low′ : ℕ) {es : List Entry} → Ordered high low es → low′ ≤ low → Ordered high low′ es
 ordered-from low′ ordered-none h = ordered-none
@@ -52,7 +51,7 @@ module _ {high : ℕ} where
   unfolding entered has
   ordered-entered row count {low} ordered-none e l b = ordered-more low (record { row = row; count = count }) ordered-none l b
   ordered-entered row count (ordered-more low x {xs} o lx bx) e l b =
-      let parts = neither (eqb (x .row) row) (has row xs) e in
+      let parts = or-neither (eqb (x .row) row) (has row xs) e in
       let other = eqb-false (x .row) row (parts .0) in
       split (ltb row (x .row))
       (λ t.

@@ -6,20 +6,20 @@ use Prim.Native.Nat.{ℕ, _+_, _≤_}
 use native.Mathlib.Omega.{arith}
 use borrow.Author.Tests.{eqb-true, eqb-false, ne-eqb}
 use lib.Dec.{eqb, ltb}
-use Rattle.laws.proofs.Cases.{split, zero-one}
+use Rattle.laws.proofs.Cases.{split, zero-one, or-neither}
 use Rattle.device.proofs.Occurrences.{hit, times, hit-le, hit-other}
 use Rattle.summary.specs.Entries.{Entry, has, count-or, without, without-all, raised, entered, without-count}
 use Rattle.summary.specs.Steps.{Summary, estimate, disturb, drop-rows}
 use Rattle.summary.specs.Rules.{Floor, floor-none, floor-more}
 use Rattle.summary.proofs.Steps.Disturb.{by-cases}
-use Rattle.summary.proofs.Entries.Tracked.{neither, untracked-without-count}
+use Rattle.summary.proofs.Entries.Tracked.{untracked-without-count}
 
 module _ (other row : ℕ) where
   count-untracked : (es : List Entry) → has row es ≡ false → count-or other row es ≡ other
   unfolding has count-or
   count-untracked [] e = refl
   count-untracked (x ∷ xs) e =
-      let parts = neither (eqb (x .row) row) (has row xs) e in
+      let parts = or-neither (eqb (x .row) row) (has row xs) e in
       rw (parts .0) (count-untracked xs (parts .1))
 
   count-floor : {es : List Entry} → Floor other es → other ≤ count-or other row es
@@ -46,7 +46,7 @@ module _ (other row : ℕ) where
   unfolding has count-or entered hit
   count-entered v [] e = split (eqb v row) (λ on. rw on (omega arith)) (λ off. rw off (omega arith))
   count-entered v (x ∷ xs) e =
-      let parts = neither (eqb (x .row) v) (has v xs) e in
+      let parts = or-neither (eqb (x .row) v) (has v xs) e in
       split (ltb v (x .row))
       (λ front.
       split (eqb v row)
@@ -78,7 +78,7 @@ module _ (other row : ℕ) where
   unfolding has count-or
   count-spill v [] e = omega (arith, hit-le v row)
   count-spill v (x ∷ xs) e =
-      let parts = neither (eqb (x .row) v) (has v xs) e in
+      let parts = or-neither (eqb (x .row) v) (has v xs) e in
       split (eqb (x .row) row)
       (λ on. rw on (omega (arith, hit-other v row (λ q. eqb-false (x .row) v (parts .0) (eqb-true (x .row) row on ∙ sym q)))))
       (λ off. rw off (count-spill v xs (parts .1)))

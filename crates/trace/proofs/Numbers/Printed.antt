@@ -4,8 +4,9 @@ use mathlib.Core.List.{List, [], _∷_, _++_, append-assoc, append-nil}
 use Prim.Native.Nat.{ℕ, zero, suc, _+_, _-_, _≤_, _<_, _/_, _%_}
 use native.Mathlib.Nat.{add-zero}
 use native.Mathlib.Omega.{arith}
-use lib.ListN.{length, take, drop, length-append, take-append-drop, set, length-set}
-use lib.Seq.{drop-cons, getD-set-same, drop-set-lt, take-set-le}
+use lib.ListN.{length, take, drop, length-append, take-append-drop, set}
+use lib.Seq.{take-set-le}
+use Rattle.laws.proofs.Lists.{drop-set}
 use Rattle.trace.specs.Numbers.{digit-or-blank, columns-before, printed, written}
 
 length-columns-before : (k m : ℕ) → length (columns-before k m) ≡ k
@@ -17,10 +18,6 @@ pub length-printed : (k n : ℕ) → length (printed k n) ≡ k
 unfolding printed
 length-printed zero n = refl
 length-printed (suc k) n = rw length-append (omega (arith, length-columns-before k (n / 10)))
-
-drop-set : (l : List ℕ) (j x : ℕ) → j < length l → drop j (set l j x) ≡ x ∷ drop (suc j) l
-drop-set l j x h =
-    drop-cons (set l j x) j 0 (rw length-set h) ∙ rw (getD-set-same l j x 0 h, drop-set-lt (suc j) l j x (omega arith))
 
 -- a byte is written: it joins the text in front of it
 append-set : (out text : List ℕ) (at j x : ℕ) → at ≤ j → j < length out

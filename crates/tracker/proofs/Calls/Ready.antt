@@ -8,10 +8,11 @@ use native.Mathlib.Omega.{arith}
 use borrow.Author.Tests.{eqb-true, ltb-true, leb-true}
 use lib.Dec.{eqb, ltb, leb}
 use lib.ListN.{length}
+use Rattle.laws.proofs.Cases.{and-both}
 use Rattle.device.specs.declared.Settings.{Settings}
 use Rattle.device.specs.Refusal.{refuse, first-failed}
 use Rattle.device.specs.Acceptance.{settings-tests}
-use Rattle.device.proofs.Acceptance.{Accepted, accepted-settings, both}
+use Rattle.device.proofs.Acceptance.{Accepted, accepted-settings}
 use Rattle.summary.specs.Entries.{Entry}
 use Rattle.summary.specs.Rules.{Ordered, ordered-none, ordered-more}
 use Rattle.summary.specs.Contracts.{Holds, Held}
@@ -25,7 +26,7 @@ use Rattle.tracker.proofs.Calls.Tests.{or-later-none, passed-test, set-
 pub tables-long-fit : (s : Settings) (rows counts : List ℕ) → tables-long s rows counts ≡ true → (length rows ≡ s .counters) × (length counts ≡ s .counters)
 unfolding tables-long
 tables-long-fit s rows counts long =
-    let each = both (eqb (length rows) (s .counters)) (eqb (length counts) (s .counters)) long in
+    let each = and-both (eqb (length rows) (s .counters)) (eqb (length counts) (s .counters)) long in
     (eqb-true (length rows) (s .counters) (each .0), eqb-true (length counts) (s .counters) (each .1))
 
 -- no refusal of setting up
@@ -94,7 +95,7 @@ ready-held {s} {st} r =
 pub diameter-four : {s : Settings} → Accepted s → s .«blast_diameter» ≤ 4
 diameter-four ok = ⊎-elim (λ e. omega (arith, e)) (λ e. omega (arith, e)) (ok .others .diameter)
 
--- both summaries as the comparison wants them
+-- and-both summaries as the comparison wants them
 pub record Compared (s : Settings) (st : State) (s′ : Settings) (st′ : State) : Type 0 where
   pub first : Facts s st
   pub second : Facts s′ st′
@@ -107,8 +108,8 @@ agreement-ready s st s′ st′ e =
     let two = or-later-none (first-failed (settings-tests s′)) (refuse (not (l && l′)) 8 (refuse (not (valid s st && valid s′ st′)) 21 0)) (one .1) in
     let eight = passed-test (l && l′) 7 (refuse (not (valid s st && valid s′ st′)) 21 0) (two .1) in
     let state = passed-test (valid s st && valid s′ st′) 20 0 (eight .1) in
-    let longs = both l l′ (eight .0) in
-    let valids = both (valid s st) (valid s′ st′) (state .0) in
+    let longs = and-both l l′ (eight .0) in
+    let valids = and-both (valid s st) (valid s′ st′) (state .0) in
     record { first = valid-facts s st (longs .0) (valids .0); second = valid-facts s′ st′ (longs .1) (valids .1) }
 
 -- tables of a valid state, with their own length for the number of places

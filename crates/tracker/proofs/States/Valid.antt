@@ -8,8 +8,8 @@ use borrow.Author.Tests.{ltb-true, leb-true, eqb-true}
 use lib.Dec.{leb, ltb, eqb}
 use lib.ListN.{length, take, drop, replicate, take-append-drop, length-drop}
 use lib.Seq.{length-take-le}
+use Rattle.laws.proofs.Cases.{and-both}
 use Rattle.device.specs.declared.Settings.{Settings}
-use Rattle.device.proofs.Acceptance.{both}
 use Rattle.summary.specs.Entries.{Entry, rows-of, counts-of}
 use Rattle.summary.specs.Tables.{table, entries-of, read}
 use Rattle.summary.specs.Contracts.{Holds}
@@ -41,7 +41,7 @@ zeros-are : (t : List ℕ) → zeros t ≡ true → t ≡ replicate (length t) 0
 unfolding zeros
 zeros-are [] e = refl
 zeros-are (x ∷ xs) e =
-    let parts = both (eqb x 0) (zeros xs) e in
+    let parts = and-both (eqb x 0) (zeros xs) e in
     cc (eqb-true x 0 (parts .0), zeros-are xs (parts .1))
 
 -- a table with only zeros behind its front
@@ -59,8 +59,8 @@ ordered-read high low zero rows counts e = ordered-none
 ordered-read high low (suc k) [] counts e = ordered-none
 ordered-read high low (suc k) (row ∷ rows) [] e = ordered-none
 ordered-read high low (suc k) (row ∷ rows) (count ∷ counts) e =
-    let parts = both (leb low row && ltb row high) (ascending (suc row) high (take k rows)) e in
-    let this = both (leb low row) (ltb row high) (parts .0) in
+    let parts = and-both (leb low row && ltb row high) (ascending (suc row) high (take k rows)) e in
+    let this = and-both (leb low row) (ltb row high) (parts .0) in
     ordered-more low (record { row = row; count = count }) (ordered-read high (suc row) k rows counts (parts .1))
     (leb-true low row (this .0)) (ltb-true row high (this .1))
 
@@ -76,9 +76,9 @@ allowed-read spillover (suc k) [] counts e = record { floor = floor-none; positi
 allowed-read spillover (suc k) (row ∷ rows) [] e = record { floor = floor-none; positive = floor-none; ceiling = bare }
 allowed-read spillover (suc k) (row ∷ rows) (count ∷ counts) e =
     let x : Entry = record { row = row; count = count } in
-    let p3 = both (leb 1 count && leb spillover count && leb count most-count) (counts-allowed spillover (take k counts)) e in
-    let p2 = both (leb 1 count && leb spillover count) (leb count most-count) (p3 .0) in
-    let p1 = both (leb 1 count) (leb spillover count) (p2 .0) in
+    let p3 = and-both (leb 1 count && leb spillover count && leb count most-count) (counts-allowed spillover (take k counts)) e in
+    let p2 = and-both (leb 1 count && leb spillover count) (leb count most-count) (p3 .0) in
+    let p1 = and-both (leb 1 count) (leb spillover count) (p2 .0) in
     let rest = allowed-read spillover k rows counts (p3 .1) in
     record {
       floor = floor-more x (rest .floor) (leb-true spillover count (p1 .1));
@@ -96,17 +96,17 @@ pub record Facts (s : Settings) (st : State) : Type 0 where
 pub valid-facts : (s : Settings) (st : State) → tables-long s (st .rows) (st .counts) ≡ true → valid s st ≡ true → Facts s st
 unfolding tables-long valid summary-of read
 valid-facts s st long e =
-    let lengths = both (eqb (length (st .rows)) (s .counters)) (eqb (length (st .counts)) (s .counters)) long in
+    let lengths = and-both (eqb (length (st .rows)) (s .counters)) (eqb (length (st .counts)) (s .counters)) long in
     let rows-long = eqb-true (length (st .rows)) (s .counters) (lengths .0) in
     let counts-long = eqb-true (length (st .counts)) (s .counters) (lengths .1) in
     let k = st .position .tracked in
-    let p7 = both _ (leb (st .position .spillover) most-count) e in
-    let p6 = both _ (counts-allowed (st .position .spillover) (take k (st .counts))) (p7 .0) in
-    let p5 = both _ (zeros (drop k (st .counts))) (p6 .0) in
-    let p4 = both _ (zeros (drop k (st .rows))) (p5 .0) in
-    let p3 = both _ (ascending 0 (s .rows) (take k (st .rows))) (p4 .0) in
-    let p2 = both _ (leb k (s .counters)) (p3 .0) in
-    let p1 = both (ltb (st .position .events) (s .window)) (leb (st .position .activations) (s .interval)) (p2 .0) in
+    let p7 = and-both _ (leb (st .position .spillover) most-count) e in
+    let p6 = and-both _ (counts-allowed (st .position .spillover) (take k (st .counts))) (p7 .0) in
+    let p5 = and-both _ (zeros (drop k (st .counts))) (p6 .0) in
+    let p4 = and-both _ (zeros (drop k (st .rows))) (p5 .0) in
+    let p3 = and-both _ (ascending 0 (s .rows) (take k (st .rows))) (p4 .0) in
+    let p2 = and-both _ (leb k (s .counters)) (p3 .0) in
+    let p1 = and-both (ltb (st .position .events) (s .window)) (leb (st .position .activations) (s .interval)) (p2 .0) in
     let fits = leb-true k (s .counters) (p2 .1) in
     let in-rows : k ≤ length (st .rows) = omega arith in
     let in-counts : k ≤ length (st .counts) = omega arith in

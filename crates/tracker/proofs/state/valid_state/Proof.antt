@@ -8,8 +8,8 @@ use borrow.Author.Needs.{needs}
 use borrow.Author.Tests.{leb-true, not-true, not-false}
 use lib.Dec.{leb, ltb}
 use lib.ListN.{take, drop}
+use Rattle.laws.proofs.Cases.{and-both}
 use Rattle.device.specs.declared.Settings.{Settings}
-use Rattle.device.proofs.Acceptance.{both}
 use Rattle.tracker.specs.declared.Position.{Position}
 use Rattle.tracker.specs.State.{zeros, ascending, counts-allowed, valid, most-count}
 use Rattle.tracker.specs.Contracts.{position-allowed}
@@ -35,8 +35,8 @@ module _ (s : Settings) (rows counts : List ℕ) (p : Position) where
 tracked-fits : (s : Settings) (p : Position) → position-allowed s p ≡ true → p .tracked ≤ s .counters
 tracked-fits s p e =
     let timely = ltb (p .events) (s .window) && leb (p .activations) (s .interval) in
-    let others = both (timely && leb (p .tracked) (s .counters)) (leb (p .spillover) most-count) e in
-    leb-true (p .tracked) (s .counters) (both timely (leb (p .tracked) (s .counters)) (others .0) .1)
+    let others = and-both (timely && leb (p .tracked) (s .counters)) (leb (p .spillover) most-count) e in
+    leb-true (p .tracked) (s .counters) (and-both timely (leb (p .tracked) (s .counters)) (others .0) .1)
 
 returns : tie.Need-returns
 returns c =
