@@ -8,8 +8,8 @@ use Rattle.summary.specs.Entries.{rows-of, counts-of, picks}
 use Rattle.summary.specs.Steps.{Summary, drop-rows}
 use Rattle.summary.specs.Rules.{Sound}
 use Rattle.summary.specs.declared.Tally.{Tally}
-use denote.Ref.{RefT, now}
-use denote.Triple.Both.{Both}
+use denote.Ref.{now}
+use Rattle.laws.specs.Lent.{Slice, Lent}
 use Rattle.summary.specs.Tables.{table, read}
 
 -- two tables of so many places that hold a summary of a bank of so many rows, with its number of entries and its spillover
@@ -29,10 +29,6 @@ Held rows counts tracked spillover =
 abbrev pub Left : List ℕ → Summary → List ℕ → List ℕ → ℕ → ℕ → Type 0
 Left rows₀ sum rows counts tracked spillover = Holds (length rows₀) 4294967296 sum rows counts tracked spillover
 
--- a lent slice of numbers
-abbrev pub Slice : Type 0
-Slice = RefT (List ℕ)
-
 -- the summary that two lent tables and the tally that goes with them hold
 abbrev pub summary : Slice → Slice → Tally → Summary
 summary rows counts t = read (now rows) (now counts) (t .tracked) (t .spillover)
@@ -42,11 +38,11 @@ abbrev pub Tracks : Slice → Slice → Tally → Type 0
 Tracks rows counts t = Held (now rows) (now counts) (t .tracked) (t .spillover)
 
 -- the places of a table that was lent
-abbrev pub places : Both Slice Slice → ℕ
+abbrev pub places : Lent → ℕ
 places rows = length (now (rows .entry))
 
 -- what a function makes of the summary that it was lent, in as many places
-abbrev pub Turns : Both Slice Slice → Both Slice Slice → Tally → (Summary → Summary) → Tally → Type 0
+abbrev pub Turns : Lent → Lent → Tally → (Summary → Summary) → Tally → Type 0
 Turns rows counts t step t′ =
     Left (now (rows .entry)) (step (summary (rows .entry) (counts .entry) t)) (now (rows .exit)) (now (counts .exit)) (t′ .tracked) (t′ .spillover)
 
@@ -56,7 +52,7 @@ pub record PickedFrom (volume : ℕ) (sum : Summary) (list₀ list : List ℕ) (
   pub counted : count ≡ length (picks volume (sum .entries))
 
 -- the picked rows' names in the list that was lent ('at the front of a lent list'), and their number
-abbrev pub Names : Both Slice Slice → ℕ → Summary → ℕ → Type 0
+abbrev pub Names : Lent → ℕ → Summary → ℕ → Type 0
 Names list volume sum count = PickedFrom volume sum (now (list .entry)) (now (list .exit)) count
 
 -- a summary without the rows that are picked

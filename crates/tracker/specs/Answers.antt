@@ -4,9 +4,8 @@ use Prim.Native.Nat.{ℕ}
 use mathlib.Core.Bool.{Bool, true, false}
 use mathlib.Core.List.{List}
 use denote.Ref.{now}
-use denote.Triple.Both.{Both}
+use Rattle.laws.specs.Lent.{Slice, Lent}
 use Rattle.device.specs.Refusal.{Outcome, accepted, refused}
-use Rattle.summary.specs.Contracts.{Slice}
 use Rattle.tracker.specs.declared.Position.{Position}
 use Rattle.tracker.specs.State.{State}
 use Rattle.tracker.specs.Calls.{SetUp-call, Activation-call, Refresh-call}
@@ -96,14 +95,14 @@ abbrev pub lent : Slice → Slice → Position → State
 lent rows counts p = given (now rows) (now counts) p
 
 -- its answer with what it left there: setting up, an activation, an event, and an event that no test refuses
-abbrev pub set-up-left : SetUp → Both Slice Slice → Both Slice Slice → SetUp-call
+abbrev pub set-up-left : SetUp → Lent → Lent → SetUp-call
 set-up-left r rows counts = set-up-call r (now (rows .exit)) (now (counts .exit))
 
-abbrev pub activation-left : Activation → Both Slice Slice → Both Slice Slice → Activation-call
+abbrev pub activation-left : Activation → Lent → Lent → Activation-call
 activation-left r rows counts = activation-call r (now (rows .exit)) (now (counts .exit))
 
-abbrev pub refresh-left : Refreshed → Both Slice Slice → Both Slice Slice → Both Slice Slice → Refresh-call
+abbrev pub refresh-left : Refreshed → Lent → Lent → Lent → Refresh-call
 refresh-left r rows counts picks = refresh-call r (now (rows .exit)) (now (counts .exit)) (now (picks .exit))
 
-abbrev pub event-left : AfterEvent → Both Slice Slice → Both Slice Slice → Both Slice Slice → Refresh-call
+abbrev pub event-left : AfterEvent → Lent → Lent → Lent → Refresh-call
 event-left r rows counts picks = refresh-left (Refresh-accepted (r .count) (r .position)) rows counts picks

@@ -6,9 +6,10 @@ use mathlib.Core.List.{List}
 use denote.Ref.{now}
 use lib.Dec.{leb, ltb, eqb}
 use lib.ListN.{length, getD}
+use Rattle.laws.specs.Lent.{Slice}
 use Rattle.device.specs.Acceptance.{most-rows}
 use Rattle.device.specs.declared.Settings.{Settings}
-use Rattle.summary.specs.Contracts.{Holds, Slice, summary}
+use Rattle.summary.specs.Contracts.{Holds, summary}
 use Rattle.summary.specs.declared.Tally.{Tally}
 use Rattle.tracker.specs.declared.Position.{Position}
 use Rattle.tracker.specs.State.{most-count}
