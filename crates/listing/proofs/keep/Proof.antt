@@ -69,7 +69,9 @@ keep-spec =
     (λ c. omega (arith, c .smaller2 .ensures))
     (λ c κs. search needs)
     loop-holds
-    (λ c. omega (arith, kept-few (c .before .before .before .before .before .before .args .text .now) (c .before .before .before .before .before .before .args .from) (c .before .before .before .before .before .before .args .to) (c .before .before .before .before .smaller .ensures) (c .before .before .before .smaller2 .ensures) (c .before .before .smaller3 .ensures), c .loop-test .taken))
+    (λ c.
+    let a = c .before .before .before .before .before .before .args in
+    omega (arith, kept-few (a .text .now) (a .from) (a .to) (c .before .before .before .before .smaller .ensures) (c .before .before .before .smaller2 .ensures) (c .before .before .smaller3 .ensures), c .loop-test .taken))
     slice-read-text
     slice-write-text
     (λ c. omega (arith, c .before .loop-test .taken))
