@@ -5,7 +5,7 @@ use Prim.Native.Nat.{ℕ}
 use lib.ListN.{length, take, drop}
 use lib.Seq.{take-at, length-take-le}
 use Rattle.listing.specs.Texts.{listing, after}
-use Rattle.listing.specs.Chunks.{part, kept-bytes, turned}
+use Rattle.listing.specs.Chunks.{part, kept-bytes, chunk}
 use Rattle.listing.specs.Parts.{comes, lists, keeps, ends, joined}
 use Rattle.listing.specs.Claims.{Parts-joined, Part-moves, Chunk-moves, End-moves}
 use Rattle.listing.proofs.Texts.Concatenation.{listing-cut, listing-kept}
@@ -39,7 +39,7 @@ unfolding End-moves
 end-moves m g text room r e h = rw (last-line-listing m g text room r e h) (ends text e)
 
 pub chunk-moves : Chunk-moves
-unfolding Chunk-moves turned kept-bytes
+unfolding Chunk-moves chunk kept-bytes
 chunk-moves m g text len buffer r h room =
     let at-hand : List ℕ = take len text in
     let d = done-part at-hand buffer r in

@@ -72,7 +72,7 @@ unfoldable pub kept-bytes : ℕ → ℕ → List ℕ → List ℕ
 kept-bytes from to text = take most-kept (drop from (take to text))
 
 -- what lies between two reads leaves: the memory, the buffer with what was printed, the text with the kept bytes at its front, and how many
-pub record Turned : Type 0 where
+pub record Chunked : Type 0 where
   pub memory : Memory
   pub buffer : List ℕ
   pub end : ℕ
@@ -80,8 +80,8 @@ pub record Turned : Type 0 where
   pub kept : ℕ
 
 -- the lines of the first bytes of a text are listed, and of the line that has not ended 64 bytes are kept
-unfoldable pub turned : Memory → List ℕ → ℕ → List ℕ → Turned
-turned m text len buffer =
+unfoldable pub chunk : Memory → List ℕ → ℕ → List ℕ → Chunked
+chunk m text len buffer =
     let q = part m (take len text) buffer in
     let kept = kept-bytes (q .taken) len text in
     record {
@@ -102,7 +102,7 @@ abbrev pub part-left : Part → Lent → Lent → Lent → Going
 part-left r rows counts out =
     record { memory = memory-of (r .place) (rows .exit) (counts .exit); taken = r .taken; buffer = now (out .exit); end = r .end }
 
-abbrev pub chunk-left : Chunk → Lent → Lent → Lent → Lent → Turned
+abbrev pub chunk-left : Chunk → Lent → Lent → Lent → Lent → Chunked
 chunk-left r rows counts text out =
     record {
       memory = memory-of (r .place) (rows .exit) (counts .exit);

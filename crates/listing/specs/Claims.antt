@@ -8,7 +8,7 @@ use Rattle.trace.specs.Lines.{ended}
 use Rattle.listing.specs.Steps.{Progress}
 use Rattle.listing.specs.Texts.{listing}
 use Rattle.listing.specs.Memory.{Memory, Represents}
-use Rattle.listing.specs.Chunks.{next-number, line-room, part, turned, last-line}
+use Rattle.listing.specs.Chunks.{next-number, line-room, part, chunk, last-line}
 use Rattle.listing.specs.Parts.{Printed, joined, Moves}
 
 -- however a text is cut into parts, and whatever is listed when: what is printed is the listing of the whole
@@ -27,7 +27,7 @@ Part-moves =
 unfoldable pub Chunk-moves : Type 0
 Chunk-moves =
     (m : Memory) (g : Progress) (text : List ℕ) (len : ℕ) (buffer : List ℕ) → Represents m g → len ≤ length text → 55 * len + line-room ≤ length buffer →
-    let q = turned m text len buffer in
+    let q = chunk m text len buffer in
     Moves g (take len text) (take (q .end) (q .buffer)) (q .memory) (take (q .kept) (q .text))
 
 -- what `list_end` promises is the move `ends`

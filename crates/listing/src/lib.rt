@@ -10,7 +10,7 @@ ghost use Prim.Native.Nat.{_+_, _*_, _≤_, min};
 ghost use lib.ListN.{length};
 ghost use Rattle.listing.specs.Memory.{memory-of, start-place, Ready};
 ghost use Rattle.listing.specs.Contracts.{Prints-into, Copies-front};
-ghost use Rattle.listing.specs.Chunks.{next-number, part, part-left, turned, chunk-left, last-line, kept-bytes};
+ghost use Rattle.listing.specs.Chunks.{next-number, line-room, part, part-left, chunk, chunk-left, last-line, kept-bytes};
 
 // Line numbers are printed modulo this.
 const LINES: u64 = 10_000_000_000;
@@ -158,8 +158,8 @@ pub fn list_chunk(
     len: usize,
     out: &mut [u8],
 ) -> Chunk
-    requires { ⌜ Ready (memory-of p rows counts) × (len ≤ length (now text)) × (55 * len + 200 ≤ length (now out)) ⌝ }
-    ensures { λ r. ⌜ chunk-left r rows counts text out ≡ turned (memory-of p (rows .entry) (counts .entry)) (now (text .entry)) len (now (out .entry)) ⌝ }
+    requires { ⌜ Ready (memory-of p rows counts) × (len ≤ length (now text)) × (55 * len + line-room ≤ length (now out)) ⌝ }
+    ensures { λ r. ⌜ chunk-left r rows counts text out ≡ chunk (memory-of p (rows .entry) (counts .entry)) (now (text .entry)) len (now (out .entry)) ⌝ }
 {
     let part = list_part(p, rows, counts, &text[0..len], out);
     let place = part.place;

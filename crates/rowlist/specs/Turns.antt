@@ -1,17 +1,28 @@
 -- The program's turns: what a read leaves at hand, what lies between two reads, and what all turns print.
-use Prim.Native.Nat.{ℕ, _+_, _*_, _≤_, _<_}
+use Prim.Native.Nat.{ℕ, zero, suc, _+_, _*_, _≤_, _<_, min}
 use mathlib.Core.Path.{_≡_}
 use mathlib.Core.Bool.{Bool, true, false}
 use mathlib.Core.List.{List, [], _∷_, _++_}
+use lib.IntN.{ℤ, pos, negsuc}
 use lib.ListN.{length, take, drop}
 use denote.Ref.{now}
 use Rattle.laws.specs.Lent.{Slice, Lent}
 use Rattle.trace.specs.Numbers.{written}
 use Rattle.listing.specs.Memory.{Memory, memory, memory-of}
-use Rattle.listing.specs.Chunks.{next-number, turned, last-line}
+use Rattle.listing.specs.Chunks.{next-number, line-room, chunk, last-line}
 use Rattle.rowlist.specs.declared.Input.{Input}
 use Rattle.rowlist.specs.declared.Input.the-variants.{Bytes, End, Failed}
 use Rattle.rowlist.specs.declared.Turn.{Turn}
+
+-- so many bytes more than those kept are at hand; none: the input has ended
+unfoldable pub at-hand : ℕ → ℕ → Input
+at-hand kept zero = End
+at-hand kept (suc more) = Bytes (kept + suc more)
+
+-- what a read's answer says: below 0 it failed; else so many bytes came, no more than there is room for
+unfoldable pub input-of : ℤ → ℕ → ℕ → Input
+input-of (negsuc k) kept room = Failed
+input-of (pos n) kept room = at-hand kept (min n room)
 
 -- the bytes at hand are more than those kept, and no more than a text has
 unfoldable pub Within : Input → ℕ → ℕ → Type 0
@@ -36,7 +47,7 @@ pub record Turned : Type 0 where
 -- bytes came in: their lines are listed; the input has ended: what is left of its last line is; or the read failed
 unfoldable pub turn-of : Memory → List ℕ → ℕ → Input → List ℕ → Turned
 turn-of m text kept (Bytes len) buffer =
-    let q = turned m text len buffer in
+    let q = chunk m text len buffer in
     record {
       memory = q .memory;
       text = q .text;
@@ -73,7 +84,7 @@ turn-from from rows counts text input out =
 pub record Readable (from : Turn) (input : Input) (text out : Slice) : Type 0 where
   pub within : Within input (from .kept) (length (now text))
   pub few : from .kept ≤ length (now text)
-  pub room : 55 * length (now text) + 200 ≤ length (now out)
+  pub room : 55 * length (now text) + line-room ≤ length (now out)
 
 abbrev pub turn-left : Turn → Lent → Lent → Lent → Lent → Turned
 turn-left r rows counts text out =
@@ -88,5 +99,5 @@ turn-left r rows counts text out =
 
 -- turns, each on what the one before left, until the input ends: the parts that the reads brought, and all that is to be written
 pub data Turns : Memory → List ℕ → ℕ → List (List ℕ) → List ℕ → Type 0 where
-  goes-on : {m : Memory} {text : List ℕ} {kept : ℕ} (text₁ buffer : List ℕ) (len : ℕ) {parts : List (List ℕ)} {out : List ℕ} → Came (Bytes len) kept text text₁ → 55 * length text₁ + 200 ≤ length buffer → Turns (turn-of m text₁ kept (Bytes len) buffer .memory) (turn-of m text₁ kept (Bytes len) buffer .text) (turn-of m text₁ kept (Bytes len) buffer .kept) parts out → Turns m text kept (drop kept (take len text₁) ∷ parts) (take (turn-of m text₁ kept (Bytes len) buffer .end) (turn-of m text₁ kept (Bytes len) buffer .buffer) ++ out)
-  stops : {m : Memory} {text : List ℕ} {kept : ℕ} (text₁ buffer : List ℕ) → Came End kept text text₁ → 200 ≤ length buffer → Turns m text kept [] (take (turn-of m text₁ kept End buffer .end) (turn-of m text₁ kept End buffer .buffer))
+  goes-on : {m : Memory} {text : List ℕ} {kept : ℕ} (text₁ buffer : List ℕ) (len : ℕ) {parts : List (List ℕ)} {out : List ℕ} → Came (Bytes len) kept text text₁ → 55 * length text₁ + line-room ≤ length buffer → Turns (turn-of m text₁ kept (Bytes len) buffer .memory) (turn-of m text₁ kept (Bytes len) buffer .text) (turn-of m text₁ kept (Bytes len) buffer .kept) parts out → Turns m text kept (drop kept (take len text₁) ∷ parts) (take (turn-of m text₁ kept (Bytes len) buffer .end) (turn-of m text₁ kept (Bytes len) buffer .buffer) ++ out)
+  stops : {m : Memory} {text : List ℕ} {kept : ℕ} (text₁ buffer : List ℕ) → Came End kept text text₁ → line-room ≤ length buffer → Turns m text kept [] (take (turn-of m text₁ kept End buffer .end) (turn-of m text₁ kept End buffer .buffer))

@@ -8,7 +8,7 @@ ghost use Prim.Native.Nat.{_+_, _*_, _≤_};
 ghost use lib.ListN.{length};
 ghost use Rattle.device.specs.Acceptance.{most-counters};
 ghost use Rattle.listing.specs.Memory.{memory-of, start-place, Ready};
-ghost use Rattle.rowlist.specs.Turns.{Readable, Came, turn-from, turn-left};
+ghost use Rattle.rowlist.specs.Turns.{input-of, Readable, Came, turn-from, turn-left};
 
 // The most counters that settings allow, the bytes of a read, and room for what they print.
 const MOST_COUNTERS: usize = 2_048;
@@ -33,13 +33,11 @@ struct Turn {
     more: bool,
 }
 
-// Reads behind the bytes that are kept at the front; how many bytes are at hand then.
-fn read_behind(text: &mut [u8], kept: usize) -> Input
-    requires { ⌜ kept ≤ length (now text) ⌝ }
-    ensures { λ r. ⌜ Came r kept (now (text .entry)) (now (text .exit)) ⌝ }
+// What a read's answer says: a failure, the input's end, or so many bytes behind those that are kept.
+fn input_from(got: isize, kept: usize, part: &[u8]) -> Input
+    requires { ⌜ kept + length (now part) ≤ 18446744073709551615 ⌝ }
+    ensures { λ r. ⌜ r ≡ input-of got kept (length (now (part .entry))) ⌝ }
 {
-    let part = &mut text[kept..];
-    let got = libc::read(STDIN_FILENO, part);
     if got < 0 {
         return Input::Failed;
     }
@@ -48,6 +46,16 @@ fn read_behind(text: &mut [u8], kept: usize) -> Input
         return Input::End;
     }
     Input::Bytes(kept + more)
+}
+
+// Reads behind the bytes that are kept at the front; how many bytes are at hand then.
+fn read_behind(text: &mut [u8], kept: usize) -> Input
+    requires { ⌜ kept ≤ length (now text) ⌝ }
+    ensures { λ r. ⌜ Came r kept (now (text .entry)) (now (text .exit)) ⌝ }
+{
+    let part = &mut text[kept..];
+    let got = libc::read(STDIN_FILENO, part);
+    input_from(got, kept, part)
 }
 
 // What lies between two reads: what came in is listed, up to the last line's end.

@@ -12,7 +12,7 @@ use Rattle.listing.specs.Output.{Prints}
 use Rattle.listing.specs.Steps.{Progress}
 use Rattle.listing.specs.Texts.{after}
 use Rattle.listing.specs.Memory.{Memory, Ready, Represents}
-use Rattle.listing.specs.Chunks.{Going, part, kept-bytes, Turned, turned}
+use Rattle.listing.specs.Chunks.{Going, part, kept-bytes, Chunked, chunk}
 use Rattle.listing.specs.Parts.{Printed, lists, ends}
 use Rattle.listing.proofs.Memory.Progress.{represents-memory}
 use Rattle.listing.proofs.Chunks.Lines.{Taken, done-part}
@@ -31,13 +31,13 @@ module _ {g : Progress} {text buffer : List ℕ} {q : Going} (t : Taken g text b
       rw (take-printed (t .prints)) (rw (take-append-drop (q .taken) text) at move)
 
 -- what lies between two reads, by what listing and keeping left
-pub turned-parts : (m : Memory) (text : List ℕ) (len : ℕ) (buffer : List ℕ) {q : Going} {kept : ℕ} {text′ : List ℕ} → q ≡ part m (take len text) buffer → kept ≡ length (kept-bytes (q .taken) len text) → text′ ≡ kept-bytes (q .taken) len text ++ drop kept text → _≡_ {A = Turned} (record { memory = q .memory; buffer = q .buffer; end = q .end; text = text′; kept = kept }) (turned m text len buffer)
-unfolding turned
-turned-parts m text len buffer e k t = rw (t, k, e)
+pub chunk-parts : (m : Memory) (text : List ℕ) (len : ℕ) (buffer : List ℕ) {q : Going} {kept : ℕ} {text′ : List ℕ} → q ≡ part m (take len text) buffer → kept ≡ length (kept-bytes (q .taken) len text) → text′ ≡ kept-bytes (q .taken) len text ++ drop kept text → _≡_ {A = Chunked} (record { memory = q .memory; buffer = q .buffer; end = q .end; text = text′; kept = kept }) (chunk m text len buffer)
+unfolding chunk
+chunk-parts m text len buffer e k t = rw (t, k, e)
 
 -- the bytes kept are those of a line that has not ended
-pub ended-kept : (m : Memory) (g : Progress) (text : List ℕ) (len : ℕ) (buffer : List ℕ) → Represents m g → len ≤ length text → 55 * len + 200 ≤ length buffer → ended (take (turned m text len buffer .kept) (turned m text len buffer .text)) ≡ false
-unfolding turned kept-bytes
+pub ended-kept : (m : Memory) (g : Progress) (text : List ℕ) (len : ℕ) (buffer : List ℕ) → Represents m g → len ≤ length text → 55 * len + 200 ≤ length buffer → ended (take (chunk m text len buffer .kept) (chunk m text len buffer .text)) ≡ false
+unfolding chunk kept-bytes
 ended-kept m g text len buffer r h room =
     let at-hand : List ℕ = take len text in
     let rest : List ℕ = drop (part m at-hand buffer .taken) at-hand in
@@ -45,9 +45,9 @@ ended-kept m g text len buffer r h room =
     rw (take-at (take 64 rest) (drop (length (take 64 rest)) text) (length (take 64 rest)) refl) (ended-less 64 rest unended)
 
 -- the memory stays a listing's, no more is kept than the text holds, and no more printed than the buffer
-pub steady-turned : (m : Memory) (text : List ℕ) (len : ℕ) (buffer : List ℕ) → Ready m → len ≤ length text → Ready (turned m text len buffer .memory) × (turned m text len buffer .kept ≤ length text) × (turned m text len buffer .end ≤ length buffer)
-unfolding turned kept-bytes
-steady-turned m text len buffer ready h =
+pub steady-chunk : (m : Memory) (text : List ℕ) (len : ℕ) (buffer : List ℕ) → Ready m → len ≤ length text → Ready (chunk m text len buffer .memory) × (chunk m text len buffer .kept ≤ length text) × (chunk m text len buffer .end ≤ length buffer)
+unfolding chunk kept-bytes
+steady-chunk m text len buffer ready h =
     let at-hand : List ℕ = take len text in
     let t = done-part at-hand buffer (represents-memory ready) .took in
     let rest : List ℕ = drop (part m at-hand buffer .taken) at-hand in (

@@ -2,7 +2,7 @@
 use native.Mathlib.Nat.{sub-zero}
 use borrow.Author.Needs.{needs}
 use Rattle.listing.specs.Memory.{memory}
-use Rattle.listing.proofs.Parts.Moves.{turned-parts}
+use Rattle.listing.proofs.Parts.Moves.{chunk-parts}
 use Rattle.listing.proofs.list_chunk.Statement.{statement}
 use Rattle.listing.proofs.list_chunk.Tie as tie
 
@@ -16,7 +16,7 @@ returns c =
     let a = c .before .before .before .before .before .before .before .before .before .before .before .before .before .before .before .before .before .before .before .before .before .args in
     let l = c .before .before .before .before .before .before .before .before .before .before .before .list-part in
     let k = c .before .before .keep in
-    turned-parts (memory (a .p) (a .rows .now) (a .counts .now)) (a .text .now) (a .len) (a .out .now) (rw (sub-zero (a .len)) at (l .ensures)) (k .ensures .0) (k .ensures .1)
+    chunk-parts (memory (a .p) (a .rows .now) (a .counts .now)) (a .text .now) (a .len) (a .out .now) (rw (sub-zero (a .len)) at (l .ensures)) (k .ensures .0) (k .ensures .1)
 
 pub list-chunk-spec : {M : Type 1} → statement M
 list-chunk-spec =
