@@ -29,13 +29,16 @@ at-hand {kept} {len} {text} {text₁} c =
 
 turns-printed : {m : Memory} {g : Progress} {text : List ℕ} {kept : ℕ} {parts : List (List ℕ)} {out : List ℕ} → Represents m g → ended (take kept text) ≡ false → Turns m text kept parts out → Printed g (take kept text) parts out
 unfolding Chunk-moves End-moves turn-of Within written
-turns-printed {m} {g} {text} {kept} r e (goes-on text₁ buffer len {parts} {out} came room later) =
+turns-printed {m} {g} {text} {kept} r e (goes-on text₁ buffer len q {parts} {out} came room same later) =
     let c = chunk-moves m g text₁ len buffer r (came .within .1) (omega (arith, came .within .1)) in
     let unended = ended-kept m g text₁ len buffer r (came .within .1) (omega (arith, came .within .1)) in
-    comes (drop kept (take len text₁)) (rw (at-hand came) at (c .moves parts out (turns-printed (c .represents) unended later)))
-turns-printed {m} {g} {text} {kept} r e (stops text₁ buffer came room) =
+    let represents : Represents (q .memory) (c .next) = rw same (c .represents) in
+    let kept-so : ended (take (q .kept) (q .text)) ≡ false = rw same unended in
+    let printed = rw same at (turns-printed represents kept-so later) in
+    rw same (comes (drop kept (take len text₁)) (rw (at-hand came) at (c .moves parts out printed)))
+turns-printed {m} {g} {text} {kept} r e (stops text₁ buffer q came room same) =
     let prints : List ℕ = last-line (next-number (m .place .lines)) (take kept text) (length buffer) in
-    rw (came .front, take-at prints (drop (0 + length prints) buffer) (length prints) refl)
+    rw (same, came .front, take-at prints (drop (0 + length prints) buffer) (length prints) refl)
     (end-moves m g (take kept text) (length buffer) r e (omega arith))
 
 pub turns-listed : Turns-listed

@@ -97,7 +97,15 @@ turn-left r rows counts text out =
       more = r .more;
     }
 
--- turns, each on what the one before left, until the input ends: the parts that the reads brought, and all that is to be written
+-- turns, each on what the one before left, until the input ends: the parts that the reads brought, and all that is to be written. Of a read and
+-- of what lies behind it only the contracts of `read_behind` and `between_reads` are known
 pub data Turns : Memory → List ℕ → ℕ → List (List ℕ) → List ℕ → Type 0 where
-  goes-on : {m : Memory} {text : List ℕ} {kept : ℕ} (text₁ buffer : List ℕ) (len : ℕ) {parts : List (List ℕ)} {out : List ℕ} → Came (Bytes len) kept text text₁ → 55 * length text₁ + line-room ≤ length buffer → Turns (turn-of m text₁ kept (Bytes len) buffer .memory) (turn-of m text₁ kept (Bytes len) buffer .text) (turn-of m text₁ kept (Bytes len) buffer .kept) parts out → Turns m text kept (drop kept (take len text₁) ∷ parts) (take (turn-of m text₁ kept (Bytes len) buffer .end) (turn-of m text₁ kept (Bytes len) buffer .buffer) ++ out)
-  stops : {m : Memory} {text : List ℕ} {kept : ℕ} (text₁ buffer : List ℕ) → Came End kept text text₁ → line-room ≤ length buffer → Turns m text kept [] (take (turn-of m text₁ kept End buffer .end) (turn-of m text₁ kept End buffer .buffer))
+  -- a read brought a part, and the program goes on
+  goes-on : {m : Memory} {text : List ℕ} {kept : ℕ} (text₁ buffer : List ℕ) (len : ℕ) (q : Turned) {parts : List (List ℕ)} {out : List ℕ}
+      → Came (Bytes len) kept text text₁ → 55 * length text₁ + line-room ≤ length buffer → q ≡ turn-of m text₁ kept (Bytes len) buffer
+      → Turns (q .memory) (q .text) (q .kept) parts out
+      → Turns m text kept (drop kept (take len text₁) ∷ parts) (take (q .end) (q .buffer) ++ out)
+  -- a read found the input's end
+  stops : {m : Memory} {text : List ℕ} {kept : ℕ} (text₁ buffer : List ℕ) (q : Turned)
+      → Came End kept text text₁ → line-room ≤ length buffer → q ≡ turn-of m text₁ kept End buffer
+      → Turns m text kept [] (take (q .end) (q .buffer))
