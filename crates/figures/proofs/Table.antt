@@ -14,9 +14,11 @@ use Rattle.trace.specs.Numbers.{is-digit, digits, number, field, fields, digit-
 use Rattle.trace.specs.Lines.{line, ended, extent}
 use Rattle.trace.specs.Records.{as-settings, settings, activation as activation-record, refresh as refresh-record, record-of}
 use Rattle.trace.specs.Reading.{or-refused, reading-by, reading}
-use Rattle.listing.specs.Output.{bound-line, row-columns, refresh-line, refusal-line}
+use Rattle.trace.specs.Output.{number-columns, refusal-line}
+use Rattle.listing.specs.Output.{bound-line, refresh-line}
 use Rattle.listing.specs.Steps.{start, refused-step, set-up-step, answered, activation-step, refresh-step, record-step, line-step, step, next}
-use Rattle.listing.specs.Texts.{in-front, lines, read as read-line, outcomes, listed, listing}
+use Rattle.trace.specs.Texts.{in-front, lines, read as read-line, outcomes}
+use Rattle.listing.specs.Texts.{listed, listing}
 use Rattle.limit.specs.Run.{left-by, state-after}
 use Rattle.bound.specs.Totals.{size, total, disturbers, bound-at, bound-of}
 use Rattle.bound.specs.Least.{with-counters, meets, or-else, first-from, least-of}
@@ -37,7 +39,7 @@ unfolding
     left-by state-after
     is-digit digits number field fields digit-or-blank columns-before printed line ended extent
     bind as-settings settings activation-record refresh-record record-of or-refused reading-by reading
-    bound-line row-columns refresh-line refusal-line
+    bound-line number-columns refresh-line refusal-line
     start refused-step set-up-step answered activation-step refresh-step record-step line-step step next
     in-front lines read-line outcomes listed listing
 figures-pass = tt

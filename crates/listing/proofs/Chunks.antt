@@ -1,5 +1,4 @@
 -- Laws of the lines taken from a text.
 pub mod Lines
 pub mod PartLoop
-pub mod KeptBytes
 pub mod LastLine

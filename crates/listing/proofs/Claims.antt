@@ -5,10 +5,11 @@ use Prim.Native.Nat.{ℕ}
 use lib.ListN.{length, take, drop}
 use lib.Seq.{take-at, length-take-le}
 use Rattle.listing.specs.Texts.{listing, after}
-use Rattle.listing.specs.Chunks.{part, kept-bytes, chunk}
-use Rattle.listing.specs.Parts.{comes, lists, keeps, ends, joined}
+use Rattle.trace.specs.Texts.{kept-bytes, joined}
+use Rattle.listing.specs.Chunks.{part, chunk}
+use Rattle.listing.specs.Parts.{comes, lists, keeps, ends}
 use Rattle.listing.specs.Claims.{Parts-joined, Part-moves, Chunk-moves, End-moves}
-use Rattle.listing.proofs.Texts.Concatenation.{listing-cut, listing-kept}
+use Rattle.listing.proofs.Texts.{listing-cut, listing-kept}
 use Rattle.listing.proofs.Chunks.Lines.{done-part}
 use Rattle.listing.proofs.Chunks.LastLine.{last-line-listing}
 use Rattle.listing.proofs.Parts.Moves.{printed-taken}

@@ -1,5 +1,4 @@
 -- The listing's laws, by the definitions that they are about; proofs of functions stand in folders of the functions' names.
-pub mod Output
 pub mod Steps
 pub mod Texts
 pub mod Memory

@@ -12,9 +12,9 @@ use Rattle.trace.specs.Numbers.{written}
 use Rattle.trace.specs.Lines.{ended}
 use Rattle.listing.specs.declared.Part.{Part}
 use Rattle.listing.specs.declared.Chunk.{Chunk}
-use Rattle.listing.specs.Output.{line-modulus, refusal-line}
+use Rattle.trace.specs.Output.{line-modulus, refusal-line}
 use Rattle.listing.specs.Steps.{Step, line-step}
-use Rattle.listing.specs.Texts.{lines, read}
+use Rattle.trace.specs.Texts.{lines, read, kept-bytes}
 use Rattle.listing.specs.Memory.{Memory, memory-of, tracker-of, stored}
 
 -- the number of the line behind so many
@@ -31,10 +31,6 @@ next-in m o = stored (step-in m o .tracker) (next-number (m .place .lines)) m
 -- the room before a line: the longest that is printed has 110 bytes
 abbrev pub line-room : ℕ
 line-room = 200
-
--- of a line that has not ended so many bytes are kept: no record is as long
-abbrev pub most-kept : ℕ
-most-kept = 64
 
 -- how far a listing has come in a text and in a buffer: the bytes taken, and the place behind what was printed
 pub record Going : Type 0 where
@@ -66,10 +62,6 @@ going q (line ∷ lines) = cond (takes q line) (going (gone q line) lines) q
 -- the lines at the front of a text, printed from the front of a buffer on
 unfoldable pub part : Memory → List ℕ → List ℕ → Going
 part m text buffer = going (record { memory = m; taken = 0; buffer = buffer; end = 0 }) (lines text)
-
--- of the bytes of a text from one place to another, the first
-unfoldable pub kept-bytes : ℕ → ℕ → List ℕ → List ℕ
-kept-bytes from to text = take most-kept (drop from (take to text))
 
 -- what lies between two reads leaves: the memory, the buffer with what was printed, the text with the kept bytes at its front, and how many
 pub record Chunked : Type 0 where

@@ -9,7 +9,8 @@ use Rattle.listing.specs.Steps.{Progress}
 use Rattle.listing.specs.Texts.{listing}
 use Rattle.listing.specs.Memory.{Memory, Represents}
 use Rattle.listing.specs.Chunks.{next-number, line-room, part, chunk, last-line}
-use Rattle.listing.specs.Parts.{Printed, joined, Moves}
+use Rattle.trace.specs.Texts.{joined}
+use Rattle.listing.specs.Parts.{Printed, Moves}
 
 -- however a text is cut into parts, and whatever is listed when: what is printed is the listing of the whole
 unfoldable pub Parts-joined : Type 0

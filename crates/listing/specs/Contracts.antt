@@ -2,8 +2,8 @@
 -- equations with Chunks.antt.
 use Prim.Native.Nat.{ℕ}
 use mathlib.Core.Path.{_≡_}
-use mathlib.Core.List.{List, _++_}
-use lib.ListN.{length, take, drop, replicate}
+use mathlib.Core.List.{List}
+use lib.ListN.{take, drop, replicate}
 use denote.Ref.{now}
 use Rattle.laws.specs.Lent.{Slice, Lent}
 use Rattle.device.specs.declared.Settings.{Settings}
@@ -16,17 +16,10 @@ use Rattle.tracker.specs.Answers.{given, set-up-call}
 use Rattle.listing.specs.declared.Place.{Place}
 use Rattle.listing.specs.declared.Listed.{Listed}
 use Rattle.listing.specs.declared.Moved.{Moved}
-use Rattle.listing.specs.Output.{bound-line, refusal-line, Prints}
+use Rattle.trace.specs.Output.{refusal-line, Prints}
+use Rattle.listing.specs.Output.{bound-line}
 use Rattle.listing.specs.Steps.{Step, refresh-step}
 use Rattle.listing.specs.Memory.{Memory, memory-of, tracker-in, stored}
-
--- a text is printed into a lent buffer at a place; the place behind it
-abbrev pub Prints-into : Lent → ℕ → List ℕ → ℕ → Type 0
-Prints-into out at text end = Prints (now (out .entry)) at text (now (out .exit)) end
-
--- bytes are copied to a lent text's front, so many
-abbrev pub Copies-front : Lent → List ℕ → ℕ → Type 0
-Copies-front text bytes count = (count ≡ length bytes) × (now (text .exit) ≡ bytes ++ drop count (now (text .entry)))
 
 -- what a settings line prints, by the bound's answer
 unfoldable pub settings-line : ℕ → Outcome ℕ → List ℕ

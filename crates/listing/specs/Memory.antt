@@ -13,7 +13,7 @@ use Rattle.tracker.specs.declared.Position.{Position}
 use Rattle.tracker.specs.Answers.{given}
 use Rattle.limit.specs.Reachable.{Reached}
 use Rattle.listing.specs.declared.Place.{Place}
-use Rattle.listing.specs.Output.{line-modulus}
+use Rattle.trace.specs.Output.{line-modulus}
 use Rattle.listing.specs.Steps.{Tracker, Progress}
 
 -- what the caller keeps of a listing: where it is, and both tables

@@ -6,9 +6,9 @@ use mathlib.Core.List.{List, [], _∷_, _++_}
 use lib.ListN.{take}
 use Rattle.trace.specs.Lines.{ended}
 use Rattle.listing.specs.Steps.{Progress}
-use Rattle.listing.specs.Texts.{whole, listing, after}
+use Rattle.trace.specs.Texts.{whole, most-kept}
+use Rattle.listing.specs.Texts.{listing, after}
 use Rattle.listing.specs.Memory.{Memory, Represents}
-use Rattle.listing.specs.Chunks.{most-kept}
 
 -- from where the listing is, with these bytes at hand and these parts still to come, all that is printed
 pub data Printed : Progress → List ℕ → List (List ℕ) → List ℕ → Type 0 where
@@ -20,11 +20,6 @@ pub data Printed : Progress → List ℕ → List (List ℕ) → List ℕ → Ty
   keeps : {g : Progress} (text : List ℕ) {parts : List (List ℕ)} {out : List ℕ} → ended text ≡ false → Printed g (take most-kept text) parts out → Printed g text parts out
   -- at the end of the input a line that has not ended, if any byte is left, is listed as it is
   ends : {g : Progress} (text : List ℕ) → ended text ≡ false → Printed g text [] (listing g text)
-
--- the parts, one behind the other
-unfoldable pub joined : List (List ℕ) → List ℕ
-joined [] = []
-joined (part ∷ parts) = part ++ joined parts
 
 -- moves that begin where the memory says that the listing is: they print some bytes first, and leave other memory and other bytes at hand
 pub record Moves (g : Progress) (text printed : List ℕ) (m : Memory) (left : List ℕ) : Type 0 where

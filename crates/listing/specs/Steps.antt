@@ -11,7 +11,8 @@ use Rattle.tracker.specs.State.{State}
 use Rattle.tracker.specs.Calls.{SetUp-call, Activation-call, Refresh-call, set-up, activation-on, refresh-on}
 use Rattle.trace.specs.declared.Record.{Record}
 use Rattle.trace.specs.declared.Record.the-variants.{Set, Activate, Refresh, Blank}
-use Rattle.listing.specs.Output.{bound-line, refresh-line, refusal-line}
+use Rattle.trace.specs.Output.{refusal-line}
+use Rattle.listing.specs.Output.{bound-line, refresh-line}
 
 -- a tracker that stands: its settings, and its state in tables of C places
 pub record Tracker : Type 0 where

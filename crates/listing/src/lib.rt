@@ -4,16 +4,14 @@ mod print;
 mod record;
 
 use device::Settings;
+use trace::LINES;
 use tracker::Position;
 ghost use mathlib.Core.Path.{_≡_};
-ghost use Prim.Native.Nat.{_+_, _*_, _≤_, min};
+ghost use Prim.Native.Nat.{_+_, _*_, _≤_};
 ghost use lib.ListN.{length};
 ghost use Rattle.listing.specs.Memory.{memory-of, start-place, Ready};
-ghost use Rattle.listing.specs.Contracts.{Prints-into, Copies-front};
-ghost use Rattle.listing.specs.Chunks.{next-number, line-room, part, part-left, chunk, chunk-left, last-line, kept-bytes};
-
-// Line numbers are printed modulo this.
-const LINES: u64 = 10_000_000_000;
+ghost use Rattle.trace.specs.Output.{Prints-into};
+ghost use Rattle.listing.specs.Chunks.{next-number, line-room, part, part-left, chunk, chunk-left, last-line};
 
 // Room for the longest line that is printed, which has 110 bytes.
 const ROOM: usize = 200;
@@ -123,29 +121,7 @@ pub fn list_end(p: Place, text: &[u8], out: &mut [u8]) -> usize
     if out.len() < 18 {
         return 0;
     }
-    print::print_refusal(out, 0, p.lines % LINES + 1, 11)
-}
-
-// The smaller of two numbers.
-fn smaller(a: usize, b: usize) -> usize
-    ensures { λ r. ⌜ r ≡ min a b ⌝ }
-{
-    if a <= b { a } else { b }
-}
-
-// Of the text's bytes from one place to another, the first 64 go to its front; how many they are.
-pub fn keep(text: &mut [u8], from: usize, to: usize) -> usize
-    ensures { λ r. ⌜ Copies-front text (kept-bytes from to (now (text .entry))) r ⌝ }
-{
-    let end = smaller(to, text.len());
-    let begin = smaller(from, end);
-    let kept = smaller(end - begin, 64);
-    let mut i = 0;
-    while i < kept {
-        text[i] = text[begin + i];
-        i += 1;
-    }
-    kept
+    trace::print_refusal(out, 0, p.lines % LINES + 1, 11)
 }
 
 // What lies between two reads: of the first bytes of the text, the lines that have ended are listed, and the first 64 bytes of what is left go to
@@ -163,7 +139,7 @@ pub fn list_chunk(
 {
     let part = list_part(p, rows, counts, &text[0..len], out);
     let place = part.place;
-    let kept = keep(text, part.taken, len);
+    let kept = trace::keep(text, part.taken, len);
     Chunk {
         place,
         end: part.end,

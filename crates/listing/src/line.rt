@@ -18,7 +18,8 @@ ghost use Rattle.tracker.specs.Answers.{lent};
 ghost use Rattle.limit.specs.Reachable.{Reached};
 ghost use Rattle.listing.specs.Steps.{record-step, activation-step};
 ghost use Rattle.listing.specs.Memory.{memory-of, tracker-of};
-ghost use Rattle.listing.specs.Contracts.{Prints-into, settings-line, front, event-step, Lists-whole, Lists-front, Keeps-behind, Sets-up-front, Lists-line};
+ghost use Rattle.trace.specs.Output.{Prints-into};
+ghost use Rattle.listing.specs.Contracts.{settings-line, front, event-step, Lists-whole, Lists-front, Keeps-behind, Sets-up-front, Lists-line};
 
 // An activation line, on tables of C places.
 fn list_activation(
@@ -35,11 +36,11 @@ fn list_activation(
     ensures { λ r. ⌜ Lists-whole (activation-step line s (activation-on s (lent (rows .entry) (counts .entry) p) row)) s rows counts out at r ⌝ }
 {
     if s.rows <= row {
-        let end = print::print_refusal(out, at, line, 9);
+        let end = trace::print_refusal(out, at, line, 9);
         return Moved { position: p, end };
     }
     if s.interval <= p.activations {
-        let end = print::print_refusal(out, at, line, 22);
+        let end = trace::print_refusal(out, at, line, 22);
         return Moved { position: p, end };
     }
     let position = tracker::activate_accepted(s, rows, counts, p, row);
@@ -120,7 +121,7 @@ fn print_settings(out: &mut [u8], at: usize, line: u64, answer: Answer) -> usize
 {
     match answer {
         Answer::Value(h) => print::print_bound(out, at, h),
-        Answer::Refused(k) => print::print_refusal(out, at, line, k),
+        Answer::Refused(k) => trace::print_refusal(out, at, line, k),
     }
 }
 

@@ -1,9 +1,9 @@
 // One line of a trace, as it was read: its record or its refusal, on the caller's tables of 2,048 places.
-use crate::LINES;
 use crate::Listed;
 use crate::Place;
 use crate::line;
 use crate::print;
+use trace::LINES;
 use trace::Read;
 use trace::Record;
 use tracker::Position;
@@ -53,7 +53,7 @@ fn activation_line(
             end: moved.end,
         };
     }
-    let end = print::print_refusal(out, at, line, 11);
+    let end = trace::print_refusal(out, at, line, 11);
     Listed {
         place: at_line(p, position, line),
         end,
@@ -82,7 +82,7 @@ fn event_line(
             end: moved.end,
         };
     }
-    let end = print::print_refusal(out, at, line, 11);
+    let end = trace::print_refusal(out, at, line, 11);
     Listed {
         place: at_line(p, position, line),
         end,
@@ -129,7 +129,7 @@ pub fn list_line(
     let line = p.lines % LINES + 1;
     let Read::Line(what, _) = answer else {
         let position = p.position;
-        let end = print::print_refusal(out, at, line, 11);
+        let end = trace::print_refusal(out, at, line, 11);
         return Listed {
             place: at_line(p, position, line),
             end,

@@ -11,7 +11,7 @@ use borrow.Author.Tests.{ltb-true}
 use Rattle.io.specs.Counts.{clamped}
 use Rattle.laws.proofs.Cases.{clash}
 use lib.ListN.{length, take}
-use Rattle.listing.specs.Output.{Prints}
+use Rattle.trace.specs.Output.{Prints}
 use Rattle.listing.specs.Memory.{Memory, Ready}
 use Rattle.listing.specs.Chunks.{next-number, Chunked, chunk, last-line}
 use Rattle.listing.proofs.Parts.Moves.{steady-chunk}

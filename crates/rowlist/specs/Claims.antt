@@ -7,7 +7,7 @@ use Rattle.device.specs.Acceptance.{most-counters}
 use Rattle.listing.specs.Steps.{start}
 use Rattle.listing.specs.Texts.{listing}
 use Rattle.listing.specs.Memory.{memory, start-place}
-use Rattle.listing.specs.Parts.{joined}
+use Rattle.trace.specs.Texts.{joined}
 use Rattle.rowlist.specs.Turns.{Turns}
 
 -- from the start on, all that is to be written is the listing of all that the reads brought

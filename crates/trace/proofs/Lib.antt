@@ -1,6 +1,9 @@
--- Laws of numbers in columns, of lines, their records and the reader; and of what inner contracts say.
+-- Laws of numbers in columns, of lines, their records and the reader, of texts and what is printed; and of what inner contracts say.
 pub mod Numbers
 pub mod Lines
 pub mod Records
 pub mod Reading
+pub mod Texts
+pub mod Output
+pub mod KeptBytes
 pub mod Contracts

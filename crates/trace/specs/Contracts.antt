@@ -1,10 +1,13 @@
--- Relations that only the contracts of inner functions use: what the columns of a field were found to hold, and where a byte 10 stands.
+-- Relations that only contracts use: what the columns of a field were found to hold, where a byte 10 stands, and bytes that are copied.
 use Prim.Native.Nat.{ℕ}
 use mathlib.Core.Bool.{Bool, _&&_, cond}
-use mathlib.Core.List.{List}
+use mathlib.Core.List.{List, _++_}
+use mathlib.Core.Path.{_≡_}
 use mathlib.Core.Option.{Option, none, some}
 use lib.Dec.{eqb, ltb}
-use lib.ListN.{length, getD, take}
+use lib.ListN.{length, getD, take, drop}
+use denote.Ref.{now}
+use Rattle.laws.specs.Lent.{Lent}
 use Rattle.trace.specs.declared.Field.{Field}
 use Rattle.trace.specs.declared.Field.the-variants.{Number, Other}
 use Rattle.trace.specs.declared.Fields.{Fields}
@@ -21,3 +24,7 @@ found-all count r = cond (r .all) (some (take count (r .values))) none
 -- whether a byte 10 stands behind so many bytes
 unfoldable pub ends-after : ℕ → List ℕ → Bool
 ends-after width text = ltb width (length text) && eqb (getD text width 0) 10
+
+-- bytes are copied to a lent text's front, so many
+abbrev pub Copies-front : Lent → List ℕ → ℕ → Type 0
+Copies-front text bytes count = (count ≡ length bytes) × (now (text .exit) ≡ bytes ++ drop count (now (text .entry)))

@@ -1,17 +1,23 @@
-// The trace reader, and numbers in columns: read from lent text, printed into a lent buffer.
+// The trace reader, and what the programs print: numbers in columns, read from lent text, printed into a lent buffer.
 use device::Settings;
 ghost use mathlib.Core.Path.{_≡_};
-ghost use Prim.Native.Nat.{_+_, _*_, _≤_, _<_};
-ghost use lib.ListN.{length, drop};
+ghost use Prim.Native.Nat.{_+_, _*_, _≤_, _<_, min};
+ghost use mathlib.Core.List.{[], _∷_};
+ghost use lib.ListN.{length, take, drop};
 ghost use lib.Seq.{slice};
 ghost use Rattle.trace.specs.Numbers.{digits, field, fields, digit-or-blank, printed, written};
 ghost use Rattle.trace.specs.Lines.{extent};
 ghost use Rattle.trace.specs.Records.{as-settings, settings, activation, refresh};
-ghost use Rattle.trace.specs.Contracts.{found, found-all, ends-after};
+ghost use Rattle.trace.specs.Contracts.{found, found-all, ends-after, Copies-front};
 ghost use Rattle.trace.specs.Reading.{said, reading, reading-by, Handed-on};
+ghost use Rattle.trace.specs.Texts.{kept-bytes};
+ghost use Rattle.trace.specs.Output.{number-columns, refusal-line, Prints-into};
 
 // How wide a number is.
 const COLUMNS: usize = 6;
+
+// Line numbers are printed modulo this.
+pub const LINES: u64 = 10_000_000_000;
 
 // What some columns hold.
 pub enum Field {
@@ -272,4 +278,69 @@ pub fn print_number(out: &mut [u8], at: usize, columns: usize, n: u64)
         out[i] = digit_or_blank(left);
         left = left / 10;
     }
+}
+
+// A byte at a place; the place behind it.
+pub fn print_byte(out: &mut [u8], at: usize, b: u8) -> usize
+    requires { ⌜ at < length (now out) ⌝ }
+    ensures { λ r. ⌜ Prints-into out at (b ∷ []) r ⌝ }
+{
+    out[at] = b;
+    at + 1
+}
+
+// A number in so many columns; the place behind it.
+pub fn print_columns(out: &mut [u8], at: usize, columns: usize, n: u64) -> usize
+    requires { ⌜ at + columns ≤ length (now out) ⌝ }
+    ensures { λ r. ⌜ Prints-into out at (printed columns n) r ⌝ }
+{
+    print_number(out, at, columns, n);
+    at + columns
+}
+
+// The first numbers of a list, 6 columns each; the place behind them.
+pub fn print_numbers(out: &mut [u8], at: usize, numbers: &[u32], count: usize) -> usize
+    requires { ⌜ (count ≤ length (now numbers)) × (at + 6 * count ≤ length (now out)) ⌝ }
+    ensures { λ r. ⌜ Prints-into out at (number-columns (take count (now (numbers .entry)))) r ⌝ }
+{
+    let mut place = at;
+    let mut i = 0;
+    while i < count {
+        place = print_columns(out, place, COLUMNS, numbers[i] as u64);
+        i += 1;
+    }
+    place
+}
+
+// The line of a refused line, by its number.
+pub fn print_refusal(out: &mut [u8], at: usize, line: u64, k: u32) -> usize
+    requires { ⌜ at + 18 ≤ length (now out) ⌝ }
+    ensures { λ r. ⌜ Prints-into out at (refusal-line line k) r ⌝ }
+{
+    let numbers = print_byte(out, at, b'X');
+    let refusal = print_columns(out, numbers, 10, line % LINES);
+    let end = print_columns(out, refusal, 6, k as u64);
+    print_byte(out, end, b'\n')
+}
+
+// The smaller of two numbers.
+fn smaller(a: usize, b: usize) -> usize
+    ensures { λ r. ⌜ r ≡ min a b ⌝ }
+{
+    if a <= b { a } else { b }
+}
+
+// Of the text's bytes from one place to another, the first 64 go to its front; how many they are.
+pub fn keep(text: &mut [u8], from: usize, to: usize) -> usize
+    ensures { λ r. ⌜ Copies-front text (kept-bytes from to (now (text .entry))) r ⌝ }
+{
+    let end = smaller(to, text.len());
+    let begin = smaller(from, end);
+    let kept = smaller(end - begin, 64);
+    let mut i = 0;
+    while i < kept {
+        text[i] = text[begin + i];
+        i += 1;
+    }
+    kept
 }

@@ -10,14 +10,15 @@ use lib.ListN.{length, drop, drop-of-length-le}
 use Rattle.laws.proofs.Cases.{le-or-lt}
 use Rattle.trace.specs.Lines.{ended, extent}
 use Rattle.trace.specs.Reading.{reading, reading-by, or-refused}
-use Rattle.listing.specs.Output.{refusal-line}
+use Rattle.trace.specs.Output.{refusal-line}
 use Rattle.listing.specs.Steps.{Progress, refused-step, line-step, step}
-use Rattle.listing.specs.Texts.{lines, read, outcomes, listed, listing}
+use Rattle.trace.specs.Texts.{lines, read, outcomes}
+use Rattle.listing.specs.Texts.{listed, listing}
 use Rattle.listing.specs.Memory.{Memory, Represents}
 use Rattle.listing.specs.Chunks.{next-number, last-line}
 use Rattle.listing.proofs.Steps.LineNumbers.{counted-on, refusal-alike}
 use Rattle.listing.proofs.Steps.Lengths.{length-refusal-line}
-use Rattle.listing.proofs.Texts.FirstLine.{extent-most, outcomes-front}
+use Rattle.trace.proofs.Texts.FirstLine.{extent-most, outcomes-front}
 
 none-left : outcomes [] ≡ []
 unfolding outcomes lines

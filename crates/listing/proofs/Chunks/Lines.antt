@@ -14,16 +14,18 @@ use Rattle.trace.specs.declared.Record.{Record}
 use Rattle.trace.specs.Numbers.{written}
 use Rattle.trace.specs.Lines.{ended, extent}
 use Rattle.trace.specs.Reading.{reading, reading-by}
-use Rattle.listing.specs.Output.{Prints}
+use Rattle.trace.specs.Output.{Prints}
 use Rattle.listing.specs.Steps.{Progress}
-use Rattle.listing.specs.Texts.{whole, read, outcomes, lines, listed, passed, listing, after}
+use Rattle.trace.specs.Texts.{whole, read, outcomes, lines}
+use Rattle.listing.specs.Texts.{listed, passed, listing, after}
 use Rattle.listing.specs.Memory.{Memory, tracker-of, Represents}
 use Rattle.listing.specs.Chunks.{next-number, step-in, Going, gone, takes, going, part}
-use Rattle.listing.proofs.Texts.FirstLine.{lines-front, extent-within, ended-first, read-front}
-use Rattle.listing.proofs.Output.Printing.{prints-nothing, prints-long, prints-then}
+use Rattle.trace.proofs.Texts.FirstLine.{lines-front, extent-within, ended-first, read-front}
+use Rattle.trace.proofs.Output.{prints-nothing, prints-long, prints-then}
 use Rattle.listing.proofs.Memory.Progress.{step-represented, represents-next}
 use Rattle.listing.proofs.Steps.Lengths.{length-step-le, length-step-line}
-use Rattle.listing.proofs.Texts.NextLine.{place-within, whole-on, listing-on, after-on}
+use Rattle.trace.proofs.Texts.NextLine.{place-within, whole-on}
+use Rattle.listing.proofs.Texts.{listing-on, after-on}
 
 -- whole lines were taken, their listing was printed, and few bytes of the buffer are used
 pub record Taken (g : Progress) (text buffer : List ℕ) (q : Going) : Type 0 where

@@ -11,12 +11,12 @@ use Rattle.laws.proofs.Cases.{split}
 use Rattle.trace.specs.Lines.{ended, extent}
 use Rattle.trace.specs.Reading.{reading}
 use Rattle.listing.specs.declared.Place.{Place}
-use Rattle.listing.specs.Texts.{lines}
+use Rattle.trace.specs.Texts.{lines}
 use Rattle.listing.specs.Memory.{Memory, memory, Ready}
 use Rattle.listing.specs.Contracts.{Leaves}
 use Rattle.listing.specs.Chunks.{next-number, step-in, next-in, Going, gone, takes, going}
-use Rattle.listing.proofs.Texts.FirstLine.{lines-front, ended-first}
-use Rattle.listing.proofs.Output.Printing.{prints-long}
+use Rattle.trace.proofs.Texts.FirstLine.{lines-front, ended-first}
+use Rattle.trace.proofs.Output.{prints-long}
 use Rattle.listing.proofs.Memory.Progress.{ready-next}
 use Rattle.listing.proofs.Chunks.Lines.{first, first-end, first-says, behind-first}
 

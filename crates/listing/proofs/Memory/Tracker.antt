@@ -17,7 +17,7 @@ use Rattle.tracker.specs.Answers.{given}
 use Rattle.limit.specs.Reachable.{Reached}
 use Rattle.limit.proofs.Reachable.{reached-accepted, reached-length}
 use Rattle.listing.specs.declared.Place.{Place}
-use Rattle.listing.specs.Output.{Prints}
+use Rattle.trace.specs.Output.{Prints}
 use Rattle.listing.specs.Steps.{Tracker, Step}
 use Rattle.listing.specs.Memory.{Memory, memory, tracker-in, tracker-of, stored, Running, Ready}
 use Rattle.listing.specs.Contracts.{Lists, Behind, Leaves}

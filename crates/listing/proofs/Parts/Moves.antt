@@ -8,15 +8,16 @@ use lib.ListN.{length, take, drop, length-take, length-drop, take-append-drop}
 use lib.Seq.{take-at, length-take-le}
 use Rattle.trace.specs.Numbers.{written}
 use Rattle.trace.specs.Lines.{ended}
-use Rattle.listing.specs.Output.{Prints}
+use Rattle.trace.specs.Output.{Prints}
 use Rattle.listing.specs.Steps.{Progress}
 use Rattle.listing.specs.Texts.{after}
 use Rattle.listing.specs.Memory.{Memory, Ready, Represents}
-use Rattle.listing.specs.Chunks.{Going, part, kept-bytes, Chunked, chunk}
+use Rattle.trace.specs.Texts.{kept-bytes}
+use Rattle.listing.specs.Chunks.{Going, part, Chunked, chunk}
 use Rattle.listing.specs.Parts.{Printed, lists, ends}
 use Rattle.listing.proofs.Memory.Progress.{represents-memory}
 use Rattle.listing.proofs.Chunks.Lines.{Taken, done-part}
-use Rattle.listing.proofs.Texts.Concatenation.{ended-less}
+use Rattle.trace.proofs.Texts.Cuts.{ended-less}
 
 -- what was printed stands at the buffer's front
 take-printed : {before text buffer : List ℕ} {end : ℕ} → Prints before 0 text buffer end → take end buffer ≡ text

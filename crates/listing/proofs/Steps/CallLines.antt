@@ -18,11 +18,12 @@ use Rattle.tracker.proofs.Calls.Outcomes.{activation-done}
 use Rattle.tracker.specs.Answers.{given, refresh-call, refresh-count, refresh-position}
 use Rattle.limit.specs.Reachable.{Reached}
 use Rattle.limit.proofs.Reachable.{reached-accepted}
-use Rattle.listing.specs.Output.{refusal-line, refresh-line, Prints}
+use Rattle.trace.specs.Output.{refusal-line, Prints}
+use Rattle.listing.specs.Output.{refresh-line}
 use Rattle.listing.specs.Steps.{answered, activation-step, refresh-step}
 use Rattle.listing.specs.Memory.{tracker-in}
 use Rattle.listing.specs.Contracts.{Lists}
-use Rattle.listing.proofs.Output.Printing.{prints-nothing}
+use Rattle.trace.proofs.Output.{prints-nothing}
 use Rattle.listing.proofs.Steps.ReachedCalls.{event-is, event-names, event-leaves, names-few}
 
 -- a refused activation: the state is as it came

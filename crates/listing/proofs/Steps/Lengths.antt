@@ -23,13 +23,14 @@ use Rattle.trace.specs.Records.{record-of}
 use Rattle.trace.specs.Reading.{reading, reading-by, or-refused}
 use Rattle.trace.proofs.Numbers.Printed.{length-printed}
 use Rattle.laws.proofs.Cases.{split, clash}
-use Rattle.listing.specs.Output.{bound-line, refresh-line, refusal-line}
+use Rattle.trace.specs.Output.{refusal-line}
+use Rattle.listing.specs.Output.{bound-line, refresh-line}
 use Rattle.listing.specs.Steps.{Tracker, refused-step, set-up-step, answered, activation-step, refresh-step, record-step, line-step}
-use Rattle.listing.specs.Texts.{read}
+use Rattle.trace.specs.Texts.{read}
 use Rattle.listing.specs.Memory.{Running}
 use Rattle.listing.proofs.Steps.ReachedCalls.{event-is, names-few}
 use Rattle.listing.proofs.Steps.CallLines.{volume-most, list-long}
-use Rattle.listing.proofs.Output.Printing.{length-row-columns}
+use Rattle.trace.proofs.Output.{length-number-columns}
 
 pub length-refusal-line : (number k : ℕ) → length (refusal-line number k) ≡ 18
 unfolding refusal-line
@@ -43,7 +44,7 @@ length-bound-line h = simp length-append (omega (arith, length-printed 10 h, len
 length-refresh-line : (e : ℕ) (picks : List ℕ) → length (refresh-line e picks) ≡ 14 + 6 * length picks
 unfolding refresh-line
 length-refresh-line e picks =
-    simp length-append (omega (arith, length-printed 6 e, length-printed 6 (length picks), length-row-columns picks))
+    simp length-append (omega (arith, length-printed 6 e, length-printed 6 (length picks), length-number-columns picks))
 
 set-up-most : (number : ℕ) (s : Settings) (call : SetUp-call) (o : Outcome Position) → length (set-up-step number s call o .prints) ≤ 110
 unfolding set-up-step refused-step

@@ -15,7 +15,7 @@ use Rattle.tracker.specs.Calls.{SetUp-call, tables-long, set-up-tests, set-up, 
 use Rattle.tracker.proofs.Calls.Tests.{set-up-tested}
 use Rattle.trace.specs.declared.Record.{Record}
 use Rattle.trace.specs.declared.Record.the-variants.{Set, Activate, Refresh, Blank}
-use Rattle.listing.specs.Output.{refusal-line}
+use Rattle.trace.specs.Output.{refusal-line}
 use Rattle.listing.specs.Steps.{Tracker, refused-step, set-up-step, answered, activation-step, refresh-step, record-step, line-step}
 
 -- the number of the next line, from lines counted modulo 10,000,000,000

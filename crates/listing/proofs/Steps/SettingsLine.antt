@@ -19,7 +19,7 @@ use Rattle.tracker.specs.State.{state-of}
 use Rattle.tracker.specs.Calls.{SetUp-call, kept-unless, set-up-tests, set-up}
 use Rattle.tracker.specs.Answers.{given, set-up-call}
 use Rattle.trace.specs.declared.Record.the-variants.{Set}
-use Rattle.listing.specs.Output.{Prints}
+use Rattle.trace.specs.Output.{Prints}
 use Rattle.listing.specs.Steps.{Tracker, refused-step, set-up-step, record-step}
 use Rattle.listing.specs.Memory.{tracker-in}
 use Rattle.listing.specs.Contracts.{settings-line}

@@ -4,7 +4,7 @@ use native.Mathlib.Omega.{arith}
 use borrow.Author.Needs.{needs}
 use lib.ListN.{length}
 use Rattle.listing.specs.Chunks.{next-number}
-use Rattle.listing.proofs.Output.Printing.{prints-nothing}
+use Rattle.trace.proofs.Output.{prints-nothing}
 use Rattle.listing.proofs.Chunks.LastLine.{last-line-none, last-line-short, last-line-some}
 use Rattle.listing.proofs.list_end.Statement.{statement}
 use Rattle.listing.proofs.list_end.Tie as tie

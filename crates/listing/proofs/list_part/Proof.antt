@@ -7,7 +7,7 @@ use borrow.Author.Tests.{leb-true, leb-false}
 use lib.ListN.{length}
 use Rattle.trace.specs.Reading.{Reading}
 use Rattle.listing.specs.Chunks.{part}
-use Rattle.listing.proofs.Texts.NextLine.{place-within, ends-with, ends-without}
+use Rattle.trace.proofs.Texts.NextLine.{place-within, ends-with, ends-without}
 use Rattle.listing.proofs.Chunks.PartLoop.{come, Turning, turning-start, turning-step, going-unended, going-short, going-end}
 use Rattle.listing.proofs.list_part.Statement.{statement}
 use Rattle.listing.proofs.list_part.Tie as tie

@@ -4,7 +4,7 @@ use borrow.Author.Needs.{needs}
 use Prim.Native.Nat.{_*_}
 use Rattle.trace.proofs.Numbers.Printed.{length-printed}
 use Rattle.listing.specs.Output.{bound-line}
-use Rattle.listing.proofs.Output.Printing.{prints-then}
+use Rattle.trace.proofs.Output.{prints-then}
 use Rattle.listing.proofs.print.print_bound.Statement.{statement}
 use Rattle.listing.proofs.print.print_bound.Tie as tie
 

@@ -4,7 +4,7 @@ use borrow.Author.Needs.{needs}
 use lib.Seq.{length-take-le}
 use Rattle.trace.proofs.Numbers.Printed.{length-printed}
 use Rattle.listing.specs.Output.{refresh-line}
-use Rattle.listing.proofs.Output.Printing.{prints-then, length-row-columns-take}
+use Rattle.trace.proofs.Output.{prints-then, length-number-columns-take}
 use Rattle.listing.proofs.print.print_refresh.Statement.{statement}
 use Rattle.listing.proofs.print.print_refresh.Tie as tie
 
@@ -13,15 +13,15 @@ print-columns-requires-2 c κs =
     let start = c .before .before .before .before .before .before .before .before .before .before .before in
     omega (arith, length-printed 6 (start .args .e))
 
-print-rows-requires : tie.Need-print-rows-requires
-print-rows-requires c κs =
+print-numbers-requires : tie.Need-print-numbers-requires
+print-numbers-requires c κs =
     let a = c .before .before .before .before .before .before .before .before .before .before .before .before .before .before .before .args in
     (omega arith, omega (arith, length-printed 6 (a .e), length-printed 6 (a .count)))
 
 print-byte-requires-2 : tie.Need-print-byte-requires-2
 print-byte-requires-2 c κs =
     let a = c .before .before .before .before .before .before .before .before .before .before .before .before .before .before .before .before .before .before .before .args in
-    omega (arith, length-printed 6 (a .e), length-printed 6 (a .count), length-row-columns-take (a .picks .now) (a .count) (omega arith))
+    omega (arith, length-printed 6 (a .e), length-printed 6 (a .count), length-number-columns-take (a .picks .now) (a .count) (omega arith))
 
 returns : tie.Need-returns
 unfolding refresh-line
@@ -29,7 +29,7 @@ returns c =
     let print-byte = c .before .before .before .before .before .before .before .before .before .before .before .before .before .before .before .before .before .before .print-byte in
     let print-columns = c .before .before .before .before .before .before .before .before .before .before .before .before .before .before .print-columns in
     let print-columns2 = c .before .before .before .before .before .before .before .before .before .before .print-columns2 in
-    let print-rows = c .before .before .before .before .before .before .print-rows in
+    let print-numbers = c .before .before .before .before .before .before .print-numbers in
     let start = c .before .before .before .before .before .before .before .before .before .before .before .before .before .before .before .before .before .before .before .before .before .before in
     let a = start .args in
     rw (length-take-le (a .count) (a .picks .now) (omega (arith, start .pre)))
@@ -38,7 +38,7 @@ returns c =
     (prints-then
     (prints-then (print-byte .ensures) (print-columns .ensures))
     (print-columns2 .ensures))
-    (print-rows .ensures))
+    (print-numbers .ensures))
     (c .before .before .print-byte2 .ensures))
 
 pub print-refresh-spec : {M : Type 1} → statement M
@@ -48,7 +48,7 @@ print-refresh-spec =
     (λ c κs. search needs)
     (λ c κs. search needs)
     print-columns-requires-2
-    print-rows-requires
+    print-numbers-requires
     print-byte-requires-2
     (λ c. search needs)
     returns)

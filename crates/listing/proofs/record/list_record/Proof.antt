@@ -2,7 +2,7 @@
 use native.Mathlib.Omega.{arith}
 use borrow.Author.Needs.{needs}
 use Rattle.listing.specs.Steps.{record-step}
-use Rattle.listing.proofs.Output.Printing.{prints-nothing}
+use Rattle.trace.proofs.Output.{prints-nothing}
 use Rattle.listing.proofs.Memory.Tracker.{leaves-unmoved}
 use Rattle.listing.proofs.record.list_record.Statement.{statement}
 use Rattle.listing.proofs.record.list_record.Tie as tie

@@ -1,7 +1,7 @@
--- Lines taken from the front of a text, one after another: what is taken stays whole lines, and its listing grows by one step.
+-- Lines taken from the front of a text, one after another: what is taken stays whole lines, and the reader says one answer more of it.
 use mathlib.Core.Path.{_≡_, refl, ap, sym, _∙_}
 use mathlib.Core.Bool.{true, false}
-use mathlib.Core.List.{List, [], _∷_, _++_, append-nil}
+use mathlib.Core.List.{List, [], _∷_, _++_}
 use Prim.Native.Nat.{ℕ, suc, _+_, _-_, _≤_, _<_}
 use native.Mathlib.Omega.{arith}
 use borrow.Author.Tests.{eq-eqb, ne-eqb}
@@ -10,13 +10,12 @@ use lib.ListN.{length, getD, take, drop, length-drop, length-take}
 use lib.Seq.{take-add, getD-drop}
 use Rattle.device.specs.Refusal.{Outcome}
 use Rattle.laws.proofs.Cases.{split, clash}
 use Rattle.trace.specs.declared.Record.{Record}
 use Rattle.trace.specs.Lines.{ended, extent}
 use Rattle.trace.specs.Reading.{reading, reading-by}
-use Rattle.listing.specs.Steps.{Progress, step, next}
-use Rattle.listing.specs.Texts.{in-front, lines, whole, read, outcomes, listed, passed, listing, after}
-use Rattle.listing.proofs.Texts.FirstLine.{extent-within, read-front}
-use Rattle.listing.proofs.Texts.Concatenation.{outcomes-cut, listed-append, passed-append}
+use Rattle.trace.specs.Texts.{in-front, lines, whole, read, outcomes}
+use Rattle.trace.proofs.Texts.FirstLine.{extent-within, read-front}
+use Rattle.trace.proofs.Texts.Cuts.{outcomes-cut}
 
 extent-some : (text : List ℕ) → 0 < length text → 0 < extent text
 unfolding extent
@@ -110,17 +109,8 @@ module _ (text : List ℕ) (at : ℕ) (h : at < length text) (w : whole (take at
   pub whole-on : ended (drop at text) ≡ true → whole (take (reading text at .place) text) ≡ true
   whole-on e = rw one-more (whole-append (take at text) (take (extent (drop at text)) (drop at text)) w (whole-front (drop at text) e))
 
-  outcomes-on : outcomes (take (reading text at .place) text) ≡ outcomes (take at text) ++ (reading text at .outcome ∷ [])
+  pub outcomes-on : outcomes (take (reading text at .place) text) ≡ outcomes (take at text) ++ (reading text at .outcome ∷ [])
   unfolding read reading reading-by
   outcomes-on =
       ap outcomes one-more ∙ outcomes-cut (take at text) (take (extent (drop at text)) (drop at text)) w ∙
       ap (λ (os : List (Outcome Record)). outcomes (take at text) ++ os) (outcome-alone (drop at text) left)
-
-  pub listing-on : (g : Progress) → listing g (take (reading text at .place) text) ≡ listing g (take at text) ++ step (after g (take at text)) (reading text at .outcome) .prints
-  unfolding listing after listed
-  listing-on g =
-      rw (outcomes-on, listed-append g (outcomes (take at text)) (reading text at .outcome ∷ []), append-nil)
-
-  pub after-on : (g : Progress) → after g (take (reading text at .place) text) ≡ next (after g (take at text)) (reading text at .outcome)
-  unfolding after passed
-  after-on g = rw (outcomes-on, passed-append g (outcomes (take at text)) (reading text at .outcome ∷ []))

@@ -7,9 +7,9 @@ use native.Mathlib.Nat.{add-zero}
 use native.Mathlib.Omega.{arith}
 use lib.ListN.{length, getD, take, drop, set, length-append, length-drop, take-append-drop}
 use lib.Seq.{take-at, drop-append-add, drop-drop, length-take-le, set-split, take-suc}
 use Rattle.trace.specs.Numbers.{printed, written}
 use Rattle.trace.proofs.Numbers.Printed.{length-printed}
-use Rattle.listing.specs.Output.{row-columns, Prints}
+use Rattle.trace.specs.Output.{number-columns, Prints}
 
 length-front : (b x : List ℕ) (at : ℕ) → at ≤ length b → length (take at b ++ x) ≡ at + length x
 length-front b x at h = rw (length-append, length-take-le at b h)
@@ -66,20 +66,20 @@ prints-then {b} {c} {d} {x} {y} {at} {p} {q} f s =
       behind = omega arith;
     }
 
-pub length-row-columns : (rows : List ℕ) → length (row-columns rows) ≡ 6 * length rows
-unfolding row-columns
-length-row-columns [] = refl
-length-row-columns (row ∷ rows) = rw length-append (omega (arith, length-printed 6 row, length-row-columns rows))
+pub length-number-columns : (rows : List ℕ) → length (number-columns rows) ≡ 6 * length rows
+unfolding number-columns
+length-number-columns [] = refl
+length-number-columns (row ∷ rows) = rw length-append (omega (arith, length-printed 6 row, length-number-columns rows))
 
-pub length-row-columns-take : (rows : List ℕ) (i : ℕ) → i ≤ length rows → length (row-columns (take i rows)) ≡ 6 * i
-length-row-columns-take rows i h = length-row-columns (take i rows) ∙ rw (length-take-le i rows h)
+pub length-number-columns-take : (rows : List ℕ) (i : ℕ) → i ≤ length rows → length (number-columns (take i rows)) ≡ 6 * i
+length-number-columns-take rows i h = length-number-columns (take i rows) ∙ rw (length-take-le i rows h)
 
-rows-append : (xs ys : List ℕ) → row-columns (xs ++ ys) ≡ row-columns xs ++ row-columns ys
-unfolding row-columns
-rows-append [] ys = refl
-rows-append (x ∷ xs) ys = rw (rows-append xs ys, append-assoc)
+columns-append : (xs ys : List ℕ) → number-columns (xs ++ ys) ≡ number-columns xs ++ number-columns ys
+unfolding number-columns
+columns-append [] ys = refl
+columns-append (x ∷ xs) ys = rw (columns-append xs ys, append-assoc)
 
 -- one row more
-pub row-columns-more : (rows : List ℕ) (i : ℕ) → i < length rows → row-columns (take (i + 1) rows) ≡ row-columns (take i rows) ++ printed 6 (getD rows i 0)
-unfolding row-columns
-row-columns-more rows i h = rw (add-one i, take-suc rows i 0 h, rows-append, append-nil)
+pub number-columns-more : (rows : List ℕ) (i : ℕ) → i < length rows → number-columns (take (i + 1) rows) ≡ number-columns (take i rows) ++ printed 6 (getD rows i 0)
+unfolding number-columns
+number-columns-more rows i h = rw (add-one i, take-suc rows i 0 h, columns-append, append-nil)

@@ -1,12 +1,12 @@
--- `listing::print::print_refusal` meets its contract: a byte, two numbers and a byte, each right behind the last.
+-- `trace::print_refusal` meets its contract: a byte, two numbers and a byte, each right behind the last.
 use Prim.Native.Nat.{_%_}
 use native.Mathlib.Omega.{arith}
 use borrow.Author.Needs.{needs}
 use Rattle.trace.proofs.Numbers.Printed.{length-printed}
-use Rattle.listing.specs.Output.{refusal-line}
-use Rattle.listing.proofs.Output.Printing.{prints-then}
-use Rattle.listing.proofs.print.print_refusal.Statement.{statement}
-use Rattle.listing.proofs.print.print_refusal.Tie as tie
+use Rattle.trace.specs.Output.{refusal-line}
+use Rattle.trace.proofs.Output.{prints-then}
+use Rattle.trace.proofs.print_refusal.Statement.{statement}
+use Rattle.trace.proofs.print_refusal.Tie as tie
 
 print-columns-requires-2 : tie.Need-print-columns-requires-2
 print-columns-requires-2 c κs =

@@ -8,7 +8,7 @@ use native.Mathlib.Omega.{arith}
 use lib.ListN.{length, getD, set, take, drop, length-take, length-drop, length-append, drop-of-length-le}
 use lib.Seq.{take-all, length-take-le, take-take, take-add, drop-at, set-at, take-suc, drop-cons, append-snoc, getD-append-add, getD-drop}
 use Rattle.laws.proofs.Cases.{le-or-lt}
-use Rattle.listing.specs.Chunks.{kept-bytes}
+use Rattle.trace.specs.Texts.{kept-bytes}
 
 take-within : (to : ℕ) (t : List ℕ) → take to t ≡ take (min to (length t)) t
 take-within to t =

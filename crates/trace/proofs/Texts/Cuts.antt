@@ -2,21 +2,19 @@
 use mathlib.Core.Path.{_≡_, refl, ap, sym, _∙_}
 use mathlib.Core.Bool.{true, false}
 use mathlib.Core.Logic.{⊎-elim}
-use mathlib.Core.List.{List, [], _∷_, _++_, append-assoc, map-append}
+use mathlib.Core.List.{List, [], _∷_, _++_, map-append}
 use Prim.Native.Nat.{ℕ, zero, suc, _+_, _≤_}
 use native.Mathlib.Omega.{arith}
 use lib.Dec.{eqb}
 use lib.ListN.{length, take, drop, length-append}
 use lib.Seq.{take-all, length-take-le, drop-append-add}
-use Rattle.device.specs.Refusal.{Outcome, refused}
+use Rattle.device.specs.Refusal.{refused}
 use Rattle.laws.proofs.Cases.{split, le-or-lt, clash}
-use Rattle.trace.specs.declared.Record.{Record}
 use Rattle.trace.specs.Lines.{ended, extent}
 use Rattle.trace.specs.Reading.{Reading, reading, reading-by}
+use Rattle.trace.specs.Texts.{in-front, lines, whole, read, outcomes}
 use Rattle.trace.proofs.Reading.InParts.{reading-append-unended}
-use Rattle.listing.specs.Steps.{Progress, next}
-use Rattle.listing.specs.Texts.{in-front, lines, whole, read, outcomes, listed, passed, listing, after}
-use Rattle.listing.proofs.Texts.FirstLine.{lines-front, outcomes-front}
+use Rattle.trace.proofs.Texts.FirstLine.{lines-front, outcomes-front}
 
 -- behind the end of a line
 lines-cut : (a b : List ℕ) → whole a ≡ true → lines (a ++ b) ≡ lines a ++ lines b
@@ -31,21 +29,6 @@ lines-cut (x ∷ y ∷ ys) b h =
 pub outcomes-cut : (a b : List ℕ) → whole a ≡ true → outcomes (a ++ b) ≡ outcomes a ++ outcomes b
 unfolding outcomes
 outcomes-cut a b h = rw (lines-cut a b h, map-append)
-
-pub listed-append : (g : Progress) (os ps : List (Outcome Record)) → listed g (os ++ ps) ≡ listed g os ++ listed (passed g os) ps
-unfolding listed passed
-listed-append g [] ps = refl
-listed-append g (o ∷ os) ps = rw (listed-append (next g o) os ps, append-assoc)
-
-pub passed-append : (g : Progress) (os ps : List (Outcome Record)) → passed g (os ++ ps) ≡ passed (passed g os) ps
-unfolding passed
-passed-append g [] ps = refl
-passed-append g (o ∷ os) ps = passed-append (next g o) os ps
-
-module _ (g : Progress) (a b : List ℕ) (h : whole a ≡ true) where
-  pub listing-cut : listing g (a ++ b) ≡ listing g a ++ listing (after g a) b
-  unfolding listing after
-  listing-cut = rw (outcomes-cut a b h) (listed-append g (outcomes a) (outcomes b))
 
 -- a line that is to go on, 64 bytes long: refused, whatever it is and wherever it ends
 refused-on : (u b : List ℕ) → ended u ≡ false → 64 ≤ length u → outcomes (u ++ b) ≡ refused 11 ∷ outcomes (drop (extent b) b)
@@ -62,15 +45,10 @@ ended-less zero u h = refl
 ended-less (suc n) [] h = refl
 ended-less (suc n) (b ∷ u) h = split (eqb b 10) (λ e. clash (rw e at h)) (λ e. rw e (ended-less n u (rw e at h)))
 
-outcomes-kept : (u b : List ℕ) → ended u ≡ false → outcomes (u ++ b) ≡ outcomes (take 64 u ++ b)
+pub outcomes-kept : (u b : List ℕ) → ended u ≡ false → outcomes (u ++ b) ≡ outcomes (take 64 u ++ b)
 outcomes-kept u b e =
     ⊎-elim
     (λ h.
     refused-on u b e h ∙ sym (refused-on (take 64 u) b (ended-less 64 u e) (omega (arith, length-take-le 64 u h))))
     (λ h. rw (take-all 64 u (omega arith)))
     (le-or-lt 64 (length u))
-
--- of a line that has not ended, the first 64 bytes tell as much as the whole
-pub listing-kept : (g : Progress) (u b : List ℕ) → ended u ≡ false → listing g (u ++ b) ≡ listing g (take 64 u ++ b)
-unfolding listing
-listing-kept g u b e = rw (outcomes-kept u b e)

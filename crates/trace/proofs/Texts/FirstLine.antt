@@ -8,10 +8,10 @@ use lib.Dec.{eqb}
 use lib.ListN.{length, take, drop, take-append-drop}
 use lib.Seq.{take-all}
 use Rattle.laws.proofs.Cases.{split, clash}
 use Rattle.trace.specs.Lines.{ended, extent}
 use Rattle.trace.specs.Reading.{Reading}
 use Rattle.trace.proofs.Reading.InParts.{reading-append-ended}
-use Rattle.listing.specs.Texts.{in-front, lines, read, outcomes}
+use Rattle.trace.specs.Texts.{in-front, lines, read, outcomes}
 
 -- the first line goes as far as the reader goes
 pub lines-front : (b : ℕ) (bs : List ℕ) → lines (b ∷ bs) ≡ take (extent (b ∷ bs)) (b ∷ bs) ∷ lines (drop (extent (b ∷ bs)) (b ∷ bs))

@@ -1,9 +1,9 @@
--- `listing::print::print_columns` meets its contract.
+-- `trace::print_columns` meets its contract.
 use native.Mathlib.Omega.{arith}
 use borrow.Author.Needs.{needs}
-use Rattle.listing.proofs.Output.Printing.{prints-number}
-use Rattle.listing.proofs.print.print_columns.Statement.{statement}
-use Rattle.listing.proofs.print.print_columns.Tie as tie
+use Rattle.trace.proofs.Output.{prints-number}
+use Rattle.trace.proofs.print_columns.Statement.{statement}
+use Rattle.trace.proofs.print_columns.Tie as tie
 
 returns : tie.Need-returns
 returns c =

@@ -1,13 +1,13 @@
--- `listing::keep` meets its contract. The invariant: so many bytes are copied.
+-- `trace::keep` meets its contract. The invariant: so many bytes are copied.
 use mathlib.Core.Path.{_≡_, refl, sym, _∙_, ap}
 use mathlib.Core.List.{List, _++_}
 use Prim.Native.Nat.{ℕ, _-_, _≤_}
 use native.Mathlib.Omega.{arith}
 use borrow.Author.Needs.{needs}
 use lib.ListN.{length, drop}
-use Rattle.listing.proofs.Chunks.KeptBytes.{kept-few, kept-is, Copied, copied-long, front-long, copied-on}
-use Rattle.listing.proofs.keep.Statement.{statement}
-use Rattle.listing.proofs.keep.Tie as tie
+use Rattle.trace.proofs.KeptBytes.{kept-few, kept-is, Copied, copied-long, front-long, copied-on}
+use Rattle.trace.proofs.keep.Statement.{statement}
+use Rattle.trace.proofs.keep.Tie as tie
 
 abbrev Inv-loop : tie.InvT-loop
 Inv-loop text₀ from to end begin kept i₀ text i = Copied text₀ begin i text × (i ≤ kept)

@@ -1,0 +1,4 @@
+-- Laws of texts and their lines.
+pub mod FirstLine
+pub mod Cuts
+pub mod NextLine

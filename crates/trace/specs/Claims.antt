@@ -1,0 +1,50 @@
+-- What is claimed of spellings and of the writer. proofs/Claims.antt proves each under the same name.
+use Prim.Native.Nat.{ℕ, _≤_}
+use mathlib.Core.Path.{_≡_}
+use mathlib.Core.Bool.{true}
+use mathlib.Core.List.{List}
+use mathlib.Core.Option.{none}
+use lib.ListN.{length, take}
+use Rattle.device.specs.Refusal.{Outcome, accepted}
+use Rattle.trace.specs.declared.Record.{Record}
+use Rattle.trace.specs.Texts.{outcomes}
+use Rattle.trace.specs.Spelling.{spelling, unblank, unrefused}
+use Rattle.trace.specs.Writing.{first-fault, before-fault, writing}
+
+-- 'The reader returns the records that were written': the written text, read line by line from its start, gives exactly these, blank ones
+-- aside, and no refused line
+unfoldable pub Round-trip : Type 0
+Round-trip =
+    (os : List (Outcome Record)) (text : List ℕ) (n : ℕ) → writing os text .answer ≡ accepted n →
+    (outcomes (take n (writing os text .text)) ≡ unblank os) × (unrefused (unblank os) ≡ true)
+
+-- the same of every trace that a reader can give, settings and rows out of range too
+unfoldable pub Read-back : Type 0
+Read-back = (text : List ℕ) → unrefused (outcomes text) ≡ true → outcomes (spelling (outcomes text)) ≡ unblank (outcomes text)
+
+-- 'Two traces without a refused line carry the same records in the same order, blank lines aside, exactly when their rewritten texts are the
+-- same bytes'
+unfoldable pub One-spelling : Type 0
+One-spelling =
+    (a b : List ℕ) → unrefused (outcomes a) ≡ true → unrefused (outcomes b) ≡ true →
+    (unblank (outcomes a) ≡ unblank (outcomes b) → spelling (outcomes a) ≡ spelling (outcomes b)) ×
+    (spelling (outcomes a) ≡ spelling (outcomes b) → unblank (outcomes a) ≡ unblank (outcomes b))
+
+-- rewriting a rewritten text changes nothing
+unfoldable pub Rewritten-stays : Type 0
+Rewritten-stays =
+    (text : List ℕ) → unrefused (outcomes text) ≡ true → spelling (outcomes (spelling (outcomes text))) ≡ spelling (outcomes text)
+
+-- when the writer gives the spelling: no answer is faulty, and it fits the lent text
+unfoldable pub Writer-spells : Type 0
+Writer-spells =
+    (os : List (Outcome Record)) (text : List ℕ) →
+    (first-fault none os ≡ 0 → length (spelling os) ≤ length text →
+    (writing os text .answer ≡ accepted (length (spelling os))) × (take (length (spelling os)) (writing os text .text) ≡ spelling os)) ×
+    ((n : ℕ) → writing os text .answer ≡ accepted n → (first-fault none os ≡ 0) × (length (spelling os) ≤ length text) × (n ≡ length (spelling os)))
+
+-- the answers before the first faulty one have no fault, and are all where none is faulty
+unfoldable pub Before-sound : Type 0
+Before-sound =
+    (os : List (Outcome Record)) →
+    (first-fault none (before-fault none os) ≡ 0) × (first-fault none os ≡ 0 → before-fault none os ≡ os)
