@@ -5,7 +5,6 @@ use mathlib.Core.List.{List, [], _∷_}
 use mathlib.Core.Option.{Option, none, some}
 use lib.Dec.{eqb, leb, ltb}
 use lib.ListN.{length}
-use Rattle.device.specs.declared.Settings.{Settings}
 use Rattle.device.specs.Refusal.{Outcome, accepted, refused, unless, first-failed}
 use Rattle.device.specs.Acceptance.{settings-tests}
 use Rattle.trace.specs.declared.Record.{Record}
@@ -13,26 +12,26 @@ use Rattle.trace.specs.declared.Record.the-variants.{Set, Activate, Refr
 use Rattle.trace.specs.Numbers.{written}
 use Rattle.trace.specs.Spelling.{spelling}
 
--- 'the settings last before' what follows an answer, if any stand
-unfoldable pub standing-behind : Option Settings → Outcome Record → Option Settings
-standing-behind standing (accepted (Set s)) = some s
+-- N of 'the settings last before' what follows an answer, if any stand: all that is held against them is a row
+unfoldable pub standing-behind : Option ℕ → Outcome Record → Option ℕ
+standing-behind standing (accepted (Set s)) = some (s .rows)
 standing-behind standing (accepted (Activate row)) = standing
 standing-behind standing (accepted Refresh) = standing
 standing-behind standing (accepted Blank) = standing
 standing-behind standing (refused k) = standing
 
 -- 'a row is held against the settings last before it': 9; 'a row before any settings gets 11'
-unfoldable pub row-fault : Option Settings → ℕ → ℕ
+unfoldable pub row-fault : Option ℕ → ℕ → ℕ
 row-fault none row = 11
-row-fault (some s) row = first-failed (unless (ltb row (s .rows)) 9 ∷ [])
+row-fault (some rows) row = first-failed (unless (ltb row rows) 9 ∷ [])
 
 -- 'an event before any settings gets 11'
-unfoldable pub event-fault : Option Settings → ℕ
+unfoldable pub event-fault : Option ℕ → ℕ
 event-fault none = 11
-event-fault (some s) = 0
+event-fault (some rows) = 0
 
 -- the refusal that an answer earns, 0 for none: settings 1 to 7; 'a refusal among the records gets 11'
-unfoldable pub fault : Option Settings → Outcome Record → ℕ
+unfoldable pub fault : Option ℕ → Outcome Record → ℕ
 fault standing (accepted (Set s)) = first-failed (settings-tests s)
 fault standing (accepted (Activate row)) = row-fault standing row
 fault standing (accepted Refresh) = event-fault standing
@@ -40,12 +39,12 @@ fault standing (accepted Blank) = 0
 fault standing (refused k) = 11
 
 -- 'the first faulty record deciding'
-unfoldable pub first-fault : Option Settings → List (Outcome Record) → ℕ
+unfoldable pub first-fault : Option ℕ → List (Outcome Record) → ℕ
 first-fault standing [] = 0
 first-fault standing (o ∷ os) = cond (eqb (fault standing o) 0) (first-fault (standing-behind standing o) os) (fault standing o)
 
 -- the answers before the first faulty one
-unfoldable pub before-fault : Option Settings → List (Outcome Record) → List (Outcome Record)
+unfoldable pub before-fault : Option ℕ → List (Outcome Record) → List (Outcome Record)
 before-fault standing [] = []
 before-fault standing (o ∷ os) = cond (eqb (fault standing o) 0) (o ∷ before-fault (standing-behind standing o) os) []
 
