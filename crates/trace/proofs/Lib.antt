@@ -5,5 +5,7 @@ pub mod Records
 pub mod Reading
 pub mod Texts
 pub mod Output
+pub mod Spelling
 pub mod KeptBytes
 pub mod Contracts
+pub mod Claims

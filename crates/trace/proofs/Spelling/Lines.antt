@@ -1,0 +1,65 @@
+-- Spelled lines: the reader gives their records, whatever text follows.
+use mathlib.Core.Path.{_≡_, refl, ap, _∙_}
+use mathlib.Core.Bool.{false}
+use mathlib.Core.List.{List, [], _∷_, _++_, append-assoc}
+use mathlib.Core.Option.{some, Option, bind}
+use Prim.Native.Nat.{ℕ, _+_, _<_}
+use native.Mathlib.Omega.{arith}
+use borrow.Author.Tests.{eq-eqb}
+use lib.ListN.{length, drop, length-append}
+use lib.Seq.{drop-append-add}
+use Rattle.device.specs.declared.Settings.{Settings}
+use Rattle.device.specs.Refusal.{accepted}
+use Rattle.trace.specs.declared.Record.{Record}
+use Rattle.trace.specs.declared.Record.the-variants.{Set, Activate, Refresh}
+use Rattle.trace.specs.Bytes.{letter-A, letter-R, letter-S}
+use Rattle.trace.specs.Lines.{ended}
+use Rattle.trace.specs.Reading.{or-refused, reading, reading-by}
+use Rattle.trace.specs.Records.{as-settings, settings, activation, refresh, record-of}
+use Rattle.trace.specs.Output.{number-columns}
+use Rattle.trace.specs.Spelling.{settings-numbers, spelled-line, record-spelling}
+use Rattle.trace.specs.Texts.{read, outcomes}
+use Rattle.trace.proofs.Lines.{line-append-end, ended-append-end, extent-append-end}
+use Rattle.trace.proofs.Output.{length-number-columns}
+use Rattle.trace.proofs.Records.{Form, settings-form, activation-form, refresh-form}
+use Rattle.trace.proofs.Spelling.Numbers.{Narrow, field-printed, fields-columns}
+use Rattle.trace.proofs.Texts.FirstLine.{outcomes-front}
+
+-- bytes without byte 10 that say a record, then byte 10
+outcomes-record : (bytes rest : List ℕ) (r : Record) → record-of bytes ≡ some r → ended bytes ≡ false
+    → outcomes (bytes ++ (10 ∷ rest)) ≡ accepted r ∷ outcomes rest
+unfolding read reading reading-by or-refused
+outcomes-record bytes rest r e h =
+    let some-byte : 0 < length (bytes ++ (10 ∷ rest)) = rw length-append (omega arith) in
+    outcomes-front (bytes ++ (10 ∷ rest)) some-byte ∙
+    rw (ended-append-end rest bytes, line-append-end rest bytes h, e, extent-append-end rest bytes h, drop-append-add)
+
+-- a letter and the columns behind it
+outcomes-letter : (letter : ℕ) (ns rest : List ℕ) (r : Record) → record-of (letter ∷ number-columns ns) ≡ some r → ended (letter ∷ number-columns ns) ≡ false
+    → outcomes (spelled-line letter ns ++ rest) ≡ accepted r ∷ outcomes rest
+unfolding spelled-line
+outcomes-letter letter ns rest r e h = rw (append-assoc (number-columns ns) (10 ∷ []) rest) (outcomes-record (letter ∷ number-columns ns) rest r e h)
+
+settings-spelled : (s : Settings) → Narrow (settings-numbers s) → settings (number-columns (settings-numbers s)) ≡ some (Set s)
+unfolding settings as-settings settings-numbers bind
+settings-spelled s h = rw (eq-eqb _ _ (length-number-columns (settings-numbers s)), fields-columns h)
+
+activation-spelled : (row : ℕ) → row < 1000000 → activation (number-columns (row ∷ [])) ≡ some (Activate row)
+unfolding activation bind number-columns
+activation-spelled row h = rw (eq-eqb _ _ (length-number-columns (row ∷ [])), field-printed row [] h)
+
+pub outcomes-settings : (s : Settings) (rest : List ℕ) → Narrow (settings-numbers s) → outcomes (record-spelling (Set s) ++ rest) ≡ accepted (Set s) ∷ outcomes rest
+unfolding record-spelling record-of ended
+outcomes-settings s rest h =
+    let says = settings-spelled s h in
+    outcomes-letter letter-S (settings-numbers s) rest (Set s) says (settings-form .unended (number-columns (settings-numbers s)) (Set s) says)
+
+pub outcomes-activation : (row : ℕ) (rest : List ℕ) → row < 1000000 → outcomes (record-spelling (Activate row) ++ rest) ≡ accepted (Activate row) ∷ outcomes rest
+unfolding record-spelling record-of ended
+outcomes-activation row rest h =
+    let says = activation-spelled row h in
+    outcomes-letter letter-A (row ∷ []) rest (Activate row) says (activation-form .unended (number-columns (row ∷ [])) (Activate row) says)
+
+pub outcomes-refresh : (rest : List ℕ) → outcomes (record-spelling Refresh ++ rest) ≡ accepted Refresh ∷ outcomes rest
+unfolding record-spelling record-of ended refresh number-columns
+outcomes-refresh rest = outcomes-letter letter-R [] rest Refresh refl refl
