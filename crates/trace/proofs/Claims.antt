@@ -1,10 +1,20 @@
 -- The claims of specs/Claims.antt, each under its own name.
-use mathlib.Core.Path.{_≡_, sym, ap, _∙_}
-use Rattle.trace.specs.Claims.{Read-back, One-spelling, Rewritten-stays}
+use mathlib.Core.Path.{sym, ap, _∙_}
+use mathlib.Core.Option.{none}
+use Rattle.trace.specs.Claims.{Round-trip, Read-back, One-spelling, Rewritten-stays, Writer-spells, Before-sound}
 use Rattle.trace.specs.Spelling.{spelling}
 use Rattle.trace.specs.Texts.{outcomes}
 use Rattle.trace.proofs.Spelling.Readable.{outcomes-readable}
-use Rattle.trace.proofs.Spelling.Texts.{outcomes-spelling, spelling-unblank}
+use Rattle.trace.proofs.Spelling.Texts.{outcomes-spelling, unrefused-unblank, spelling-unblank}
+use Rattle.trace.proofs.Writing.{first-fault-before, before-fault-all, faultless-readable, writing-fits, writing-accepted}
+
+pub round-trip : Round-trip
+unfolding Round-trip
+round-trip os text n e =
+    let told = writing-accepted os text n e in
+    let readable = faultless-readable os (told .0) in
+    let spelled = writing-fits os text (told .0) (told .1) .1 in
+    (rw (told .2, spelled) (outcomes-spelling readable), unrefused-unblank readable)
 
 pub read-back : Read-back
 unfolding Read-back
@@ -20,3 +30,11 @@ one-spelling a b ha hb = (
 pub rewritten-stays : Rewritten-stays
 unfolding Rewritten-stays Read-back
 rewritten-stays text h = ap spelling (read-back text h) ∙ spelling-unblank (outcomes text)
+
+pub writer-spells : Writer-spells
+unfolding Writer-spells
+writer-spells os text = (writing-fits os text, writing-accepted os text)
+
+pub before-sound : Before-sound
+unfolding Before-sound
+before-sound os = (first-fault-before none os, before-fault-all none os)

@@ -1,4 +1,5 @@
--- Laws of numbers in columns, of lines, their records and the reader, of texts and what is printed; and of what inner contracts say.
+-- Laws of numbers in columns, of lines, their records and the reader, of texts and what is printed; of the spelling and the writer; of what inner
+-- contracts say; and the claims.
 pub mod Numbers
 pub mod Lines
 pub mod Records
@@ -6,6 +7,7 @@ pub mod Reading
 pub mod Texts
 pub mod Output
 pub mod Spelling
+pub mod Writing
 pub mod KeptBytes
 pub mod Contracts
 pub mod Claims

@@ -1,12 +1,12 @@
 -- Spelled lines: the reader gives their records, whatever text follows.
-use mathlib.Core.Path.{_≡_, refl, ap, _∙_}
+use mathlib.Core.Path.{_≡_, refl, _∙_}
 use mathlib.Core.Bool.{false}
 use mathlib.Core.List.{List, [], _∷_, _++_, append-assoc}
-use mathlib.Core.Option.{some, Option, bind}
-use Prim.Native.Nat.{ℕ, _+_, _<_}
+use mathlib.Core.Option.{some, bind}
+use Prim.Native.Nat.{ℕ, _<_}
 use native.Mathlib.Omega.{arith}
 use borrow.Author.Tests.{eq-eqb}
-use lib.ListN.{length, drop, length-append}
+use lib.ListN.{length, length-append}
 use lib.Seq.{drop-append-add}
 use Rattle.device.specs.declared.Settings.{Settings}
 use Rattle.device.specs.Refusal.{accepted}
@@ -21,7 +21,7 @@ use Rattle.trace.specs.Spelling.{settings-numbers, spelled-line, record-
 use Rattle.trace.specs.Texts.{read, outcomes}
 use Rattle.trace.proofs.Lines.{line-append-end, ended-append-end, extent-append-end}
 use Rattle.trace.proofs.Output.{length-number-columns}
-use Rattle.trace.proofs.Records.{Form, settings-form, activation-form, refresh-form}
+use Rattle.trace.proofs.Records.{settings-form, activation-form}
 use Rattle.trace.proofs.Spelling.Numbers.{Narrow, field-printed, fields-columns}
 use Rattle.trace.proofs.Texts.FirstLine.{outcomes-front}
 

@@ -1,12 +1,12 @@
 -- A number that is printed and read back: its columns give the number again, one by one and as a line's fields.
-use mathlib.Core.Path.{_≡_, refl, ap, _∙_}
+use mathlib.Core.Path.{_≡_, refl, _∙_}
 use mathlib.Core.List.{List, [], _∷_, _++_, append-assoc}
 use mathlib.Core.Option.{some, bind}
 use Prim.Native.Nat.{ℕ, zero, suc, _+_, _-_, _*_, _^_, _/_, _%_, _≤_, _<_}
 use native.Mathlib.Nat.{pow-suc}
 use native.Mathlib.Omega.{arith}
 use borrow.Author.Tests.{ne-eqb}
-use lib.ListN.{length, take, drop}
+use lib.ListN.{length}
 use lib.Seq.{take-at, drop-at}
 use Rattle.trace.specs.Numbers.{digits, number, field, fields, digit-or-blank, columns-before, printed}
 use Rattle.trace.specs.Output.{number-columns}
@@ -42,7 +42,7 @@ number-before (suc k) (suc m) d bytes h =
     rw append-assoc
     (number-before k (suc m / 10) (suc m % 10) digit less ∙ digits-more (suc m / 10) (suc m % 10) digit (omega arith) ∙ rw whole)
 
-pub number-printed : (k n : ℕ) → n < 10 ^ suc k → number (printed (suc k) n) ≡ some n
+number-printed : (k n : ℕ) → n < 10 ^ suc k → number (printed (suc k) n) ≡ some n
 unfolding printed digits
 number-printed k n h =
     let less : n / 10 < 10 ^ k = omega (arith, pow-suc 10 k) in

@@ -1,0 +1,123 @@
+-- The writer: answers without a fault are readable, those before the first faulty one have none, and when the spelling is written.
+use mathlib.Core.Path.{_≡_, refl}
+use mathlib.Core.Logic.{⊎-elim}
+use mathlib.Core.List.{List, [], _∷_}
+use mathlib.Core.Option.{Option, none, some}
+use Prim.Native.Nat.{ℕ, zero, suc, _+_, _≤_, _<_}
+use native.Mathlib.Omega.{arith}
+use borrow.Author.Tests.{ltb-true, leb-true, le-leb, eqb-true, eqb-false, eq-eqb}
+use lib.Dec.{eqb, leb, ltb}
+use lib.ListN.{length, take, drop}
+use lib.Seq.{take-append-seam}
+use Rattle.device.specs.declared.Settings.{Settings}
+use Rattle.device.specs.Refusal.{Outcome, accepted, refused, unless, refuse, first-failed}
+use Rattle.device.proofs.Acceptance.{Between, Accepted, accepted-settings}
+use Rattle.device.proofs.Refusal.{refuse-passed}
+use Rattle.laws.proofs.Cases.{split, zero-one}
+use Rattle.trace.specs.declared.Record.{Record}
+use Rattle.trace.specs.declared.Record.the-variants.{Set, Activate, Refresh, Blank}
+use Rattle.trace.specs.Numbers.{written}
+use Rattle.trace.specs.Spelling.{settings-numbers, spelling}
+use Rattle.trace.specs.Writing.{standing-behind, row-fault, fault, first-fault, before-fault, room-fault, writing-fault, writing-by, writing}
+use Rattle.trace.proofs.Spelling.Numbers.{Narrow, no-number, one-more}
+use Rattle.trace.proofs.Spelling.Readable.{Readable, Readables, no-answer, one-answer-more, of-settings, of-activation, of-refresh, of-blank}
+
+-- the first answer has no fault, nor has any behind it
+first-fault-none : (standing : Option ℕ) (o : Outcome Record) (os : List (Outcome Record)) → first-fault standing (o ∷ os) ≡ 0
+    → (fault standing o ≡ 0) × (first-fault (standing-behind standing o) os ≡ 0)
+unfolding first-fault
+first-fault-none standing o os e =
+    split (eqb (fault standing o) 0)
+    (λ q. (eqb-true (fault standing o) 0 q, rw q at e))
+    (λ q. absurd (eqb-false (fault standing o) 0 q (rw q at e)))
+
+pub first-fault-before : (standing : Option ℕ) (os : List (Outcome Record)) → first-fault standing (before-fault standing os) ≡ 0
+unfolding first-fault before-fault
+first-fault-before standing [] = refl
+first-fault-before standing (o ∷ os) =
+    split (eqb (fault standing o) 0) (λ q. rw (q, q) (first-fault-before (standing-behind standing o) os)) (λ q. rw q)
+
+pub before-fault-all : (standing : Option ℕ) (os : List (Outcome Record)) → first-fault standing os ≡ 0 → before-fault standing os ≡ os
+unfolding before-fault
+before-fault-all standing [] e = refl
+before-fault-all standing (o ∷ os) e =
+    let first = first-fault-none standing o os e in
+    rw (eq-eqb _ _ (first .0), before-fault-all (standing-behind standing o) os (first .1))
+
+-- the rows of standing settings, if any stand, are at most those of a bank
+data Standing : Option ℕ → Type 0 where
+  no-settings : Standing none
+  some-settings : {rows : ℕ} → rows ≤ 65536 → Standing (some rows)
+
+between-lt : {low high x : ℕ} → Between low high x → high < 1000000 → x < 1000000
+between-lt h k = omega arith
+
+narrow-accepted : (s : Settings) → Accepted s → Narrow (settings-numbers s)
+unfolding settings-numbers
+narrow-accepted s h =
+    let diameter : s .«blast_diameter» < 1000000 = ⊎-elim (λ e. omega arith) (λ e. omega arith) (h .others .diameter) in
+    one-more (between-lt (h .others .rows) (omega arith))
+    (one-more diameter
+    (one-more (between-lt (h .others .volume) (omega arith))
+    (one-more (between-lt (h .counters) (omega arith))
+    (one-more (between-lt (h .others .interval) (omega arith))
+    (one-more (between-lt (h .others .window) (omega arith))
+    (one-more (between-lt (h .others .block) (omega arith)) no-number))))))
+
+row-fault-lt : {standing : Option ℕ} (row : ℕ) → Standing standing → row-fault standing row ≡ 0 → row < 1000000
+unfolding row-fault first-failed unless
+row-fault-lt row no-settings e = absurd (omega arith)
+row-fault-lt row (some-settings {rows} h) e = omega (arith, ltb-true row rows (refuse-passed (ltb row rows) 8 0 e .0))
+
+answer-faultless : {standing : Option ℕ} (o : Outcome Record) → Standing standing → fault standing o ≡ 0 → Readable o × Standing (standing-behind standing o)
+unfolding fault standing-behind
+answer-faultless (accepted (Set s)) h e =
+    let all = accepted-settings s e in
+    (of-settings (narrow-accepted s all), some-settings (all .others .rows .most))
+answer-faultless (accepted (Activate row)) h e = (of-activation (row-fault-lt row h e), h)
+answer-faultless (accepted Refresh) h e = (of-refresh, h)
+answer-faultless (accepted Blank) h e = (of-blank, h)
+answer-faultless (refused k) h e = absurd (omega arith)
+
+readable-behind : {standing : Option ℕ} (os : List (Outcome Record)) → Standing standing → first-fault standing os ≡ 0 → Readables os
+readable-behind [] h e = no-answer
+readable-behind {standing} (o ∷ os) h e =
+    let first = first-fault-none standing o os e in
+    let answer = answer-faultless o h (first .0) in
+    one-answer-more (answer .0) (readable-behind os (answer .1) (first .1))
+
+pub faultless-readable : (os : List (Outcome Record)) → first-fault none os ≡ 0 → Readables os
+faultless-readable os e = readable-behind os no-settings e
+
+room-fault-none : (k needed room : ℕ) → room-fault k needed room ≡ 0 → (k ≡ 0) × (needed ≤ room)
+unfolding room-fault first-failed unless
+room-fault-none zero needed room e = (refl, leb-true needed room (refuse-passed (leb needed room) 12 0 e .0))
+room-fault-none (suc k) needed room e = absurd (omega arith)
+
+room-fault-fits : (needed room : ℕ) → needed ≤ room → room-fault 0 needed room ≡ 0
+unfolding room-fault first-failed unless refuse
+room-fault-fits needed room h = rw (le-leb _ _ h)
+
+take-written : (text bytes : List ℕ) → take (length bytes) (written text 0 bytes) ≡ bytes
+unfolding written
+take-written text bytes = take-append-seam bytes (drop (0 + length bytes) text)
+
+pub writing-fits : (os : List (Outcome Record)) (text : List ℕ) → first-fault none os ≡ 0 → length (spelling os) ≤ length text
+    → (writing os text .answer ≡ accepted (length (spelling os))) × (take (length (spelling os)) (writing os text .text) ≡ spelling os)
+unfolding writing writing-fault writing-by
+writing-fits os text e h =
+    let none-fails : room-fault (first-fault none os) (length (spelling os)) (length text) ≡ 0 = rw e (room-fault-fits (length (spelling os)) (length text) h) in
+    (rw none-fails, rw none-fails (take-written text (spelling os)))
+
+accepted-by : (k n : ℕ) (bytes text : List ℕ) → writing-by k bytes text .answer ≡ accepted n → (k ≡ 0) × (n ≡ length bytes)
+unfolding writing-by
+accepted-by zero n bytes text e = (refl, cc)
+accepted-by (suc k) n bytes text e = zero-one (cc)
+
+pub writing-accepted : (os : List (Outcome Record)) (text : List ℕ) (n : ℕ) → writing os text .answer ≡ accepted n
+    → (first-fault none os ≡ 0) × (length (spelling os) ≤ length text) × (n ≡ length (spelling os))
+unfolding writing writing-fault
+writing-accepted os text n e =
+    let passed = accepted-by _ n (spelling os) text e in
+    let fits = room-fault-none (first-fault none os) (length (spelling os)) (length text) (passed .0) in
+    (fits .0, fits .1, passed .1)
