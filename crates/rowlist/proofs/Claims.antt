@@ -1,11 +1,11 @@
 -- All that the turns of a run hand to be written is the listing of all that its reads brought.
-use mathlib.Core.Path.{_≡_, refl, sym, _∙_, ap}
+use mathlib.Core.Path.{_≡_, refl}
 use mathlib.Core.Bool.{false}
-use mathlib.Core.List.{List, [], _++_}
+use mathlib.Core.List.{List, []}
 use Prim.Native.Nat.{ℕ, _+_}
 use native.Mathlib.Omega.{arith}
-use lib.ListN.{length, take, drop, take-append-drop}
-use lib.Seq.{take-take, take-at}
+use lib.ListN.{length, take, drop}
+use lib.Seq.{take-at}
 use Rattle.trace.specs.Numbers.{written}
 use Rattle.trace.specs.Lines.{ended}
 use Rattle.listing.specs.Steps.{Progress}
@@ -16,16 +16,10 @@ use Rattle.listing.specs.Claims.{Parts-joined, Chunk-moves, End-moves}
 use Rattle.listing.proofs.Memory.Progress.{represents-start}
 use Rattle.listing.proofs.Parts.Moves.{ended-kept}
 use Rattle.listing.proofs.Claims.{parts-joined, chunk-moves, end-moves}
-use Rattle.rowlist.specs.declared.Input.the-variants.{Bytes}
-use Rattle.rowlist.specs.Turns.{Within, Came, turn-of, Turns, goes-on, stops}
+use Rattle.input.specs.AtHand.{Within}
+use Rattle.input.proofs.AtHand.{at-hand}
+use Rattle.rowlist.specs.Turns.{turn-of, Turns, goes-on, stops}
 use Rattle.rowlist.specs.Claims.{Turns-listed}
-
--- the bytes at hand are those kept, and behind them those that the read brought
-at-hand : {kept len : ℕ} {text text₁ : List ℕ} → Came (Bytes len) kept text text₁ → take len text₁ ≡ take kept text ++ drop kept (take len text₁)
-unfolding Within
-at-hand {kept} {len} {text} {text₁} c =
-    let front : take kept (take len text₁) ≡ take kept text = take-take kept len text₁ (omega (arith, c .within .0)) ∙ c .front in
-    sym (ap (λ (f : List ℕ). f ++ drop kept (take len text₁)) (sym front) ∙ take-append-drop kept (take len text₁))
 
 turns-printed : {m : Memory} {g : Progress} {text : List ℕ} {kept : ℕ} {parts : List (List ℕ)} {out : List ℕ} → Represents m g → ended (take kept text) ≡ false → Turns m text kept parts out → Printed g (take kept text) parts out
 unfolding Chunk-moves End-moves turn-of Within written

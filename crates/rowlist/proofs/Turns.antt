@@ -1,56 +1,20 @@
 -- What a turn leaves: memory that is still a listing's, no more to write than the buffer holds, and no more kept than the text holds.
-use mathlib.Core.Path.{_≡_, refl}
+use mathlib.Core.Path.{_≡_}
 use mathlib.Core.Bool.{true, false}
 use mathlib.Core.List.{List}
-use Prim.Native.Nat.{ℕ, _≤_, zero, suc, _+_, min}
+use Prim.Native.Nat.{ℕ, _≤_}
 use native.Mathlib.Nat.{zero-add}
 use native.Mathlib.Omega.{arith}
-use lib.IntN.{ℤ, pos, negsuc}
-use lib.Signed.{ltZ}
-use borrow.Author.Tests.{ltb-true}
-use Rattle.io.specs.Counts.{clamped}
-use Rattle.laws.proofs.Cases.{clash}
 use lib.ListN.{length, take}
 use Rattle.trace.specs.Output.{Prints}
 use Rattle.listing.specs.Memory.{Memory, Ready}
 use Rattle.listing.specs.Chunks.{next-number, Chunked, chunk, last-line}
 use Rattle.listing.proofs.Parts.Moves.{steady-chunk}
 use Rattle.listing.proofs.Chunks.LastLine.{length-last-line}
-use Rattle.rowlist.specs.declared.Input.{Input}
-use Rattle.rowlist.specs.declared.Input.the-variants.{Bytes, End, Failed}
-use Rattle.rowlist.specs.Turns.{at-hand, input-of, Within, Turned, turn-of}
-
--- a read's answer by the tests on it
-pub input-failed : (got : ℤ) (kept room : ℕ) → ltZ got (pos 0) ≡ true → Failed ≡ input-of got kept room
-unfolding input-of
-input-failed (pos n) kept room below = absurd (omega (arith, ltb-true n 0 below))
-input-failed (negsuc k) kept room below = refl
-
-pub input-ended : (got : ℤ) (kept room more : ℕ) → ltZ got (pos 0) ≡ false → more ≡ clamped got room → more ≡ 0 → End ≡ input-of got kept room
-unfolding input-of at-hand
-input-ended (pos n) kept room more up came none = let zero-came : min n room ≡ 0 = omega arith in rw zero-came
-input-ended (negsuc k) kept room more up came none = clash up
-
-at-hand-some : (kept more : ℕ) → (more ≡ 0 → ⊥) → Bytes (kept + more) ≡ at-hand kept more
-unfolding at-hand
-at-hand-some kept zero some = absurd (some refl)
-at-hand-some kept (suc more) some = refl
-
-pub input-bytes : (got : ℤ) (kept room more : ℕ) → ltZ got (pos 0) ≡ false → more ≡ clamped got room → (more ≡ 0 → ⊥) → Bytes (kept + more) ≡ input-of got kept room
-unfolding input-of
-input-bytes (pos n) kept room more up came some = rw (← came) (at-hand-some kept more some)
-input-bytes (negsuc k) kept room more up came some = clash up
-
-within-at-hand : (kept more most : ℕ) → kept + more ≤ most → Within (at-hand kept more) kept most
-unfolding at-hand Within
-within-at-hand kept zero most h = tt
-within-at-hand kept (suc more) most h = (omega arith, h)
-
--- what a read's answer says is within the text
-pub within-input : (got : ℤ) (kept room most : ℕ) → kept + room ≤ most → Within (input-of got kept room) kept most
-unfolding input-of Within
-within-input (negsuc k) kept room most h = tt
-within-input (pos n) kept room most h = within-at-hand kept (min n room) most (omega arith)
+use Rattle.input.specs.declared.Input.{Input}
+use Rattle.input.specs.declared.Input.the-variants.{Bytes, End, Failed}
+use Rattle.input.specs.AtHand.{Within}
+use Rattle.rowlist.specs.Turns.{Turned, turn-of}
 
 pub record Steady (most room : ℕ) (q : Turned) : Type 0 where
   pub ready : Ready (q .memory)

@@ -1,39 +1,18 @@
--- The program's turns: what a read leaves at hand, what lies between two reads, and what all turns print.
-use Prim.Native.Nat.{ℕ, zero, suc, _+_, _*_, _≤_, _<_, min}
+-- The program's turns: what lies between two reads, and what all turns print.
+use Prim.Native.Nat.{ℕ, _+_, _*_, _≤_}
 use mathlib.Core.Path.{_≡_}
 use mathlib.Core.Bool.{Bool, true, false}
 use mathlib.Core.List.{List, [], _∷_, _++_}
-use lib.IntN.{ℤ, pos, negsuc}
 use lib.ListN.{length, take, drop}
 use denote.Ref.{now}
 use Rattle.laws.specs.Lent.{Slice, Lent}
 use Rattle.trace.specs.Numbers.{written}
 use Rattle.listing.specs.Memory.{Memory, memory, memory-of}
 use Rattle.listing.specs.Chunks.{next-number, line-room, chunk, last-line}
-use Rattle.rowlist.specs.declared.Input.{Input}
-use Rattle.rowlist.specs.declared.Input.the-variants.{Bytes, End, Failed}
+use Rattle.input.specs.declared.Input.{Input}
+use Rattle.input.specs.declared.Input.the-variants.{Bytes, End, Failed}
+use Rattle.input.specs.AtHand.{Within, Came}
 use Rattle.rowlist.specs.declared.Turn.{Turn}
-
--- so many bytes more than those kept are at hand; none: the input has ended
-unfoldable pub at-hand : ℕ → ℕ → Input
-at-hand kept zero = End
-at-hand kept (suc more) = Bytes (kept + suc more)
-
--- what a read's answer says: below 0 it failed; else so many bytes came, no more than there is room for
-unfoldable pub input-of : ℤ → ℕ → ℕ → Input
-input-of (negsuc k) kept room = Failed
-input-of (pos n) kept room = at-hand kept (min n room)
-
--- the bytes at hand are more than those kept, and no more than a text has
-unfoldable pub Within : Input → ℕ → ℕ → Type 0
-Within (Bytes len) kept most = (kept < len) × (len ≤ most)
-Within End kept most = Unit {0}
-Within Failed kept most = Unit {0}
-
--- what a read behind the kept bytes leaves: these are as they were
-pub record Came (input : Input) (kept : ℕ) (before after : List ℕ) : Type 0 where
-  pub front : take kept after ≡ take kept before
-  pub within : Within input kept (length after)
 
 -- what lies between two reads leaves: memory, text and buffer, how many bytes are kept and how many are to be written, and whether to read again
 pub record Turned : Type 0 where

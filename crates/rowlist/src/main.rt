@@ -1,14 +1,13 @@
 // Lists a trace: standard input to standard output, through buffers of fixed size.
-use libc::STDIN_FILENO;
+use input::Input;
 use libc::STDOUT_FILENO;
 use listing::Place;
 ghost use mathlib.Core.Path.{_≡_};
 ghost use mathlib.Core.Bool.{true};
-ghost use Prim.Native.Nat.{_+_, _*_, _≤_};
 ghost use lib.ListN.{length};
 ghost use Rattle.device.specs.Acceptance.{most-counters};
 ghost use Rattle.listing.specs.Memory.{memory-of, start-place, Ready};
-ghost use Rattle.rowlist.specs.Turns.{input-of, Readable, Came, turn-from, turn-left};
+ghost use Rattle.rowlist.specs.Turns.{Readable, turn-from, turn-left};
 
 // The most counters that settings allow, the bytes of a read, and room for what they print.
 const MOST_COUNTERS: usize = 2_048;
@@ -17,13 +16,6 @@ const TEXT: usize = 4_096;
 
 const OUT: usize = 262_144;
 
-// What a read came to: so many bytes at hand, the input's end, or a failure.
-enum Input {
-    Bytes(usize),
-    End,
-    Failed,
-}
-
 // What lies between two reads left: where the listing is, how many bytes are kept at the text's front and how many are to be written, and
 // whether to read again.
 struct Turn {
@@ -31,31 +23,6 @@ struct Turn {
     kept: usize,
     end: usize,
     more: bool,
-}
-
-// What a read's answer says: a failure, the input's end, or so many bytes behind those that are kept.
-fn input_from(got: isize, kept: usize, part: &[u8]) -> Input
-    requires { ⌜ kept + length (now part) ≤ 18446744073709551615 ⌝ }
-    ensures { λ r. ⌜ r ≡ input-of got kept (length (now (part .entry))) ⌝ }
-{
-    if got < 0 {
-        return Input::Failed;
-    }
-    let more = io::count(got, part);
-    if more == 0 {
-        return Input::End;
-    }
-    Input::Bytes(kept + more)
-}
-
-// Reads behind the bytes that are kept at the front; how many bytes are at hand then.
-fn read_behind(text: &mut [u8], kept: usize) -> Input
-    requires { ⌜ kept ≤ length (now text) ⌝ }
-    ensures { λ r. ⌜ Came r kept (now (text .entry)) (now (text .exit)) ⌝ }
-{
-    let part = &mut text[kept..];
-    let got = libc::read(STDIN_FILENO, part);
-    input_from(got, kept, part)
 }
 
 // What lies between two reads: what came in is listed, up to the last line's end.
@@ -121,7 +88,7 @@ fn run(rows: &mut [u32], counts: &mut [u32], text: &mut [u8], out: &mut [u8])
     let mut turn = first_turn();
     let mut turns = u64::MAX;
     while turns > 0 {
-        let input = read_behind(text, turn.kept);
+        let input = input::read_behind(text, turn.kept);
         turn = between_reads(turn, rows, counts, text, input, out);
         let end = turn.end;
         if !io::write_all(STDOUT_FILENO, &out[..end]) {

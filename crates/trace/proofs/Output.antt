@@ -1,7 +1,7 @@
 -- Texts printed one right behind another.
 use mathlib.Core.Path.{_≡_, refl, ap, sym, _∙_}
 use mathlib.Core.List.{List, [], _∷_, _++_, append-assoc, append-nil}
-use Prim.Native.Nat.{ℕ, _+_, _*_, _≤_, _<_}
+use Prim.Native.Nat.{ℕ, suc, _+_, _*_, _%_, _≤_, _<_}
 use native.Mathlib.Numerals.{add-one}
 use native.Mathlib.Nat.{add-zero}
 use native.Mathlib.Omega.{arith}
@@ -9,7 +9,7 @@ use lib.ListN.{length, getD, take, drop, set, length-append, length-drop, take-a
 use lib.Seq.{take-at, drop-append-add, drop-drop, length-take-le, set-split, take-suc}
 use Rattle.trace.specs.Numbers.{printed, written}
 use Rattle.trace.proofs.Numbers.Printed.{length-printed}
-use Rattle.trace.specs.Output.{number-columns, Prints}
+use Rattle.trace.specs.Output.{number-columns, refusal-line, Prints}
 
 length-front : (b x : List ℕ) (at : ℕ) → at ≤ length b → length (take at b ++ x) ≡ at + length x
 length-front b x at h = rw (length-append, length-take-le at b h)
@@ -83,3 +83,17 @@ columns-append (x ∷ xs) ys = rw (columns-append xs ys, append-assoc)
 pub number-columns-more : (rows : List ℕ) (i : ℕ) → i < length rows → number-columns (take (i + 1) rows) ≡ number-columns (take i rows) ++ printed 6 (getD rows i 0)
 unfolding number-columns
 number-columns-more rows i h = rw (add-one i, take-suc rows i 0 h, columns-append, append-nil)
+
+pub length-refusal-line : (number k : ℕ) → length (refusal-line number k) ≡ 18
+unfolding refusal-line
+length-refusal-line number k =
+    simp length-append (omega (arith, length-printed 10 (number % 10000000000), length-printed 6 k))
+
+-- lines whose numbers are alike modulo 10,000,000,000 print the same
+pub refusal-alike : (n m : ℕ) → n % 10000000000 ≡ m % 10000000000 → (k : ℕ) → refusal-line n k ≡ refusal-line m k
+unfolding refusal-line
+refusal-alike n m e k = rw e
+
+-- the number of the next line, from lines counted modulo 10,000,000,000
+pub counted-on : (lines count : ℕ) → lines % 10000000000 ≡ count % 10000000000 → (lines % 10000000000 + 1) % 10000000000 ≡ suc count % 10000000000
+counted-on lines count e = omega arith

@@ -16,8 +16,7 @@ use Rattle.trace.specs.Texts.{lines, read, outcomes}
 use Rattle.listing.specs.Texts.{listed, listing}
 use Rattle.listing.specs.Memory.{Memory, Represents}
 use Rattle.listing.specs.Chunks.{next-number, last-line}
-use Rattle.listing.proofs.Steps.LineNumbers.{counted-on, refusal-alike}
-use Rattle.listing.proofs.Steps.Lengths.{length-refusal-line}
+use Rattle.trace.proofs.Output.{counted-on, refusal-alike, length-refusal-line}
 use Rattle.trace.proofs.Texts.FirstLine.{extent-most, outcomes-front}
 
 none-left : outcomes [] ≡ []

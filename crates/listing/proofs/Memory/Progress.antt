@@ -15,7 +15,8 @@ use Rattle.trace.specs.declared.Record.the-variants.{Set, Activate, Refresh, Bl
 use Rattle.listing.specs.Steps.{Tracker, Progress, start, Step, refused-step, set-up-step, activation-step, refresh-step, record-step, line-step, step, next}
 use Rattle.listing.specs.Memory.{Memory, memory, start-place, tracker-of, stored, Running, Ready, Represents}
 use Rattle.listing.specs.Chunks.{next-number, step-in, next-in}
-use Rattle.listing.proofs.Steps.LineNumbers.{counted-on, line-alike}
+use Rattle.trace.proofs.Output.{counted-on}
+use Rattle.listing.proofs.Steps.LineNumbers.{line-alike}
 use Rattle.listing.proofs.Memory.Tracker.{tracker-stored, ready-stored}
 
 set-up-runs : (number : ℕ) (s : Settings) (rows counts : List ℕ) (o : Outcome Position) → set-up s rows counts .answer ≡ o → Running (set-up-step number s (set-up s rows counts) o .tracker)

@@ -3,7 +3,7 @@ use mathlib.Core.Path.{_≡_, refl, sym}
 use mathlib.Core.Bool.{true}
 use mathlib.Core.List.{List, [], _∷_}
 use mathlib.Core.Option.{Option, none, some}
-use Prim.Native.Nat.{ℕ, zero, suc, _+_, _*_, _%_, _≤_}
+use Prim.Native.Nat.{ℕ, zero, suc, _+_, _*_, _≤_}
 use native.Mathlib.Omega.{arith}
 use borrow.Author.Tests.{eqb-true}
 use lib.Dec.{eqb}
@@ -23,19 +23,13 @@ use Rattle.trace.specs.Records.{record-of}
 use Rattle.trace.specs.Reading.{reading, reading-by, or-refused}
 use Rattle.trace.proofs.Numbers.Printed.{length-printed}
 use Rattle.laws.proofs.Cases.{split, clash}
-use Rattle.trace.specs.Output.{refusal-line}
 use Rattle.listing.specs.Output.{bound-line, refresh-line}
 use Rattle.listing.specs.Steps.{Tracker, refused-step, set-up-step, answered, activation-step, refresh-step, record-step, line-step}
 use Rattle.trace.specs.Texts.{read}
 use Rattle.listing.specs.Memory.{Running}
 use Rattle.listing.proofs.Steps.ReachedCalls.{event-is, names-few}
 use Rattle.listing.proofs.Steps.CallLines.{volume-most, list-long}
-use Rattle.trace.proofs.Output.{length-number-columns}
-
-pub length-refusal-line : (number k : ℕ) → length (refusal-line number k) ≡ 18
-unfolding refusal-line
-length-refusal-line number k =
-    simp length-append (omega (arith, length-printed 10 (number % 10000000000), length-printed 6 k))
+use Rattle.trace.proofs.Output.{length-number-columns, length-refusal-line}
 
 length-bound-line : (h : ℕ) → length (bound-line h) ≡ 22
 unfolding bound-line

@@ -2,8 +2,7 @@
 use mathlib.Core.Path.{_≡_, refl, _∙_}
 use mathlib.Core.List.{List, []}
 use mathlib.Core.Option.{Option, none, some}
-use Prim.Native.Nat.{ℕ, zero, suc, _+_, _%_}
-use native.Mathlib.Omega.{arith}
+use Prim.Native.Nat.{ℕ, zero, suc, _%_}
 use borrow.Author.Tests.{eq-eqb}
 use lib.ListN.{length, replicate}
 use Rattle.device.specs.declared.Settings.{Settings}
@@ -15,26 +14,18 @@ use Rattle.tracker.specs.Calls.{SetUp-call, tables-long, set-up-tests, set-up, 
 use Rattle.tracker.proofs.Calls.Tests.{set-up-tested}
 use Rattle.trace.specs.declared.Record.{Record}
 use Rattle.trace.specs.declared.Record.the-variants.{Set, Activate, Refresh, Blank}
-use Rattle.trace.specs.Output.{refusal-line}
+use Rattle.trace.proofs.Output.{refusal-alike}
 use Rattle.listing.specs.Steps.{Tracker, refused-step, set-up-step, answered, activation-step, refresh-step, record-step, line-step}
 
--- the number of the next line, from lines counted modulo 10,000,000,000
-pub counted-on : (lines count : ℕ) → lines % 10000000000 ≡ count % 10000000000 → (lines % 10000000000 + 1) % 10000000000 ≡ suc count % 10000000000
-counted-on lines count e = omega arith
-
 module _ (n m : ℕ) (e : n % 10000000000 ≡ m % 10000000000) where
-  pub refusal-alike : (k : ℕ) → refusal-line n k ≡ refusal-line m k
-  unfolding refusal-line
-  refusal-alike k = rw e
-
   answered-alike : (k : ℕ) (text : List ℕ) → answered n k text ≡ answered m k text
   unfolding answered
   answered-alike zero text = refl
-  answered-alike (suc k) text = refusal-alike (suc k)
+  answered-alike (suc k) text = refusal-alike n m e (suc k)
 
   refused-alike : (k : ℕ) (t : Option Tracker) → refused-step n k t ≡ refused-step m k t
   unfolding refused-step
-  refused-alike k t = rw (refusal-alike k)
+  refused-alike k t = rw (refusal-alike n m e k)
 
   set-up-step-alike : (s : Settings) (call : SetUp-call) (o : Outcome Position) → set-up-step n s call o ≡ set-up-step m s call o
   unfolding set-up-step

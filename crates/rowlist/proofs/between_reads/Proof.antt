@@ -2,7 +2,8 @@
 use native.Mathlib.Nat.{sub-zero}
 use native.Mathlib.Omega.{arith}
 use borrow.Author.Needs.{needs}
-use Rattle.rowlist.specs.Turns.{Within, turn-of}
+use Rattle.input.specs.AtHand.{Within}
+use Rattle.rowlist.specs.Turns.{turn-of}
 use Rattle.rowlist.proofs.Turns.{turn-chunk, turn-end}
 use Rattle.rowlist.proofs.between_reads.Statement.{statement}
 use Rattle.rowlist.proofs.between_reads.Tie as tie

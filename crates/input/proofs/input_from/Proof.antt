@@ -1,9 +1,9 @@
--- `rowlist::input_from` meets its contract: by the tests on the read's answer.
+-- `input::input_from` meets its contract: by the tests on the read's answer.
 use borrow.Author.Needs.{needs}
 use mir.ValLaws.{toZ-ofZ}
-use Rattle.rowlist.proofs.Turns.{input-failed, input-ended, input-bytes}
-use Rattle.rowlist.proofs.input_from.Statement.{statement}
-use Rattle.rowlist.proofs.input_from.Tie as tie
+use Rattle.input.proofs.AtHand.{input-failed, input-ended, input-bytes}
+use Rattle.input.proofs.input_from.Statement.{statement}
+use Rattle.input.proofs.input_from.Tie as tie
 
 returns : tie.Need-returns
 returns c =

@@ -1,4 +1,4 @@
--- `rowlist::read_behind` meets its contract.
+-- `input::read_behind` meets its contract.
 use mathlib.Core.Path.{_≡_}
 use mathlib.Core.List.{List, _++_}
 use Prim.Native.Nat.{ℕ, _+_, _-_, _≤_}
@@ -7,9 +7,9 @@ use borrow.Author.Needs.{needs}
 use borrow.Rule.Slice.PartMut.{postOf}
 use lib.ListN.{length, take, length-append}
 use lib.Seq.{take-at, length-take-le}
-use Rattle.rowlist.proofs.Turns.{within-input}
-use Rattle.rowlist.proofs.read_behind.Statement.{statement}
-use Rattle.rowlist.proofs.read_behind.Tie as tie
+use Rattle.input.proofs.AtHand.{within-input}
+use Rattle.input.proofs.read_behind.Statement.{statement}
+use Rattle.input.proofs.read_behind.Tie as tie
 
 -- the bytes in front of a place are as they were, whatever stands behind it
 take-front : (text : List ℕ) (kept : ℕ) (part : List ℕ) → kept ≤ length text → take kept (take kept text ++ part) ≡ take kept text

@@ -1,0 +1,2 @@
+-- Laws of what a read comes to.
+pub mod AtHand

@@ -1,0 +1,2 @@
+-- Reads of standard input: what one comes to.
+pub mod AtHand
