@@ -1,0 +1,157 @@
+// One of the reader's answers: what it earns where it is to be written, and its spelling.
+use device::Settings;
+use trace::Read;
+use trace::Record;
+ghost use mathlib.Core.Path.{_≡_};
+ghost use mathlib.Core.List.{[], _∷_};
+ghost use Prim.Native.Nat.{_+_, _≤_};
+ghost use lib.ListN.{length};
+ghost use Rattle.trace.specs.Bytes.{letter-A, letter-R, letter-S};
+ghost use Rattle.trace.specs.Reading.{said};
+ghost use Rattle.trace.specs.Output.{Prints-into};
+ghost use Rattle.trace.specs.Spelling.{settings-numbers, spelled-line, record-spelling, answer-spelling};
+ghost use Rattle.trace.specs.Writing.{row-fault, event-fault, fault};
+ghost use Rattle.spelling.specs.Contracts.{no-settings, standing-of, stood};
+
+// N of the settings last before a record, if any stand.
+pub struct Standing {
+    pub active: bool,
+    pub rows: u32,
+}
+
+// Before the first record.
+pub fn no_settings() -> Standing
+    ensures { λ r. ⌜ r ≡ no-settings ⌝ }
+{
+    Standing {
+        active: false,
+        rows: 0,
+    }
+}
+
+// The refusal of a row, or 0.
+fn row_fault(standing: Standing, row: u32) -> u32
+    ensures { λ r. ⌜ r ≡ row-fault (standing-of standing) row ⌝ }
+{
+    if standing.active {
+        return device::refuse_unless(row < standing.rows, 9, 0);
+    }
+    11
+}
+
+// The refusal of an event, or 0.
+fn event_fault(standing: Standing) -> u32
+    ensures { λ r. ⌜ r ≡ event-fault (standing-of standing) ⌝ }
+{
+    if standing.active { 0 } else { 11 }
+}
+
+// The refusal that an answer earns, or 0.
+pub fn fault(standing: Standing, answer: Read) -> u32
+    ensures { λ r. ⌜ r ≡ fault (standing-of standing) (said answer .outcome) ⌝ }
+{
+    match answer {
+        Read::Line(record, _) => match record {
+            Record::Set(s) => device::settings_refusal(s),
+            Record::Activate(row) => row_fault(standing, row),
+            Record::Refresh => event_fault(standing),
+            Record::Blank => 0,
+        },
+        Read::Refused(_) => 11,
+    }
+}
+
+// What stands behind an answer.
+pub fn standing_behind(standing: Standing, answer: Read) -> Standing
+    ensures { λ r. ⌜ r ≡ stood standing (said answer .outcome) ⌝ }
+{
+    match answer {
+        Read::Line(record, _) => match record {
+            Record::Set(s) => Standing {
+                active: true,
+                rows: s.rows,
+            },
+            Record::Activate(_) => standing,
+            Record::Refresh => standing,
+            Record::Blank => standing,
+        },
+        Read::Refused(_) => standing,
+    }
+}
+
+// The bytes of an answer's spelling.
+pub fn width(answer: Read) -> usize
+    ensures { λ r. ⌜ r ≡ length (answer-spelling (said answer .outcome)) ⌝ }
+{
+    match answer {
+        Read::Line(record, _) => match record {
+            Record::Set(_) => 44,
+            Record::Activate(_) => 8,
+            Record::Refresh => 2,
+            Record::Blank => 0,
+        },
+        Read::Refused(_) => 0,
+    }
+}
+
+// The line of settings, at a place; the place behind it.
+fn print_settings(out: &mut [u8], at: usize, s: Settings) -> usize
+    requires { ⌜ at + 44 ≤ length (now out) ⌝ }
+    ensures { λ r. ⌜ Prints-into out at (spelled-line letter-S (settings-numbers s)) r ⌝ }
+{
+    let numbers = [
+        s.rows,
+        s.blast_diameter,
+        s.volume,
+        s.counters,
+        s.interval,
+        s.window,
+        s.block,
+    ];
+    let place = trace::print_byte(out, at, b'S');
+    let end = trace::print_numbers(out, place, &numbers, 7);
+    trace::print_byte(out, end, b'\n')
+}
+
+// The line of an activation.
+fn print_activation(out: &mut [u8], at: usize, row: u32) -> usize
+    requires { ⌜ at + 8 ≤ length (now out) ⌝ }
+    ensures { λ r. ⌜ Prints-into out at (spelled-line letter-A (row ∷ [])) r ⌝ }
+{
+    let place = trace::print_byte(out, at, b'A');
+    let end = trace::print_columns(out, place, 6, row as u64);
+    trace::print_byte(out, end, b'\n')
+}
+
+// The line of a refresh event.
+fn print_event(out: &mut [u8], at: usize) -> usize
+    requires { ⌜ at + 2 ≤ length (now out) ⌝ }
+    ensures { λ r. ⌜ Prints-into out at (spelled-line letter-R []) r ⌝ }
+{
+    let end = trace::print_byte(out, at, b'R');
+    trace::print_byte(out, end, b'\n')
+}
+
+// The spelling of a record.
+fn print_record(out: &mut [u8], at: usize, line: Record) -> usize
+    requires { ⌜ at + length (record-spelling line) ≤ length (now out) ⌝ }
+    ensures { λ r. ⌜ Prints-into out at (record-spelling line) r ⌝ }
+{
+    match line {
+        Record::Set(s) => print_settings(out, at, s),
+        Record::Activate(row) => print_activation(out, at, row),
+        Record::Refresh => print_event(out, at),
+        Record::Blank => at,
+    }
+}
+
+// The spelling of an answer, at a place; the place behind it.
+pub fn print_answer(out: &mut [u8], at: usize, answer: Read) -> usize
+    requires { ⌜ at + length (answer-spelling (said answer .outcome)) ≤ length (now out) ⌝ }
+    ensures { λ r. ⌜ Prints-into out at (answer-spelling (said answer .outcome)) r ⌝ }
+{
+    match answer {
+        Read::Line(record, _) => print_record(out, at, record),
+        Read::Refused(_) => at,
+    }
+}

@@ -1,0 +1,2 @@
+-- A law of lending a part of a local array.
+pub mod LentArray

@@ -1,0 +1,96 @@
+-- How long spellings are: that of each kind of record, and never longer than the line that was read.
+use mathlib.Core.Path.{_≡_, refl, sym, subst}
+use mathlib.Core.Bool.{true, cond}
+use mathlib.Core.List.{List, [], _∷_}
+use mathlib.Core.Option.{none, some, bind-eq-some-iff}
+use Prim.Native.Nat.{ℕ, suc, _+_, _≤_}
+use native.Mathlib.Omega.{arith}
+use lib.Dec.{eqb}
+use lib.ListN.{length, drop, length-append}
+use Rattle.device.specs.declared.Settings.{Settings}
+use Rattle.laws.proofs.Cases.{split, clash, missing, either, cond-some}
+use Rattle.trace.specs.declared.Record.{Record}
+use Rattle.trace.specs.declared.Record.the-variants.{Set, Activate, Refresh, Blank}
+use Rattle.trace.specs.Bytes.{letter-A, letter-R, letter-S}
+use Rattle.trace.specs.Lines.{line, ended, extent}
+use Rattle.trace.specs.Numbers.{field, fields}
+use Rattle.trace.specs.Reading.{or-refused, reading, reading-by}
+use Rattle.trace.specs.Records.{as-settings, settings, activation, refresh, record-of}
+use Rattle.trace.specs.Output.{number-columns}
+use Rattle.trace.specs.Spelling.{settings-numbers, spelled-line, record-spelling, answer-spelling}
+use Rattle.trace.proofs.Output.{length-number-columns}
+use Rattle.trace.proofs.Records.{settings-form, activation-form}
+
+pub length-settings-line : (s : Settings) → length (spelled-line letter-S (settings-numbers s)) ≡ 44
+unfolding spelled-line settings-numbers
+length-settings-line s = rw length-append (omega (arith, length-number-columns (settings-numbers s)))
+
+pub length-activation-line : (row : ℕ) → length (spelled-line letter-A (row ∷ [])) ≡ 8
+unfolding spelled-line
+length-activation-line row = rw length-append (omega (arith, length-number-columns (row ∷ [])))
+
+pub length-event-line : length (spelled-line letter-R []) ≡ 2
+unfolding spelled-line number-columns
+length-event-line = refl
+
+abbrev No-longer : List ℕ → Record → Type 0
+No-longer bytes r = length (record-spelling r) ≤ suc (suc (length bytes))
+
+-- each kind of record behind its letter, and byte 10
+settings-no-longer : (bytes : List ℕ) (r : Record) → settings bytes ≡ some r → No-longer bytes r
+unfolding settings record-spelling
+settings-no-longer bytes r e =
+    let numbers = bind-eq-some-iff (fields 7 bytes) _ .0 (cond-some (eqb (length bytes) 42) _ r e) in
+    let same : Set (as-settings (numbers .0)) ≡ r = cc in
+    subst (No-longer bytes) same (omega (arith, settings-form .same-length bytes r e, length-settings-line (as-settings (numbers .0))))
+
+activation-no-longer : (bytes : List ℕ) (r : Record) → activation bytes ≡ some r → No-longer bytes r
+unfolding activation record-spelling
+activation-no-longer bytes r e =
+    let row = bind-eq-some-iff (field 0 bytes) _ .0 (cond-some (eqb (length bytes) 6) _ r e) in
+    let same : Activate (row .0) ≡ r = cc in
+    subst (No-longer bytes) same (omega (arith, activation-form .same-length bytes r e, length-activation-line (row .0)))
+
+refresh-no-longer : (bytes : List ℕ) (r : Record) → refresh bytes ≡ some r → No-longer bytes r
+unfolding refresh record-spelling
+refresh-no-longer [] r e =
+    let same : Refresh ≡ r = cc in
+    subst (No-longer []) same (omega (arith, length-event-line))
+refresh-no-longer (b ∷ bytes) r e = missing e
+
+record-no-longer : (bytes : List ℕ) (r : Record) → record-of bytes ≡ some r → length (record-spelling r) ≤ suc (length bytes)
+unfolding record-of record-spelling
+record-no-longer [] r e =
+    let same : Blank ≡ r = cc in
+    subst (λ (r : Record). length (record-spelling r) ≤ 1) same (omega arith)
+record-no-longer (b ∷ bytes) r e =
+    split (eqb b letter-S)
+    (λ s. settings-no-longer bytes r (rw s at e))
+    (λ s.
+    split (eqb b letter-A)
+    (λ a. activation-no-longer bytes r (rw (s, a) at e))
+    (λ a.
+    split (eqb b letter-R)
+    (λ f. refresh-no-longer bytes r (rw (s, a, f) at e))
+    (λ f. missing (rw (s, a, f) at e))))
+
+extent-line : (text : List ℕ) → ended text ≡ true → extent text ≡ suc (length (line text))
+unfolding extent ended line
+extent-line [] h = clash (sym h)
+extent-line (b ∷ text) h =
+    split (eqb b 10) (λ e. rw e) (λ e. rw e (omega (arith, extent-line text (rw e at h))))
+
+answer-no-longer : (text : List ℕ) → length (answer-spelling (or-refused (cond (ended text) (record-of (line text)) none))) ≤ extent text
+unfolding answer-spelling or-refused
+answer-no-longer text =
+    split (ended text)
+    (λ e.
+    either (record-of (line text))
+    (λ z. rw (e, z) (omega arith))
+    (λ r z. rw (e, z) (omega (arith, extent-line text e, record-no-longer (line text) r z))))
+    (λ e. rw e (omega arith))
+
+-- the spelling of a line that was read fits where the line stood
+pub spelling-no-longer : (text : List ℕ) (at : ℕ) → at + length (answer-spelling (reading text at .outcome)) ≤ reading text at .place
+unfolding reading reading-by
+spelling-no-longer text at = omega (arith, answer-no-longer (drop at text))

@@ -1,0 +1,20 @@
+-- `writer::records_due` meets its contract.
+use borrow.Author.Tests.{eq-eqb, ne-eqb}
+use Rattle.writer.specs.Contracts.{records-due}
+use Rattle.writer.proofs.records_due.Statement.{statement}
+use Rattle.writer.proofs.records_due.Tie as tie
+
+returns : tie.Need-returns
+unfolding records-due
+returns c = rw (ne-eqb _ _ (c .if1 .taken))
+
+returns-2 : tie.Need-returns-2
+unfolding records-due
+returns-2 c = rw (eq-eqb _ _ (c .before .if1 .left), c .if2 .taken)
+
+returns-3 : tie.Need-returns-3
+unfolding records-due
+returns-3 c = rw (eq-eqb _ _ (c .before .if1 .left), c .if2 .left)
+
+pub records-due-spec : {M : Type 1} → statement M
+records-due-spec = tie.close (tie.spec returns returns-2 returns-3)
