@@ -22,14 +22,11 @@ use ghost.Atoms.{Atoms, sem}
 use contract.Monad.{Fun, fact}
 use contract.Running.{givenOf, tables, tablesOf}
 use contract.Lifetimes.{AllOutlive}
-use types.Kit.{Given, Item, ‵, raw, some, given, later, _⊛_, ⋆, mean, atRet, _$_, _∵_, !, qed, by, move, keep, drop}
-use types.Kit.{use1, use2, use3, split, join, pick, learn, rewrite, fsplit, fjoin, feqL, feqI, suffices, frame, await, done}
+use types.Kit.{Given, Item, ‵, raw, some, given, later, _⊛_, ⋆, mean, atRet, _$_, _∵_, !, qed, by, move, keep, drop, use1, use2, use3, split, join, pick, learn, rewrite, fsplit, fjoin, feqL, feqI, suffices, frame, await, done}
 use types.Part.{agg, whole, sub, look-in}
 use types.Share.{arr-parts}
 use types.Tokens.{lft-new, lft-end}
-use types.Run.{look, look-raw, store, init, forget, stop, hop, fld, from, load, lit, unit-lit, addr, of-opd, bin, and-then, no-more}
-use types.Run.{assigns, assigns-last, land, first, blocks, stays, leaves-loop, loops, again, exec, returns, enter}
-use types.Run.{alloc1, alloc0, params1, pass1, pass0, free1, free0}
+use types.Run.{look, look-raw, store, init, forget, stop, hop, fld, from, load, lit, unit-lit, addr, of-opd, bin, and-then, no-more, assigns, assigns-last, land, first, blocks, stays, leaves-loop, loops, again, exec, returns, enter, alloc1, alloc0, params1, pass1, pass0, free1, free0}
 use sound.WpLaws.{fmOf, WpFn-mono}
 use denote.RattleType.{RattleType, owns}
 use denote.Laws.{Is, shows}
@@ -59,8 +56,7 @@ use Rattle.writer.specs.Contracts.{outcomes-of}
 use Rattle.trace.proofs.Read as T
 use Rattle.trace.proofs.Read.Laws as T′
 use Rattle.writer.proofs.LentAgain.{Waiting, lent-out, given-back}
-use Rattle.writer.proofs.Prints.{answer-at, spelled, text-after, place-after, text-after-is, none-written, place-none}
-use Rattle.writer.proofs.Prints.{after-long, place-within, next-fits, text-next, place-next}
+use Rattle.writer.proofs.Prints.{answer-at, spelled, text-after, place-after, text-after-is, none-written, place-none, after-long, place-within, next-fits, text-next, place-next}
 use Rattle.spelling.proofs.print_answer as answer
 use Rattle.spelling.proofs.print_answer.Symbol as answer-def
 use Rattle.spelling.proofs.print_answer.Symbol.{name as #spelling·print-answer}

@@ -1,0 +1,7 @@
+-- Laws of the rewriting and of the program's turns.
+pub mod OneLine
+pub mod Faults
+pub mod Lines
+pub mod WholePart
+pub mod Ends
+pub mod Claims

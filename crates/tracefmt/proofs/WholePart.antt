@@ -1,0 +1,89 @@
+-- What a part leaves, where its loop stops; and that the bytes kept behind it are as good as all of them.
+use mathlib.Core.Path.{_≡_, sym, ap, _∙_}
+use mathlib.Core.Bool.{false}
+use mathlib.Core.List.{List, _++_, append-assoc}
+use Prim.Native.Nat.{ℕ, _+_, _≤_}
+use native.Mathlib.Omega.{arith}
+use borrow.Author.Tests.{eqb-true, eq-eqb}
+use lib.Dec.{eqb}
+use lib.ListN.{length, take, drop, length-append, take-append-drop, drop-of-length-le}
+use lib.Seq.{take-at}
+use Rattle.laws.proofs.Cases.{split, clash}
+use Rattle.trace.specs.Lines.{ended}
+use Rattle.trace.specs.Numbers.{written}
+use Rattle.trace.specs.Output.{Prints}
+use Rattle.trace.specs.Texts.{kept-bytes}
+use Rattle.trace.proofs.Output.{prints-long}
+use Rattle.trace.proofs.Texts.Cuts.{outcomes-kept, ended-less}
+use Rattle.tracefmt.specs.Rewriting.{Progress, rewriting, after}
+use Rattle.tracefmt.specs.Turns.{Rewrites, Moves}
+use Rattle.tracefmt.proofs.Faults.{after-stopped, rewriting-stopped}
+use Rattle.tracefmt.proofs.Lines.{rewriting-cut, after-cut, Taken}
+
+module _ {g₀ g : Progress} {text buffer₀ buffer : List ℕ} {at end : ℕ} (t : Taken g₀ text buffer₀ g buffer at end) where
+  part-taken : (g .refusal ≡ 0 → ended (drop at text) ≡ false) → Rewrites g₀ text buffer₀ buffer g at end
+  part-taken all = record { within = t .within; lines = t .lines-taken; prints = t .prints; leaves = t .leaves; all = all }
+
+  -- at a line that has not ended
+  pub part-unended : ended (drop at text) ≡ false → Rewrites g₀ text buffer₀ buffer g at end
+  part-unended e = part-taken (λ _. e)
+
+  -- behind a faulty line
+  pub part-stopped : eqb (g .refusal) 0 ≡ false → Rewrites g₀ text buffer₀ buffer g at end
+  part-stopped h = part-taken (λ e. clash (sym (eq-eqb _ _ e) ∙ h))
+
+  -- at the text's end
+  pub part-whole : length text ≤ at → Rewrites g₀ text buffer₀ buffer g at end
+  unfolding ended
+  part-whole h = part-taken (λ _. rw (drop-of-length-le text {i = at} h))
+
+take-printed : {before text buffer : List ℕ} {end : ℕ} → Prints before 0 text buffer end → take end buffer ≡ text
+unfolding written
+take-printed {before} {text} {buffer} {end} p =
+    rw (p .holds, p .behind) (take-at text (drop (0 + length text) before) (0 + length text) (omega arith))
+
+-- behind whole lines: either a line was faulty, or 64 bytes of the line that has not ended tell as much as all
+module _ (g : Progress) (rest : List ℕ) (all : g .refusal ≡ 0 → ended rest ≡ false) (more : List ℕ) where
+  rewriting-kept : rewriting g (rest ++ more) ≡ rewriting g (take 64 rest ++ more)
+  unfolding rewriting
+  rewriting-kept =
+      split (eqb (g .refusal) 0)
+      (λ e. rw (outcomes-kept rest more (all (eqb-true _ _ e))))
+      (λ e. rewriting-stopped g e (rest ++ more) ∙ sym (rewriting-stopped g e (take 64 rest ++ more)))
+
+  after-kept : after g (rest ++ more) ≡ after g (take 64 rest ++ more)
+  unfolding after
+  after-kept =
+      split (eqb (g .refusal) 0)
+      (λ e. rw (outcomes-kept rest more (all (eqb-true _ _ e))))
+      (λ e. after-stopped g e (rest ++ more) ∙ sym (after-stopped g e (take 64 rest ++ more)))
+
+-- a part, and the bytes kept behind it, are a move
+module _ {g g′ : Progress} {text buffer₀ buffer : List ℕ} {taken end : ℕ} (r : Rewrites g text buffer₀ buffer g′ taken end) where
+  cut : (more : List ℕ) → text ++ more ≡ take taken text ++ (drop taken text ++ more)
+  cut more = ap (λ (t : List ℕ). t ++ more) (sym (take-append-drop taken text)) ∙ append-assoc (take taken text) (drop taken text) more
+
+  pub moves-part : Moves g text (take end buffer) g′ (take 64 (drop taken text))
+  moves-part =
+      record {
+        writes = λ more.
+            ap (rewriting g) (cut more) ∙ rewriting-cut g (take taken text) (drop taken text ++ more) (r .lines) ∙
+            rw (take-printed (r .prints), ← r .leaves) (ap (λ (t : List ℕ). rewriting g (take taken text) ++ t) (rewriting-kept g′ (drop taken text) (r .all) more));
+        leaves = λ more.
+            ap (after g) (cut more) ∙ after-cut g (take taken text) (drop taken text ++ more) (r .lines) ∙
+            rw (← r .leaves) (after-kept g′ (drop taken text) (r .all) more);
+        unended = λ e. ended-less 64 (drop taken text) (r .all e);
+      }
+
+-- what lies between two reads, by what the part and the keeping left
+pub chunk-moves : {g g′ : Progress} {text′ buffer₀ buffer : List ℕ} {taken end kept : ℕ} (text : List ℕ) (len : ℕ) → Rewrites g (take len text) buffer₀ buffer g′ taken end
+    → kept ≡ length (kept-bytes taken len text) → text′ ≡ kept-bytes taken len text ++ drop kept text
+    → Moves g (take len text) (take end buffer) g′ (take kept text′) × (kept ≤ length text′) × (end ≤ length buffer)
+unfolding kept-bytes
+chunk-moves {text′ = text′} {taken = taken} {kept = kept} text len r k t =
+    let bytes : List ℕ = take 64 (drop taken (take len text)) in
+    let front : take kept text′ ≡ bytes = ap (take kept) t ∙ take-at bytes (drop kept text) kept (sym k) in (
+      rw front (moves-part r),
+      omega (arith, k, ap length t, length-append bytes (drop kept text)),
+      omega (arith, r .prints .fits, r .prints .behind, prints-long (r .prints)),
+    )

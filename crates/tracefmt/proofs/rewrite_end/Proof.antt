@@ -1,0 +1,16 @@
+-- `tracefmt::rewrite_end` meets its contract.
+use borrow.Author.Needs.{needs}
+use Rattle.trace.specs.Reading.{said}
+use Rattle.tracefmt.proofs.OneLine.{end-none, end-some}
+use Rattle.tracefmt.proofs.rewrite_end.Statement.{statement}
+use Rattle.tracefmt.proofs.rewrite_end.Tie as tie
+
+returns : tie.Need-returns
+returns c = end-none _ _ (c .if1 .taken)
+
+returns-2 : tie.Need-returns-2
+unfolding said
+returns-2 c = end-some _ _ _ (c .before .if1 .left) (c .next-place .ensures)
+
+pub rewrite-end-spec : {M : Type 1} → statement M
+rewrite-end-spec = tie.close (tie.spec returns (λ c κs. search needs) returns-2)

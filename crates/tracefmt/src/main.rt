@@ -1,0 +1,249 @@
+// Rewrites a trace in its one spelling: standard input to standard output, through buffers of fixed size. At the first faulty line it stops and
+// says on standard error which it is.
+use input::Input;
+use libc::STDERR_FILENO;
+use libc::STDOUT_FILENO;
+use spelling::Standing;
+use trace::LINES;
+use trace::Read;
+ghost use mathlib.Core.Path.{_≡_};
+ghost use mathlib.Core.Bool.{true};
+ghost use Prim.Native.Nat.{_+_, _≤_};
+ghost use lib.ListN.{length, take};
+ghost use Rattle.trace.specs.Reading.{said};
+ghost use Rattle.trace.specs.Output.{Prints-into};
+ghost use Rattle.trace.specs.Spelling.{answer-spelling};
+ghost use Rattle.tracefmt.specs.Rewriting.{start, next, writes, end-of, fault-line};
+ghost use Rattle.tracefmt.specs.Turns.{progress-of, Rewrites, Moves, Readable, Turn-leaves};
+
+// The bytes of a read, and of what they write: no line's spelling is longer than the line.
+const TEXT: usize = 65_536;
+
+// Where a rewriting is: what stands, the lines so far, which count modulo 10,000,000,000, and the refusal that stopped it, or 0.
+struct Place {
+    standing: Standing,
+    lines: u64,
+    refusal: u32,
+}
+
+// Where the rewriting is behind a line, and the place behind what was written.
+struct Rewritten {
+    place: Place,
+    end: usize,
+}
+
+// Where the rewriting is behind the lines that were taken, how many bytes of the text they were, and the place behind what was written.
+struct Part {
+    place: Place,
+    taken: usize,
+    end: usize,
+}
+
+// The same with how many bytes are kept.
+struct Chunk {
+    place: Place,
+    end: usize,
+    kept: usize,
+}
+
+// What lies between two reads left: where the rewriting is, how many bytes are kept at the text's front and how many are to be written, and
+// whether to read again.
+struct Turn {
+    place: Place,
+    kept: usize,
+    end: usize,
+    more: bool,
+}
+
+// Behind a line, as it was read.
+fn next_place(p: Place, answer: Read) -> Place
+    ensures { λ r. ⌜ progress-of r ≡ next (progress-of p) (said answer .outcome) ⌝ }
+{
+    if p.refusal != 0 {
+        return p;
+    }
+    let standing = p.standing;
+    let refusal = spelling::fault(standing, answer);
+    if refusal != 0 {
+        return Place {
+            standing,
+            lines: p.lines,
+            refusal,
+        };
+    }
+    let behind = spelling::standing_behind(standing, answer);
+    Place {
+        standing: behind,
+        lines: p.lines % LINES + 1,
+        refusal: 0,
+    }
+}
+
+// Rewrites one line, at a place of the buffer.
+fn rewrite_line(p: Place, answer: Read, out: &mut [u8], at: usize) -> Rewritten
+    requires { ⌜ at + length (answer-spelling (said answer .outcome)) ≤ length (now out) ⌝ }
+    ensures { λ r. ⌜ (progress-of (r .place) ≡ next (progress-of p) (said answer .outcome)) × Prints-into out at (writes (progress-of p) (said answer .outcome)) (r .end) ⌝ }
+{
+    let place = next_place(p, answer);
+    if place.refusal != 0 {
+        return Rewritten { place, end: at };
+    }
+    let end = spelling::print_answer(out, at, answer);
+    Rewritten { place, end }
+}
+
+// Rewrites the lines at the front of a text, while they have ended and none is faulty.
+fn rewrite_part(p: Place, text: &[u8], out: &mut [u8]) -> Part
+    requires { ⌜ length (now text) ≤ length (now out) ⌝ }
+    ensures { λ r. ⌜ Rewrites (progress-of p) (now (text .entry)) (now (out .entry)) (now (out .exit)) (progress-of (r .place)) (r .taken) (r .end) ⌝ }
+{
+    let mut place = p;
+    let mut at: usize = 0;
+    let mut end: usize = 0;
+    while at < text.len() && place.refusal == 0 {
+        let answer = trace::read_line(text, at);
+        let next = trace::place_behind(answer);
+        if text[next - 1] != b'\n' {
+            return Part {
+                place,
+                taken: at,
+                end,
+            };
+        }
+        let line = rewrite_line(place, answer, out, end);
+        place = line.place;
+        end = line.end;
+        at = next;
+    }
+    Part {
+        place,
+        taken: at,
+        end,
+    }
+}
+
+// What lies between two reads: of the first bytes of the text, the lines are rewritten, and the first 64 bytes of what is left go to the text's
+// front.
+fn rewrite_chunk(p: Place, text: &mut [u8], len: usize, out: &mut [u8]) -> Chunk
+    requires { ⌜ (len ≤ length (now text)) × (length (now text) ≤ length (now out)) ⌝ }
+    ensures { λ r. ⌜ Moves (progress-of p) (take len (now (text .entry))) (take (r .end) (now (out .exit))) (progress-of (r .place)) (take (r .kept) (now (text .exit))) × (r .kept ≤ length (now (text .exit))) × (r .end ≤ length (now (out .exit))) ⌝ }
+{
+    let part = rewrite_part(p, &text[0..len], out);
+    let place = part.place;
+    let kept = trace::keep(text, part.taken, len);
+    Chunk {
+        place,
+        end: part.end,
+        kept,
+    }
+}
+
+// The end of a trace: if bytes are left of it, they are a last line without byte 10, which is refused.
+fn rewrite_end(p: Place, kept: usize) -> Place
+    ensures { λ r. ⌜ progress-of r ≡ end-of (progress-of p) kept ⌝ }
+{
+    if kept == 0 {
+        return p;
+    }
+    next_place(p, Read::Refused(0))
+}
+
+// The line that stopped the rewriting, if one did.
+fn print_fault(p: Place, out: &mut [u8]) -> usize
+    requires { ⌜ 18 ≤ length (now out) ⌝ }
+    ensures { λ r. ⌜ Prints-into out 0 (fault-line (progress-of p)) r ⌝ }
+{
+    if p.refusal == 0 {
+        return 0;
+    }
+    trace::print_refusal(out, 0, p.lines % LINES + 1, p.refusal)
+}
+
+// What lies between two reads: what came in is rewritten, up to the last line's end or to a faulty line.
+fn between_reads(from: Turn, text: &mut [u8], input: Input, out: &mut [u8]) -> Turn
+    requires { ⌜ Readable from input text out ⌝ }
+    ensures { λ r. ⌜ Turn-leaves from text input out r ⌝ }
+{
+    let place = from.place;
+    let kept = from.kept;
+    match input {
+        Input::Bytes(len) => {
+            let chunk = rewrite_chunk(place, text, len, out);
+            let after = chunk.place;
+            Turn {
+                place: after,
+                kept: chunk.kept,
+                end: chunk.end,
+                more: after.refusal == 0,
+            }
+        }
+        Input::End => {
+            let after = rewrite_end(place, kept);
+            Turn {
+                place: after,
+                kept,
+                end: 0,
+                more: false,
+            }
+        }
+        Input::Failed => Turn {
+            place,
+            kept,
+            end: 0,
+            more: false,
+        },
+    }
+}
+
+// Before the first read.
+fn first_turn() -> Turn
+    ensures { λ r. ⌜ (progress-of (r .place) ≡ start) × (r .kept ≡ 0) × (r .end ≡ 0) × (r .more ≡ true) ⌝ }
+{
+    let standing = spelling::no_settings();
+    Turn {
+        place: Place {
+            standing,
+            lines: 0,
+            refusal: 0,
+        },
+        kept: 0,
+        end: 0,
+        more: true,
+    }
+}
+
+// Reads, rewrites and writes, until the input ends, a line is faulty, or a read or write fails; where the rewriting has come to.
+fn run(text: &mut [u8], out: &mut [u8]) -> Place
+    requires { ⌜ (length (now text) ≡ 65536) × (length (now out) ≡ 65536) ⌝ }
+{
+    let mut turn = first_turn();
+    let mut turns = u64::MAX;
+    while turns > 0 {
+        let input = input::read_behind(text, turn.kept);
+        turn = between_reads(turn, text, input, out);
+        let end = turn.end;
+        if !io::write_all(STDOUT_FILENO, &out[..end]) {
+            return turn.place;
+        }
+        if !turn.more {
+            return turn.place;
+        }
+        turns -= 1;
+    }
+    turn.place
+}
+
+// Says which line was faulty, if one was.
+fn tell(p: Place, out: &mut [u8])
+    requires { ⌜ 18 ≤ length (now out) ⌝ }
+{
+    let end = print_fault(p, out);
+    io::write_all(STDERR_FILENO, &out[..end]);
+}
+
+fn main() {
+    let mut text = [0u8; TEXT];
+    let mut out = [0u8; TEXT];
+    let place = run(&mut text, &mut out);
+    tell(place, &mut out);
+}
