@@ -12,24 +12,22 @@ Exit status: 0 all equal; 1 a difference; 2 something is missing or cannot be bu
 
 import argparse
 import collections
-import fcntl
 import glob
 import os
 import pathlib
 import random
 import shlex
-import struct
-import subprocess
 import sys
-import termios
-import time
 
 sys.dont_write_bytecode = True
 sys.path.insert(0, str(pathlib.Path(__file__).resolve().parents[1]))
 from comparison import (
     BUILD_MODEL, FIXED_SEED, MODEL, ROOT, Tally, arguments_with_seeds, build, give_up,
 )
-from failures import check_failures
+from failures import (
+    check_failures, input_fails_after_lines, input_unreadable, output_fills, output_full, reader_leaves,
+)
+from programs import difference, from_file, in_pieces, random_pieces, through_pipe
 from traces import plain_trace, long_lines, random_traces
 
 HERE = "tests/listing"
@@ -37,85 +35,16 @@ OUT = "target/listing"
 MODEL_LISTING = [MODEL, "listing"]
 
 TRICKLES = 15  # traces in small pieces for each seed
-RUN_LIMIT = 20  # seconds for one run of the program
-TAKEN_LIMIT = 5  # seconds in which the program has to take a piece from the pipe
 
+FAILURES = (output_full, reader_leaves, output_fills, input_unreadable, input_fails_after_lines)
 REFUSALS = (1, 2, 3, 4, 5, 6, 7, 9, 11, 22)  # those that a trace can earn
-
-
-# Running
-
-
-def run(command, **input):
-    """The output of a program and what went wrong, if anything."""
-    try:
-        done = subprocess.run(command, **input, stdout=subprocess.PIPE, timeout=RUN_LIMIT)
-    except subprocess.TimeoutExpired as expired:
-        return expired.stdout or b"", f"no end within {RUN_LIMIT} seconds"
-    return done.stdout, f"exit status {done.returncode}" if done.returncode else None
-
-
-def through_pipe(command, text):
-    return run(command, input=text)
-
-
-def from_file(command, text):
-    with open(f"{OUT}/trace", "wb") as file:
-        file.write(text)
-    with open(f"{OUT}/trace", "rb") as file:
-        return run(command, stdin=file)
-
-
-def in_pieces(sizes):
-    """Feeds pieces of these sizes, each when the program has taken the one before."""
-    def feed(command, text):
-        with open(f"{OUT}/listing", "wb") as sink:
-            process = subprocess.Popen(command, stdin=subprocess.PIPE, stdout=sink, bufsize=0)
-        place = 0
-        try:
-            for size in sizes:
-                process.stdin.write(text[place:place + size])
-                place += size
-                wait_until_taken(process)
-            process.stdin.close()
-        except BrokenPipeError:
-            pass
-        try:
-            status = process.wait(timeout=RUN_LIMIT)
-            problem = f"exit status {status}" if status else None
-        except subprocess.TimeoutExpired:
-            process.kill()
-            process.wait()
-            problem = f"no end within {RUN_LIMIT} seconds"
-        with open(f"{OUT}/listing", "rb") as file:
-            return file.read(), problem
-    return feed
-
-
-def wait_until_taken(process):
-    start = time.monotonic()
-    while time.monotonic() < start + TAKEN_LIMIT and process.poll() is None:
-        waiting = fcntl.ioctl(process.stdin, termios.FIONREAD, b"\0" * 4)
-        if struct.unpack("i", waiting) == (0,):
-            return
-        time.sleep(0.00005)
-
-
-def random_pieces(rng, length):
-    sizes = []
-    most = rng.choice((1, 3, 10, 50)) if length < 3000 else length // 200
-    while length > 0:
-        size = rng.randint(1, min(most, length))
-        sizes.append(size)
-        length -= size
-    return sizes
 
 
 # Comparing
 
 
 def model_listing(text):
-    listing, problem = through_pipe(MODEL_LISTING, text)
+    listing, _, problem = through_pipe(MODEL_LISTING, text)
     if problem:
         with open(f"{OUT}/trace", "wb") as file:
             file.write(text)
@@ -123,18 +52,8 @@ def model_listing(text):
     return listing
 
 
-def difference(wanted, listing):
-    """The first line that departs."""
-    wanted, listing = wanted.split(b"\n"), listing.split(b"\n")
-    for number in range(max(len(wanted), len(listing))):
-        one, other = wanted[number:number + 1], listing[number:number + 1]
-        if one != other:
-            return f"listing line {number + 1} is {other} and ought to be {one}"
-    return None
-
-
 def check_listing(tally, command, feed, name, text, wanted):
-    listing, problem = feed(command, text)
+    listing, _, problem = feed(command, text)
     if listing == wanted and not problem:
         tally.check(True, "")
         return
@@ -203,7 +122,7 @@ def check_written(tally, command):
 def check_broken(tally, command):
     tally.begin("input or output that fails")
     text = b"S    16     2    16    16     4     4     4\n" + b"A     5\nA    10\nR\n" * 20_000
-    check_failures(tally, command, f"{OUT}/trace", text, model_listing(text))
+    check_failures(tally, command, FAILURES, text, model_listing(text))
 
 
 def main():

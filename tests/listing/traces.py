@@ -111,21 +111,25 @@ def bad_field(rng):
     )).encode()
 
 
+def bad_line(rng, good):
+    """Almost a good line; `good` is the line of accepted settings. Both are without byte 10."""
+    fields = [good[1 + 6 * place:7 + 6 * place] for place in range(7)]
+    fields[rng.randrange(7)] = bad_field(rng)
+    return rng.choice((
+        b"A" + bad_field(rng), b"A" + bad_field(rng), b"S" + b"".join(fields),
+        good[:-6], good + b"     1", good + b" ", good[:-1], good.lower(), b" " + good,
+        b"a     1", b" A     1", b"A     1 ", b"A     1     1", b"A", b"S", b"r", b" R", b"R ",
+        b"R     1", b" ", b"      ", b"B        30        60",
+    ))
+
+
 def near_misses(rng):
     """Good lines between lines that are almost good."""
     settings = small_settings(rng)
     good = settings_line(rng, settings)[:-1]
     text = good + b"\n"
     for _ in range(rng.randint(5, 40)):
-        fields = [good[1 + 6 * place:7 + 6 * place] for place in range(7)]
-        fields[rng.randrange(7)] = bad_field(rng)
-        text += rng.choice((
-            b"A" + bad_field(rng), b"A" + bad_field(rng), b"S" + b"".join(fields),
-            good[:-6], good + b"     1", good + b" ", good[:-1], good.lower(), b" " + good,
-            b"a     1", b" A     1", b"A     1 ", b"A     1     1", b"A", b"S", b"r", b" R", b"R ",
-            b"R     1", b" ", b"      ", b"B        30        60",
-        )) + b"\n"
-        text += body(rng, settings, rng.randint(0, 3))
+        text += bad_line(rng, good) + b"\n" + body(rng, settings, rng.randint(0, 3))
     return text
 
 

@@ -1,5 +1,6 @@
 //! Plain model of the row refresh tracker, for comparison in tests.
-//! It is written from document 01 alone, step by step, and shares no code with the product.
+//! It is written from documents 01 and 02 alone, step by step, and shares no code with the
+//! product.
 
 pub mod bound;
 pub mod disturbance;
@@ -13,3 +14,4 @@ pub mod summary;
 pub mod trace;
 pub mod tracker;
 pub mod victims;
+pub mod writer;

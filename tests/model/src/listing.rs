@@ -95,6 +95,7 @@ fn event_line(event: u32, picked: &[u32]) -> String {
     line + "\n"
 }
 
-fn refused_line(line_number: u64, refusal: Refusal) -> String {
+/// The line printed for a refused line.
+pub fn refused_line(line_number: u64, refusal: Refusal) -> String {
     format!("X{:10}{:6}\n", line_number % LINE_NUMBERS, refusal.number())
 }

@@ -1,4 +1,4 @@
-//! The reasons for which a call is refused ('turned back'), with document 01's numbers.
+//! The reasons for which a call is refused ('turned back'), with the documents' numbers.
 
 #[derive(Clone, Copy, Debug, PartialEq, Eq)]
 pub enum Refusal {
@@ -15,10 +15,13 @@ pub enum Refusal {
     LogicalRow = 9,
     /// The lent list of picks is shorter than `volume`.
     PicksLength = 10,
-    /// A trace line of another form, or without its byte 10, or that needs a tracker and has none.
+    /// A trace line of another form, or without its byte 10, or that needs a tracker, or for the
+    /// writer settings before it, and has none.
     Line = 11,
     /// No counter count meets the threshold.
     Threshold = 12,
+    /// The lent text is too short for the whole trace.
+    TextLength = 13,
     /// The tables or the position break a rule.
     State = 21,
     /// An activation in an interval that has had all of its activations.

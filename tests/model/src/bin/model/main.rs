@@ -3,17 +3,21 @@
 //! - `model queries`: one number for each query about bound, least count and remap
 //! - `model calls`: the answer and the lent memory for each call of the library
 //! - `model listing`: the listing of the trace on standard input
+//! - `model rewrite`: the trace on standard input in its one spelling, as the program `tracefmt`
+//! - `model writer`: the answer to each request of the writer, as the program `test_writer`
 //! - `model limit SEED RUNS`: random runs on which the limit on disturbance has to hold
 
 mod calls;
 mod limit;
 mod numbers;
 mod queries;
+mod writer;
 
 use std::io::{self, BufRead, Read, Write};
 use std::process::exit;
 
-use row_tracker_model::listing::listing;
+use row_tracker_model::listing::{listing, refused_line};
+use row_tracker_model::writer::rewrite;
 
 fn main() -> io::Result<()> {
     let arguments: Vec<String> = std::env::args().skip(1).collect();
@@ -22,6 +26,8 @@ fn main() -> io::Result<()> {
         ["queries"] => answer_lines(queries::answer),
         ["calls"] => answer_lines(calls::answer),
         ["listing"] => print_listing(),
+        ["rewrite"] => print_rewritten(),
+        ["writer"] => answer_requests(),
         ["limit", seed, runs] => match (seed.parse(), runs.parse()) {
             (Ok(seed), Ok(runs)) => exit(limit::check(seed, runs)),
             _ => exit(usage()),
@@ -31,7 +37,7 @@ fn main() -> io::Result<()> {
 }
 
 fn usage() -> i32 {
-    eprintln!("usage: model queries | calls | listing | limit SEED RUNS");
+    eprintln!("usage: model queries | calls | listing | rewrite | writer | limit SEED RUNS");
     2
 }
 
@@ -52,7 +58,35 @@ fn answer_lines(answer: fn(&str) -> Option<String>) -> io::Result<()> {
 }
 
 fn print_listing() -> io::Result<()> {
+    io::stdout().write_all(listing(&whole_input()?).as_bytes())
+}
+
+fn print_rewritten() -> io::Result<()> {
+    let rewritten = rewrite(&whole_input()?);
+    io::stdout().write_all(rewritten.text.as_bytes())?;
+    if let Some((line_number, refusal)) = rewritten.fault {
+        io::stderr().write_all(refused_line(line_number, refusal).as_bytes())?;
+    }
+    Ok(())
+}
+
+fn whole_input() -> io::Result<Vec<u8>> {
     let mut text = Vec::new();
     io::stdin().lock().read_to_end(&mut text)?;
-    io::stdout().lock().write_all(listing(&text).as_bytes())
+    Ok(text)
+}
+
+/// Answers every whole request of standard input.
+fn answer_requests() -> io::Result<()> {
+    let mut input = io::stdin().lock();
+    let mut output = io::stdout().lock();
+    let mut request = [0; writer::REQUEST];
+    while input.read_exact(&mut request).is_ok() {
+        let Some(answer) = writer::answer(&request) else {
+            eprintln!("model: a length is larger than its places");
+            exit(2);
+        };
+        output.write_all(&answer)?;
+    }
+    Ok(())
 }

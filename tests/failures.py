@@ -1,0 +1,133 @@
+"""Where a program's input or output fails: it ends, and what it has written is a prefix of what it ought to write.
+
+Each failure starts the program, by `start`, on a file with its input or on a part of that, and says whether all went as it has to.
+"""
+
+import functools
+import os
+import subprocess
+
+from programs import temporary_file, written
+
+END_LIMIT = 20  # seconds in which the program has to end
+FIRST_PART = 3_000  # bytes of input before reads fail
+READ_PART = 70_000  # bytes of output before the reader leaves
+
+
+def ended(process):
+    try:
+        process.wait(timeout=END_LIMIT)
+        return True
+    except subprocess.TimeoutExpired:
+        process.kill()
+        process.wait()
+        return False
+
+
+def read_all(descriptor):
+    with open(descriptor, "rb") as file:
+        return file.read()
+
+
+# Output
+
+
+def output_full(start, trace, _):
+    """Every write fails."""
+    with open("/dev/full", "wb") as sink:
+        return ended(start(stdin=trace, stdout=sink))
+
+
+def output_closed(start, trace, _):
+    """There is no output."""
+    return ended(start(stdin=trace, preexec_fn=lambda: os.close(1)))
+
+
+def reader_leaves(start, trace, wanted):
+    """Whoever reads the output stops after its first bytes."""
+    process = start(stdin=trace, stdout=subprocess.PIPE)
+    first = process.stdout.read(READ_PART)
+    process.stdout.close()
+    return ended(process) and wanted.startswith(first) and len(first) == READ_PART
+
+
+def output_fills(start, trace, wanted):
+    """A pipe that nobody reads takes a part and then refuses."""
+    out, into = os.pipe()
+    os.set_blocking(into, False)
+    process = start(stdin=trace, stdout=into)
+    os.close(into)
+    if not ended(process):
+        os.close(out)
+        return False
+    text = read_all(out)
+    return 0 < len(text) < len(wanted) and wanted.startswith(text)
+
+
+def errors_full(start, trace, wanted):
+    """Every write on standard error fails."""
+    with open("/dev/full", "wb") as sink:
+        process = start(stdin=trace, stdout=subprocess.PIPE, stderr=sink)
+        text = process.stdout.read()
+        return ended(process) and wanted.startswith(text)
+
+
+def errors_closed(start, trace, wanted):
+    """There is no standard error."""
+    process = start(stdin=trace, stdout=subprocess.PIPE, preexec_fn=lambda: os.close(2))
+    text = process.stdout.read()
+    return ended(process) and wanted.startswith(text)
+
+
+# Input
+
+
+def input_unreadable(start, _, __):
+    """Every read fails: a folder is no text."""
+    folder = os.open("/", os.O_RDONLY)
+    try:
+        process = start(stdin=folder, stdout=subprocess.PIPE)
+        return process.stdout.read() == b"" and ended(process)
+    finally:
+        os.close(folder)
+
+
+def input_closed(start, _, __):
+    """There is no input."""
+    process = start(stdout=subprocess.PIPE, preexec_fn=lambda: os.close(0))
+    return process.stdout.read() == b"" and ended(process)
+
+
+def input_fails_later(start, trace, wanted):
+    """A first part of the trace comes, then reads fail: nothing is written that the rest could change."""
+    text = of_first_part(start, trace)
+    return text is not None and wanted.startswith(text)
+
+
+def input_fails_after_lines(start, trace, wanted):
+    """A first part of the trace comes, then reads fail: what its lines give is written, and nothing that the rest could change."""
+    text = of_first_part(start, trace)
+    return bool(text) and wanted.startswith(text) and text.endswith(b"\n")
+
+
+def of_first_part(start, trace):
+    """What the program writes before reads fail; None if it does not end."""
+    out, into = os.pipe()
+    os.set_blocking(out, False)  # reading the empty pipe then fails
+    os.write(into, trace.read(FIRST_PART))
+    process = start(stdin=out, stdout=subprocess.PIPE)
+    os.close(out)
+    text = process.stdout.read()
+    os.close(into)
+    return text if ended(process) else None
+
+
+def check_failures(tally, command, failures, text, wanted, said=None):
+    """`said` is what the program has to say on standard error, or the start of that; None if it may say anything."""
+    for failure in failures:
+        with temporary_file(text) as trace, temporary_file() as errors:
+            start = functools.partial(subprocess.Popen, command, stderr=errors)
+            good = failure(start, trace, wanted)
+            if said is not None:
+                good = good and said.startswith(written(errors))
+            tally.check(good, f"{failure.__name__}: {failure.__doc__}")
