@@ -1,10 +1,12 @@
 -- The claims of specs/Claims.antt, each under its own name.
 use Rattle.figures.specs.Table.{figures}
 use Rattle.figures.specs.Edges.{edges}
-use Rattle.figures.specs.Claims.{Figures-hold, Edges-hold}
+use Rattle.figures.specs.Spellings.{spellings}
+use Rattle.figures.specs.Claims.{Figures-hold, Edges-hold, Spellings-hold}
 use Rattle.figures.proofs.Tests.{holds-every}
 use Rattle.figures.proofs.Table.{figures-pass}
 use Rattle.figures.proofs.Edges.{edges-pass}
+use Rattle.figures.proofs.Spellings.{spellings-pass}
 
 pub figures-hold : Figures-hold
 unfolding Figures-hold
@@ -13,3 +15,7 @@ figures-hold = holds-every figures figures-pass
 pub edges-hold : Edges-hold
 unfolding Edges-hold
 edges-hold = holds-every edges edges-pass
+
+pub spellings-hold : Spellings-hold
+unfolding Spellings-hold
+spellings-hold = holds-every spellings spellings-pass

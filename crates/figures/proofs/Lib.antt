@@ -2,4 +2,5 @@
 pub mod Tests
 pub mod Table
 pub mod Edges
+pub mod Spellings
 pub mod Claims

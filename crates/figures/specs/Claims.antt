@@ -3,6 +3,7 @@ use mathlib.Core.Path.{_≡_}
 use mathlib.Core.List.{List, List·Memᴰ}
 use Rattle.figures.specs.Table.{Figure, figures}
 use Rattle.figures.specs.Edges.{edges}
+use Rattle.figures.specs.Spellings.{spellings}
 
 -- every figure of a table is what the definitions give
 unfoldable pub Table-holds : List Figure → Type 0
@@ -15,3 +16,7 @@ Figures-hold = Table-holds figures
 -- so are the edges of the tracker's calls
 unfoldable pub Edges-hold : Type 0
 Edges-hold = Table-holds edges
+
+-- and the figures of the trace writer
+unfoldable pub Spellings-hold : Type 0
+Spellings-hold = Table-holds spellings
