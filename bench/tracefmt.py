@@ -8,20 +8,12 @@ leading zeros and blank lines, about 11 MB each. Both programs read the trace fr
 to a file; what they write has to be equal. Of several rounds the least time counts.
 """
 
-import argparse
-import pathlib
 import random
-import subprocess
 import sys
-import time
 
 sys.dont_write_bytecode = True
 import traces
-
-ROOT = pathlib.Path(__file__).resolve().parents[1]
-OURS = ROOT / "target/bin/tracefmt"
-PLAIN = ROOT / "target/plain/release/plain_tracefmt"
-TRACES = ROOT / "target/traces"
+from against_plain import TRACES, build_plain, print_ratio, rounds_asked
 
 
 def write_traces():
@@ -38,31 +30,12 @@ def write_traces():
     return spelled, respelled
 
 
-def run(program, trace, output):
-    with open(trace, "rb") as source, open(output, "wb") as sink:
-        began = time.perf_counter()
-        subprocess.run([program], stdin=source, stdout=sink, check=True)
-        return time.perf_counter() - began
-
-
-def measure(trace, rounds):
-    ours, plain = TRACES / "ours.spelling", TRACES / "plain.spelling"
-    times = [(run(OURS, trace, ours), run(PLAIN, trace, plain)) for _ in range(rounds)]
-    if ours.read_bytes() != plain.read_bytes():
-        sys.exit(f"{trace.name}: what the programs write differs")
-    return [min(each) for each in zip(*times)]
-
-
 def main():
-    parser = argparse.ArgumentParser(description="tracefmt's time over a plain program's.")
-    parser.add_argument("--rounds", type=int, default=5)
-    rounds = parser.parse_args().rounds
-    subprocess.run(["cargo", "build", "--release", "--quiet", "--target-dir", ROOT / "target/plain"],
-                   cwd=ROOT / "bench/plain_tracefmt", check=True)
+    rounds = rounds_asked("tracefmt's time over a plain program's.", 5)
+    build_plain("tracefmt")
     print("trace           tracefmt / plain")
-    for name, trace in zip(("spelled", "respelled"), write_traces()):
-        ours, plain = measure(trace, rounds)
-        print(f"{name:<16}{ours / plain:.2f}   ({ours:.3f} s)")
+    for title, trace in zip(("spelled", "respelled"), write_traces()):
+        print_ratio(title, "tracefmt", trace, rounds)
 
 
 if __name__ == "__main__":

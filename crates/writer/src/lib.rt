@@ -48,21 +48,21 @@ fn surveyed(v: Survey, answer: Read) -> Survey
     }
     let behind = spelling::standing_behind(standing, answer);
     let bytes = spelling::width(answer);
-    if bytes <= v.left {
+    if v.left < bytes {
         return Survey {
             active: behind.active,
             rows: behind.rows,
             refusal: 0,
-            left: v.left - bytes,
-            short: v.short,
+            left: v.left,
+            short: true,
         };
     }
     Survey {
         active: behind.active,
         rows: behind.rows,
         refusal: 0,
-        left: v.left,
-        short: true,
+        left: v.left - bytes,
+        short: v.short,
     }
 }
 
@@ -96,13 +96,10 @@ fn survey_all(answers: &[Read], room: usize) -> Survey
 fn records_due(v: Survey, count: usize) -> usize
     ensures { λ r. ⌜ r ≡ records-due v count ⌝ }
 {
-    if v.refusal != 0 {
-        return 0;
-    }
     if v.short {
         return 0;
     }
-    count
+    if v.refusal == 0 { count } else { 0 }
 }
 
 // What the writer answers, by what the first pass found in a text of so many bytes.
