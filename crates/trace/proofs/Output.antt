@@ -97,3 +97,9 @@ refusal-alike n m e k = rw e
 -- the number of the next line, from lines counted modulo 10,000,000,000
 pub counted-on : (lines count : ℕ) → lines % 10000000000 ≡ count % 10000000000 → (lines % 10000000000 + 1) % 10000000000 ≡ suc count % 10000000000
 counted-on lines count e = omega arith
+
+-- what was printed stands at the buffer's front
+pub take-printed : {before text buffer : List ℕ} {end : ℕ} → Prints before 0 text buffer end → take end buffer ≡ text
+unfolding written
+take-printed {before} {text} {buffer} {end} p =
+    rw (p .holds, p .behind) (take-at text (drop (0 + length text) before) (0 + length text) (omega arith))

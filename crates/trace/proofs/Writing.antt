@@ -11,6 +11,7 @@ use lib.ListN.{length, take, drop}
 use lib.Seq.{take-append-seam}
 use Rattle.device.specs.declared.Settings.{Settings}
 use Rattle.device.specs.Refusal.{Outcome, accepted, refused, unless, refuse, first-failed}
+use Rattle.device.specs.Acceptance.{most-rows}
 use Rattle.device.proofs.Acceptance.{Between, Accepted, accepted-settings}
 use Rattle.device.proofs.Refusal.{refuse-passed}
 use Rattle.laws.proofs.Cases.{split, zero-one}
@@ -47,7 +48,7 @@ before-fault-all standing (o ∷ os) e =
 -- the rows of standing settings, if any stand, are at most those of a bank
 data Standing : Option ℕ → Type 0 where
   no-settings : Standing none
-  some-settings : {rows : ℕ} → rows ≤ 65536 → Standing (some rows)
+  some-settings : {rows : ℕ} → rows ≤ most-rows → Standing (some rows)
 
 between-lt : {low high x : ℕ} → Between low high x → high < 1000000 → x < 1000000
 between-lt h k = omega arith

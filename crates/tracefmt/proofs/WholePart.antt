@@ -10,10 +10,8 @@ use lib.ListN.{length, take, drop, length-append, take-append-drop, drop-of-leng
 use lib.Seq.{take-at}
 use Rattle.laws.proofs.Cases.{split, clash}
 use Rattle.trace.specs.Lines.{ended}
-use Rattle.trace.specs.Numbers.{written}
-use Rattle.trace.specs.Output.{Prints}
 use Rattle.trace.specs.Texts.{kept-bytes}
-use Rattle.trace.proofs.Output.{prints-long}
+use Rattle.trace.proofs.Output.{prints-long, take-printed}
 use Rattle.trace.proofs.Texts.Cuts.{outcomes-kept, ended-less}
 use Rattle.tracefmt.specs.Rewriting.{Progress, rewriting, after}
 use Rattle.tracefmt.specs.Turns.{Rewrites, Moves}
@@ -36,11 +34,6 @@ module _ {g₀ g : Progress} {text buffer₀ buffer : List ℕ} {at end : ℕ} (
   pub part-whole : length text ≤ at → Rewrites g₀ text buffer₀ buffer g at end
   unfolding ended
   part-whole h = part-taken (λ _. rw (drop-of-length-le text {i = at} h))
-
-take-printed : {before text buffer : List ℕ} {end : ℕ} → Prints before 0 text buffer end → take end buffer ≡ text
-unfolding written
-take-printed {before} {text} {buffer} {end} p =
-    rw (p .holds, p .behind) (take-at text (drop (0 + length text) before) (0 + length text) (omega arith))
 
 -- behind whole lines: either a line was faulty, or 64 bytes of the line that has not ended tell as much as all
 module _ (g : Progress) (rest : List ℕ) (all : g .refusal ≡ 0 → ended rest ≡ false) (more : List ℕ) where

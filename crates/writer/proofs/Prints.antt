@@ -5,19 +5,15 @@ use Prim.Native.Nat.{ℕ, zero, suc, _+_, _≤_, _<_}
 use native.Mathlib.Nat.{zero-add, le-of-suc-le-suc, not-suc-le-zero}
 use native.Mathlib.Numerals.{add-one}
 use native.Mathlib.Omega.{arith}
-use lib.ListN.{length, getD, take, length-append}
+use lib.ListN.{length, take, length-append}
 use Rattle.trace.specs.declared.Read.{Read}
-use Rattle.trace.specs.declared.Read.the-variants.{Refused}
 use Rattle.trace.specs.Numbers.{written}
 use Rattle.trace.specs.Output.{Prints}
 use Rattle.trace.specs.Reading.{said}
 use Rattle.trace.specs.Spelling.{answer-spelling, spelling}
 use Rattle.trace.proofs.Output.{prints-nothing, prints-long, prints-then}
 use Rattle.writer.specs.Contracts.{outcome-of, outcomes-of}
-
--- answer k, and its spelling
-abbrev pub answer-at : List Read → ℕ → Read
-answer-at ys k = getD ys k (Refused 0)
+use Rattle.writer.proofs.Surveys.{answer-at}
 
 abbrev pub spelled : Read → List ℕ
 spelled answer = answer-spelling (said answer .outcome)

@@ -9,8 +9,8 @@ use Rattle.trace.specs.declared.Read.the-variants.{Refused}
 use Rattle.writer.specs.declared.Survey.{Survey}
 use Rattle.writer.specs.Contracts.{surveyed, surveys}
 
-abbrev pub answer-in : List Read → ℕ → Read
-answer-in ys k = getD ys k (Refused 0)
+abbrev pub answer-at : List Read → ℕ → Read
+answer-at ys k = getD ys k (Refused 0)
 
 -- over the first k answers
 pub first-surveyed : ℕ → List Read → Survey → Survey
@@ -22,7 +22,7 @@ pub survey-none : (ys : List Read) (v : Survey) → first-surveyed 0 ys v ≡ v
 unfolding first-surveyed
 survey-none ys v = refl
 
-pub survey-next : (k : ℕ) (ys : List Read) (v : Survey) → k < length ys → surveyed (first-surveyed k ys v) (answer-in ys k) ≡ first-surveyed (suc k) ys v
+pub survey-next : (k : ℕ) (ys : List Read) (v : Survey) → k < length ys → surveyed (first-surveyed k ys v) (answer-at ys k) ≡ first-surveyed (suc k) ys v
 unfolding first-surveyed
 survey-next k [] v h = absurd (not-suc-le-zero h)
 survey-next zero (y ∷ ys) v h = refl

@@ -6,33 +6,26 @@ use mathlib.Core.List.{List, [], _∷_, append-nil}
 use Prim.Native.Nat.{ℕ, suc, _+_, _%_, _≤_, _<_}
 use native.Mathlib.Omega.{arith}
 use borrow.Author.Tests.{lt-ltb, le-ltb}
-use lib.ListN.{length, drop, drop-of-length-le}
+use lib.ListN.{length}
 use Rattle.laws.proofs.Cases.{le-or-lt}
-use Rattle.trace.specs.Lines.{ended, extent}
-use Rattle.trace.specs.Reading.{reading, reading-by, or-refused}
+use Rattle.trace.specs.Lines.{ended}
 use Rattle.trace.specs.Output.{refusal-line}
 use Rattle.listing.specs.Steps.{Progress, refused-step, line-step, step}
-use Rattle.trace.specs.Texts.{lines, read, outcomes}
+use Rattle.trace.specs.Texts.{lines}
 use Rattle.listing.specs.Texts.{listed, listing}
 use Rattle.listing.specs.Memory.{Memory, Represents}
 use Rattle.listing.specs.Chunks.{next-number, last-line}
 use Rattle.trace.proofs.Output.{counted-on, refusal-alike, length-refusal-line}
-use Rattle.trace.proofs.Texts.FirstLine.{extent-most, outcomes-front}
-
-none-left : outcomes [] ≡ []
-unfolding outcomes lines
-none-left = refl
+use Rattle.trace.proofs.Texts.FirstLine.{outcomes-none, outcomes-unended}
 
 none-listed : (g : Progress) (text : List ℕ) → length text ≡ 0 → listing g text ≡ []
 unfolding listing listed
-none-listed g [] e = rw none-left
+none-listed g [] e = rw outcomes-none
 none-listed g (b ∷ text) e = absurd (omega arith)
 
-unended-listing : (g : Progress) (text : List ℕ) → ended text ≡ false → 0 < length text → listing g text ≡ refusal-line (suc (g .count)) 11
-unfolding listing listed read reading reading-by or-refused step line-step refused-step
-unended-listing g text e h =
-    let rest : drop (extent text) text ≡ [] = drop-of-length-le text {i = extent text} (omega (arith, extent-most text e)) in
-    rw (outcomes-front text h, rest, none-left, e, append-nil)
+unended-listing : (g : Progress) (b : ℕ) (text : List ℕ) → ended (b ∷ text) ≡ false → listing g (b ∷ text) ≡ refusal-line (suc (g .count)) 11
+unfolding listing listed step line-step refused-step
+unended-listing g b text e = rw (outcomes-unended b text e, append-nil)
 
 -- what the end of a trace prints, by what is left of it and by the room
 pub last-line-none : (number : ℕ) (text : List ℕ) (room : ℕ) → length text ≡ 0 → last-line number text room ≡ []
@@ -57,7 +50,7 @@ last-line-listing m g [] room r e h = last-line-none _ [] room refl ∙ sym (non
 last-line-listing m g (b ∷ bs) room r e h =
     last-line-some (m .place .lines % 10000000000 + 1) (b ∷ bs) room (omega arith) h ∙
     refusal-alike (m .place .lines % 10000000000 + 1) (suc (g .count)) (counted-on (m .place .lines) (g .count) (r .lines)) 11 ∙
-    sym (unended-listing g (b ∷ bs) e (omega arith))
+    sym (unended-listing g b bs e)
 
 -- it fits
 pub length-last-line : (number : ℕ) (text : List ℕ) (room : ℕ) → length (last-line number text room) ≤ room

@@ -6,9 +6,8 @@ use Prim.Native.Nat.{ℕ, _+_, _*_, _≤_}
 use native.Mathlib.Omega.{arith}
 use lib.ListN.{length, take, drop, length-take, length-drop, take-append-drop}
 use lib.Seq.{take-at, length-take-le}
-use Rattle.trace.specs.Numbers.{written}
 use Rattle.trace.specs.Lines.{ended}
-use Rattle.trace.specs.Output.{Prints}
+use Rattle.trace.proofs.Output.{take-printed}
 use Rattle.listing.specs.Steps.{Progress}
 use Rattle.listing.specs.Texts.{after}
 use Rattle.listing.specs.Memory.{Memory, Ready, Represents}
@@ -18,12 +17,6 @@ use Rattle.listing.specs.Parts.{Printed, lists, ends}
 use Rattle.listing.proofs.Memory.Progress.{represents-memory}
 use Rattle.listing.proofs.Chunks.Lines.{Taken, done-part}
 use Rattle.trace.proofs.Texts.Cuts.{ended-less}
-
--- what was printed stands at the buffer's front
-take-printed : {before text buffer : List ℕ} {end : ℕ} → Prints before 0 text buffer end → take end buffer ≡ text
-unfolding written
-take-printed {before} {text} {buffer} {end} p =
-    rw (p .holds, p .behind) (take-at text (drop (0 + length text) before) (0 + length text) (omega arith))
 
 module _ {g : Progress} {text buffer : List ℕ} {q : Going} (t : Taken g text buffer q) where
   pub printed-taken : (parts : List (List ℕ)) (out : List ℕ) → Printed (after g (take (q .taken) text)) (drop (q .taken) text) parts out → Printed g text parts (take (q .end) (q .buffer) ++ out)

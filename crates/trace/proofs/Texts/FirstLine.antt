@@ -5,11 +5,12 @@ use mathlib.Core.List.{List, [], _∷_}
 use Prim.Native.Nat.{ℕ, suc, _≤_, _<_}
 use native.Mathlib.Omega.{arith}
 use lib.Dec.{eqb}
-use lib.ListN.{length, take, drop, take-append-drop}
+use lib.ListN.{length, take, drop, take-append-drop, drop-of-length-le}
 use lib.Seq.{take-all}
 use Rattle.laws.proofs.Cases.{split, clash}
 use Rattle.trace.specs.Lines.{ended, extent}
-use Rattle.trace.specs.Reading.{Reading}
+use Rattle.device.specs.Refusal.{refused}
+use Rattle.trace.specs.Reading.{Reading, or-refused, reading-by, reading}
 use Rattle.trace.proofs.Reading.InParts.{reading-append-ended}
 use Rattle.trace.specs.Texts.{in-front, lines, read, outcomes}
 
@@ -58,3 +59,14 @@ pub outcomes-front : (text : List ℕ) → 0 < length text → outcomes text ≡
 unfolding outcomes
 outcomes-front [] h = absurd (omega arith)
 outcomes-front (b ∷ bs) h = rw (lines-front b bs, read-front (b ∷ bs))
+
+-- of no bytes nothing is said, and bytes without byte 10 are one refused line
+pub outcomes-none : outcomes [] ≡ []
+unfolding outcomes lines
+outcomes-none = refl
+
+pub outcomes-unended : (b : ℕ) (text : List ℕ) → ended (b ∷ text) ≡ false → outcomes (b ∷ text) ≡ refused 11 ∷ []
+unfolding read reading reading-by or-refused
+outcomes-unended b text e =
+    let rest : drop (extent (b ∷ text)) (b ∷ text) ≡ [] = drop-of-length-le (b ∷ text) {i = extent (b ∷ text)} (omega (arith, extent-most (b ∷ text) e)) in
+    rw (outcomes-front (b ∷ text) (omega arith), rest, outcomes-none, e)

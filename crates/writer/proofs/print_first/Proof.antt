@@ -56,7 +56,8 @@ use Rattle.writer.specs.Contracts.{outcomes-of}
 use Rattle.trace.proofs.Read as T
 use Rattle.trace.proofs.Read.Laws as T′
 use Rattle.writer.proofs.LentAgain.{Waiting, lent-out, given-back}
-use Rattle.writer.proofs.Prints.{answer-at, spelled, text-after, place-after, text-after-is, none-written, place-none, after-long, place-within, next-fits, text-next, place-next}
+use Rattle.writer.proofs.Surveys.{answer-at}
+use Rattle.writer.proofs.Prints.{spelled, text-after, place-after, text-after-is, none-written, place-none, after-long, place-within, next-fits, text-next, place-next}
 use Rattle.spelling.proofs.print_answer as answer
 use Rattle.spelling.proofs.print_answer.Symbol as answer-def
 use Rattle.spelling.proofs.print_answer.Symbol.{name as #spelling·print-answer}

@@ -55,7 +55,7 @@ use Rattle.trace.proofs.Read as T
 use Rattle.trace.proofs.Read.Laws as T′
 use Rattle.writer.specs.declared.Survey.{Survey}
 use Rattle.writer.specs.Contracts.{surveyed, surveys, survey-start}
-use Rattle.writer.proofs.Surveys.{answer-in, first-surveyed, survey-none, survey-next, survey-whole}
+use Rattle.writer.proofs.Surveys.{answer-at, first-surveyed, survey-none, survey-next, survey-whole}
 use Rattle.writer.proofs.Survey as F
 use Rattle.writer.proofs.Survey.Laws as F′
 use Rattle.writer.proofs.survey_start as begin
@@ -194,21 +194,21 @@ module _ {M : Type 1} (𝓤 : URA M) (H : Heap 𝓤) (A : Atoms 𝓤) (W : Given
         move ! (2 ∷ []) $ elem-out ! R (Is R) (shows 𝓤 H A R) vals (EL.tells T.the-type T′.the-laws) q′ ys k (Refused 0) b o l (λ is-elem.
         -- [answers[k]; what it owns; the others; _3; _4; what shuts; what answers owns; _1; _2; room for _0; _5; _6; _7; room for _8; …]
         assigns ! (of-opd ! (load ! (from ! (hop ! (look ! 12 refl) (stop !))) (look-raw ! 0 refl)))
-        (from ! (stop !)) (init ! 13 refl (EL.lawful T.the-type T′.the-laws 𝓤 H A W tt .typed (answer-in ys k) _ is-elem .0)) $
-        nothing ! $ owned ! R (Is R) (EL.makes T.the-type T′.the-plain 𝓤 H A) (answer-in ys k) _ is-elem $ fjoin ! $
+        (from ! (stop !)) (init ! 13 refl (EL.lawful T.the-type T′.the-laws 𝓤 H A W tt .typed (answer-at ys k) _ is-elem .0)) $
+        nothing ! $ owned ! R (Is R) (EL.makes T.the-type T′.the-plain 𝓤 H A) (answer-at ys k) _ is-elem $ fjoin ! $
         owned ! S (Is S) (SL.makes F.the-type F′.the-plain 𝓤 H A) (so-far k) _ (e .1) $ fjoin ! $ nothing ! $
-        use2 W (raw (Called 𝓤 H A mem run .pre (to-g (so-far k) (answer-in ys k)))) (goes-g (so-far k) (answer-in ys k)) $
-        calls-at ! (fmOf 𝓤 H (W .laws) 𝓣) (Called 𝓤 H A mem run) known (to-g (so-far k) (answer-in ys k)) (and-then ! (load ! (from ! (stop !)) (look ! 4 refl))
+        use2 W (raw (Called 𝓤 H A mem run .pre (to-g (so-far k) (answer-at ys k)))) (goes-g (so-far k) (answer-at ys k)) $
+        calls-at ! (fmOf 𝓤 H (W .laws) 𝓣) (Called 𝓤 H A mem run) known (to-g (so-far k) (answer-at ys k)) (and-then ! (load ! (from ! (stop !)) (look ! 4 refl))
         (and-then ! (load ! (from ! (stop !)) (look ! 14 refl)) (no-more !))) (λ w.
-        use1 W (later (some (λ (r : Survey). (‵ ftrue ⊛ ‵ (S .own r (w ∷ []))) ⊛ raw (ensured 𝓤 H A g.ended (g.clauses 𝓤 H A mem run) tt (so-far k, (answer-in ys k, tt)) tt r)))) (id⊢ 𝓤 _) $
+        use1 W (later (some (λ (r : Survey). (‵ ftrue ⊛ ‵ (S .own r (w ∷ []))) ⊛ raw (ensured 𝓤 H A g.ended (g.clauses 𝓤 H A mem run) tt (so-far k, (answer-at ys k, tt)) tt r)))) (id⊢ 𝓤 _) $
         await ! tt $ pick ! (λ r.
-        split ! $ move ! (1 ∷ []) $ use1 W (raw (fact 𝓤 (r ≡ surveyed (so-far k) (answer-in ys k)))) (called-of 𝓤 H A mem run (so-far k) (answer-in ys k) r) $
-        heard ! (r ≡ surveyed (so-far k) (answer-in ys k)) (λ told. split ! $ drop ! $
+        split ! $ move ! (1 ∷ []) $ use1 W (raw (fact 𝓤 (r ≡ surveyed (so-far k) (answer-at ys k)))) (called-of 𝓤 H A mem run (so-far k) (answer-at ys k) r) $
+        heard ! (r ≡ surveyed (so-far k) (answer-at ys k)) (λ told. split ! $ drop ! $
         peeks ! S (Is S) (shows 𝓤 H A S) r (w ∷ []) (λ is.
         let next : r ≡ so-far (k + 1) = told ∙ survey-next k ys (survey-start room) l ∙ ap so-far (sym (add-one k)) in
         let spelled = SL.tells F.the-type F′.the-laws r (w ∷ []) is in
         land ! (from ! (stop !)) (store ! 4 refl (typed r w is)) $ rewrite ! 4 (λ (u : List Val). ‵ (fat fullShare F′.mir l₃ 0 (only u))) (spelled ∙ ap found next) refl $
-        drop ! $ elem-back ! R q′ ys k (Refused 0) (vals (answer-in ys k)) b o l $
+        drop ! $ elem-back ! R q′ ys k (Refused 0) (vals (answer-at ys k)) b o l $
         -- [the row; _3; _4; what shuts; what answers owns; _1; _2; room for _0; _5; _6; _7; _8; …]
         assigns-last ! (bin ! (load ! (from ! (stop !)) (look ! 2 refl)) (lit ! tt) (record { fits = next-fits })) (from ! (stop !)) (store ! 2 refl (tt, record { fits = next-fits })) $
         forget ! 8 refl $ forget ! 9 refl $ forget ! 10 refl $ forget ! 11 refl $
