@@ -1,6 +1,8 @@
-"""Where a program's input or output fails: it ends, and what it has written is a prefix of what it ought to write.
+"""Where a program's input or output fails: it ends, and what it has written is a prefix of what it
+writes otherwise.
 
-Each failure starts the program, by `start`, on a file with its input or on a part of that, and says whether all went as it has to.
+Each failure starts the program, by `start`, on a file with its input or on a part of that, and says
+whether all went as it has to.
 """
 
 import functools
@@ -22,6 +24,16 @@ def ended(process):
         process.kill()
         process.wait()
         return False
+
+
+def output_of(start, **streams):
+    """What the program writes; None if it does not end."""
+    with temporary_file() as sink:
+        return written(sink) if ended(start(stdout=sink, **streams)) else None
+
+
+def is_prefix(text, wanted):
+    return text is not None and wanted.startswith(text)
 
 
 def read_all(descriptor):
@@ -67,16 +79,12 @@ def output_fills(start, trace, wanted):
 def errors_full(start, trace, wanted):
     """Every write on standard error fails."""
     with open("/dev/full", "wb") as sink:
-        process = start(stdin=trace, stdout=subprocess.PIPE, stderr=sink)
-        text = process.stdout.read()
-        return ended(process) and wanted.startswith(text)
+        return is_prefix(output_of(start, stdin=trace, stderr=sink), wanted)
 
 
 def errors_closed(start, trace, wanted):
     """There is no standard error."""
-    process = start(stdin=trace, stdout=subprocess.PIPE, preexec_fn=lambda: os.close(2))
-    text = process.stdout.read()
-    return ended(process) and wanted.startswith(text)
+    return is_prefix(output_of(start, stdin=trace, preexec_fn=lambda: os.close(2)), wanted)
 
 
 # Input
@@ -86,28 +94,25 @@ def input_unreadable(start, _, __):
     """Every read fails: a folder is no text."""
     folder = os.open("/", os.O_RDONLY)
     try:
-        process = start(stdin=folder, stdout=subprocess.PIPE)
-        return process.stdout.read() == b"" and ended(process)
+        return output_of(start, stdin=folder) == b""
     finally:
         os.close(folder)
 
 
 def input_closed(start, _, __):
     """There is no input."""
-    process = start(stdout=subprocess.PIPE, preexec_fn=lambda: os.close(0))
-    return process.stdout.read() == b"" and ended(process)
+    return output_of(start, preexec_fn=lambda: os.close(0)) == b""
 
 
 def input_fails_later(start, trace, wanted):
-    """A first part of the trace comes, then reads fail: nothing is written that the rest could change."""
-    text = of_first_part(start, trace)
-    return text is not None and wanted.startswith(text)
+    """Reads fail behind a first part: nothing is written that the rest could change."""
+    return is_prefix(of_first_part(start, trace), wanted)
 
 
 def input_fails_after_lines(start, trace, wanted):
-    """A first part of the trace comes, then reads fail: what its lines give is written, and nothing that the rest could change."""
+    """Reads fail behind a first part: what its lines give is written, nothing that the rest could change."""
     text = of_first_part(start, trace)
-    return bool(text) and wanted.startswith(text) and text.endswith(b"\n")
+    return bool(text) and is_prefix(text, wanted) and text.endswith(b"\n")
 
 
 def of_first_part(start, trace):
@@ -115,15 +120,15 @@ def of_first_part(start, trace):
     out, into = os.pipe()
     os.set_blocking(out, False)  # reading the empty pipe then fails
     os.write(into, trace.read(FIRST_PART))
-    process = start(stdin=out, stdout=subprocess.PIPE)
-    os.close(out)
-    text = process.stdout.read()
-    os.close(into)
-    return text if ended(process) else None
+    try:
+        return output_of(start, stdin=out)
+    finally:
+        os.close(out)
+        os.close(into)
 
 
 def check_failures(tally, command, failures, text, wanted, said=None):
-    """`said` is what the program has to say on standard error, or the start of that; None if it may say anything."""
+    """What the program says on standard error has to be a prefix of `said`, unless that is None."""
     for failure in failures:
         with temporary_file(text) as trace, temporary_file() as errors:
             start = functools.partial(subprocess.Popen, command, stderr=errors)

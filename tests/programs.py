@@ -1,4 +1,4 @@
-"""Runs a program on a text that comes from a file, through a pipe, or in small pieces through a pipe, and says where its output departs."""
+"""Runs a program on a text: from a file, through a pipe, or in small pieces through a pipe."""
 
 import collections
 import fcntl

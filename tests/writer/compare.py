@@ -293,9 +293,9 @@ EXPECTED_KINDS = (
     "listing with a refused line",
     "no fault", *(f"fault {number}" for number in REFUSALS),
     *(f"of the listing: {kind}" for kind in (
-        "empty input", "single byte", "plain", "several S", "settings at their limits", "no S", "almost good lines", "damaged",
-        "bytes 0, 13 and 255", "byte 13 before each byte 10", "cut off", "noise", "long lines",
-        "much output", "buffer boundary")),
+        "empty input", "single byte", "plain", "several S", "settings at their limits", "no S",
+        "almost good lines", "damaged", "bytes 0, 13 and 255", "byte 13 before each byte 10", "cut off",
+        "noise", "long lines", "much output", "buffer boundary")),
     *calls.EXPECTED_KINDS,
 )
 

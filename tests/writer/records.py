@@ -1,7 +1,6 @@
 """Traces for the comparison of the writer, each with what is known of its rewriting.
 
-A record is its letter and its numbers; a line without a record is a blank one, a refused one, or
-one that the reader takes and the writer does not.
+A record is its letter and its numbers. A fault is the number of a line and its refusal.
 """
 
 import collections
@@ -13,8 +12,8 @@ from comparison import (
 )
 from traces import BOUNDARIES, MOST, any_settings, bad_line, long_line, random_traces, small_settings
 
-# What tracefmt has to write and its fault (line number, refusal), if any; the spelling is None
-# where only the model knows both.
+# The spelling is what tracefmt has to write, and the fault may be None. Where only the model knows
+# them, the spelling is None.
 Case = collections.namedtuple("Case", "kind text spelling fault")
 
 EXTREMES = (
