@@ -5,8 +5,8 @@
     python3 tests/writer/compare.py [--seed N] [--program COMMAND] [--caller COMMAND] [--rowlist COMMAND]
 
 Builds the model, then compares what `tracefmt` writes and what it prints on standard error, and the
-answers and the whole lent text of the writer's calls, which `test_writer` makes: on document 01's
-example (example.*), on edges written by hand (edges.cases), and on random traces (records.py) and
+answers and the whole lent text of the writer's calls, which `test_writer` makes: on the example
+of README.md (example.*), on edges written by hand (edges.cases), and on random traces (records.py) and
 calls (calls.py), with one fixed and one fresh seed (--seed repeats a fresh one). Most of the random ones
 are made for an answer, which the model has to give too. What differs stays in target/writer/.
 Exit status: 0 all equal; 1 a difference; 2 something is missing or cannot be built.
@@ -274,7 +274,7 @@ def written_calls(title, text, spelling, lines):
 
 
 def check_written(tally, command, caller):
-    tally.begin("document 01's example, and edges written by hand, by tracefmt")
+    tally.begin("the example, and edges written by hand, by tracefmt")
     parts = [pathlib.Path(f"{HERE}/example.{suffix}").read_bytes()
              for suffix in ("trace", "spelling", "fault")]
     edges = list(written_cases())

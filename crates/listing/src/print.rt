@@ -1,4 +1,4 @@
-// The printed lines: bytes, numbers in columns and rows, at a place of a lent buffer; each answers the place behind what it printed.
+// The printed lines of accepted settings and of an event, at a place of a lent buffer; each answers the place behind what it printed.
 ghost use Prim.Native.Nat.{_+_, _*_, _≤_, _<_};
 ghost use lib.ListN.{length, take};
 ghost use Rattle.trace.specs.Output.{Prints-into};

@@ -1,3 +1,3 @@
--- The program: what a read leaves at hand, what lies between two reads, and what a whole run prints.
+-- The program: what lies between two reads, and what a whole run prints.
 pub mod Turns
 pub mod Claims

@@ -23,10 +23,10 @@ unfoldable pub progress-of : Place → Progress
 progress-of p = record { standing = standing-of (p .standing); count = p .lines; refusal = p .refusal }
 
 -- lines at the front of a text are rewritten from the front of a buffer on: all that have ended, or all before the first faulty one
-pub record Rewrites (g : Progress) (text before after-it : List ℕ) (g′ : Progress) (taken end : ℕ) : Type 0 where
+pub record Rewrites (g : Progress) (text buffer buffer′ : List ℕ) (g′ : Progress) (taken end : ℕ) : Type 0 where
   pub within : taken ≤ length text
   pub lines : whole (take taken text) ≡ true
-  pub prints : Prints before 0 (rewriting g (take taken text)) after-it end
+  pub prints : Prints buffer 0 (rewriting g (take taken text)) buffer′ end
   pub leaves : g′ ≡ after g (take taken text)
   pub all : g′ .refusal ≡ 0 → ended (drop taken text) ≡ false
 
