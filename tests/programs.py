@@ -2,6 +2,7 @@
 
 import collections
 import fcntl
+import os
 import struct
 import subprocess
 import sys
@@ -40,6 +41,17 @@ def through_pipe(command, text):
 def from_file(command, text):
     with temporary_file(text) as file:
         return run(command, stdin=file)
+
+
+def left_open(command, text):
+    """The pipe stays open behind a text that it can hold: the program has to end by itself."""
+    out, into = os.pipe()
+    try:
+        os.write(into, text)
+        return run(command, stdin=out)
+    finally:
+        os.close(out)
+        os.close(into)
 
 
 def in_pieces(sizes):

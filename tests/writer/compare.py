@@ -35,7 +35,7 @@ from failures import (
     check_failures, errors_closed, errors_full, input_closed, input_fails_later, input_unreadable,
     output_closed, output_fills, output_full, reader_leaves,
 )
-from programs import difference, from_file, in_pieces, random_pieces, through_pipe, wait_until_taken
+from programs import difference, from_file, in_pieces, left_open, random_pieces, through_pipe, wait_until_taken
 from records import (
     Case, FAULTS, faulty_case, good_records, one_record_changed, random_cases, respelled, spelled,
     unfinished,
@@ -282,6 +282,8 @@ def check_written(tally, command, caller):
         check_output(tally, MODEL_REWRITE, from_file, f"{title} by the model", text, wanted)
         for feed in (from_file, through_pipe, in_pieces([1] * len(text))):
             check_output(tally, command, feed, f"{title} by the program", text, wanted)
+        if wanted[1] and text.endswith(b"\n"):
+            check_output(tally, command, left_open, f"{title}, at whose fault it has to stop", text, wanted)
     cases = [case for _, _, _, cases in edges for case in cases]
     compare_calls(tally, collections.Counter(), caller, cases, random.Random(FIXED_SEED), "edges")
 

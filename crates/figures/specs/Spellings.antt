@@ -8,7 +8,7 @@ use Rattle.trace.specs.declared.Record.{Record}
 use Rattle.trace.specs.declared.Record.the-variants.{Set, Activate, Refresh, Blank}
 use Rattle.trace.specs.Texts.{outcomes}
 use Rattle.trace.specs.Spelling.{spelling}
-use Rattle.trace.specs.Writing.{first-fault, before-fault, Writing, writing}
+use Rattle.trace.specs.Writing.{first-fault, before-fault, writing}
 use Rattle.bound.specs.Answers.{settings-of}
 use Rattle.figures.specs.Table.{Figure, numbers, shown}
 

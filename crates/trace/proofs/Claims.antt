@@ -1,12 +1,18 @@
 -- The claims of specs/Claims.antt, each under its own name.
 use mathlib.Core.Path.{sym, ap, _∙_}
 use mathlib.Core.Option.{none}
-use Rattle.trace.specs.Claims.{Round-trip, Read-back, One-spelling, Rewritten-stays, Writer-spells, Before-sound}
-use Rattle.trace.specs.Spelling.{spelling}
+use lib.ListN.{drop-of-length-le}
+use Rattle.trace.specs.Claims.{Read-in-turn, Round-trip, Read-back, One-spelling, Rewritten-stays, Writer-spells, Written-stays, Before-sound}
+use Rattle.trace.specs.Spelling.{spelling, unblank}
 use Rattle.trace.specs.Texts.{outcomes}
+use Rattle.trace.proofs.Texts.FirstLine.{outcomes-none, outcomes-turn}
 use Rattle.trace.proofs.Spelling.Readable.{outcomes-readable}
 use Rattle.trace.proofs.Spelling.Texts.{outcomes-spelling, unrefused-unblank, spelling-unblank}
-use Rattle.trace.proofs.Writing.{first-fault-before, before-fault-all, faultless-readable, writing-fits, writing-accepted}
+use Rattle.trace.proofs.Writing.{first-fault-before, first-faulty, before-fault-all, first-fault-unblank, faultless-readable, writing-fits, writing-accepted}
+
+pub read-in-turn : Read-in-turn
+unfolding Read-in-turn
+read-in-turn text place = (outcomes-turn text place, λ h. rw (drop-of-length-le text {i = place} h) outcomes-none)
 
 pub round-trip : Round-trip
 unfolding Round-trip
@@ -35,6 +41,22 @@ pub writer-spells : Writer-spells
 unfolding Writer-spells
 writer-spells os text = (writing-fits os text, writing-accepted os text)
 
+pub written-stays : Written-stays
+unfolding Written-stays Round-trip
+written-stays os text text′ n e h =
+    let told = writing-accepted os text n e in
+    let faultless = first-fault-unblank none os ∙ told .0 in
+    let same = spelling-unblank os in
+    let again = writing-fits (unblank os) text′ faultless (rw (same, ← told .2) h) in
+    let bytes = writing-fits os text (told .0) (told .1) .1 in
+    rw (round-trip os text n e .0, told .2, bytes) (rw same at again)
+
 pub before-sound : Before-sound
 unfolding Before-sound
-before-sound os = (first-fault-before none os, before-fault-all none os)
+before-sound os = (
+  first-fault-before none os,
+  before-fault-all none os,
+  λ h.
+      let f = first-faulty none os h in
+      record { answer = f .answer; others = f .others; behind = f .behind; faulty = f .faulty },
+)

@@ -8,6 +8,5 @@ pub mod Texts
 pub mod Output
 pub mod Spelling
 pub mod Writing
-pub mod KeptBytes
 pub mod Contracts
 pub mod Claims

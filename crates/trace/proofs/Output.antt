@@ -1,4 +1,4 @@
--- Texts printed one right behind another.
+-- What is printed: texts one right behind another, numbers in columns, and the line of a refusal.
 use mathlib.Core.Path.{_≡_, refl, ap, sym, _∙_}
 use mathlib.Core.List.{List, [], _∷_, _++_, append-assoc, append-nil}
 use Prim.Native.Nat.{ℕ, suc, _+_, _*_, _%_, _≤_, _<_}
@@ -66,23 +66,23 @@ prints-then {b} {c} {d} {x} {y} {at} {p} {q} f s =
       behind = omega arith;
     }
 
-pub length-number-columns : (rows : List ℕ) → length (number-columns rows) ≡ 6 * length rows
+pub length-number-columns : (ns : List ℕ) → length (number-columns ns) ≡ 6 * length ns
 unfolding number-columns
 length-number-columns [] = refl
-length-number-columns (row ∷ rows) = rw length-append (omega (arith, length-printed 6 row, length-number-columns rows))
+length-number-columns (n ∷ ns) = rw length-append (omega (arith, length-printed 6 n, length-number-columns ns))
 
-pub length-number-columns-take : (rows : List ℕ) (i : ℕ) → i ≤ length rows → length (number-columns (take i rows)) ≡ 6 * i
-length-number-columns-take rows i h = length-number-columns (take i rows) ∙ rw (length-take-le i rows h)
+pub length-number-columns-take : (ns : List ℕ) (i : ℕ) → i ≤ length ns → length (number-columns (take i ns)) ≡ 6 * i
+length-number-columns-take ns i h = length-number-columns (take i ns) ∙ rw (length-take-le i ns h)
 
 columns-append : (xs ys : List ℕ) → number-columns (xs ++ ys) ≡ number-columns xs ++ number-columns ys
 unfolding number-columns
 columns-append [] ys = refl
 columns-append (x ∷ xs) ys = rw (columns-append xs ys, append-assoc)
 
--- one row more
-pub number-columns-more : (rows : List ℕ) (i : ℕ) → i < length rows → number-columns (take (i + 1) rows) ≡ number-columns (take i rows) ++ printed 6 (getD rows i 0)
+-- one number more
+pub number-columns-more : (ns : List ℕ) (i : ℕ) → i < length ns → number-columns (take (i + 1) ns) ≡ number-columns (take i ns) ++ printed 6 (getD ns i 0)
 unfolding number-columns
-number-columns-more rows i h = rw (add-one i, take-suc rows i 0 h, columns-append, append-nil)
+number-columns-more ns i h = rw (add-one i, take-suc ns i 0 h, columns-append, append-nil)
 
 pub length-refusal-line : (number k : ℕ) → length (refusal-line number k) ≡ 18
 unfolding refusal-line

@@ -1,7 +1,8 @@
 -- The writer: answers without a fault are readable, those before the first faulty one have none, and when the spelling is written.
-use mathlib.Core.Path.{_≡_, refl}
+use mathlib.Core.Path.{_≡_, refl, sym, ap}
+use mathlib.Core.Bool.{true}
 use mathlib.Core.Logic.{⊎-elim}
-use mathlib.Core.List.{List, [], _∷_}
+use mathlib.Core.List.{List, [], _∷_, _++_}
 use mathlib.Core.Option.{Option, none, some}
 use Prim.Native.Nat.{ℕ, zero, suc, _+_, _≤_, _<_}
 use native.Mathlib.Omega.{arith}
@@ -14,14 +15,20 @@ use Rattle.device.specs.Refusal.{Outcome, accepted, refused, unless, refuse, fi
 use Rattle.device.specs.Acceptance.{most-rows}
 use Rattle.device.proofs.Acceptance.{Between, Accepted, accepted-settings}
 use Rattle.device.proofs.Refusal.{refuse-passed}
-use Rattle.laws.proofs.Cases.{split, zero-one}
+use Rattle.laws.proofs.Cases.{split, clash, zero-one}
 use Rattle.trace.specs.declared.Record.{Record}
 use Rattle.trace.specs.declared.Record.the-variants.{Set, Activate, Refresh, Blank}
 use Rattle.trace.specs.Numbers.{written}
-use Rattle.trace.specs.Spelling.{settings-numbers, spelling}
-use Rattle.trace.specs.Writing.{standing-behind, row-fault, fault, first-fault, before-fault, room-fault, writing-fault, writing-by, writing}
+use Rattle.trace.specs.Spelling.{settings-numbers, spelling, is-blank, unblank}
+use Rattle.trace.specs.Writing.{standing-behind, standing-after, row-fault, fault, first-fault, before-fault, room-fault, writing-fault, writing-by, writing}
 use Rattle.trace.proofs.Spelling.Numbers.{Narrow, no-number, one-more}
 use Rattle.trace.proofs.Spelling.Readable.{Readable, Readables, no-answer, one-answer-more, of-settings, of-activation, of-refresh, of-blank}
+
+pub record Faulty-from (standing : Option ℕ) (os : List (Outcome Record)) : Type 0 where
+  pub answer : Outcome Record
+  pub others : List (Outcome Record)
+  pub behind : os ≡ before-fault standing os ++ (answer ∷ others)
+  pub faulty : fault (standing-after standing (before-fault standing os)) answer ≡ first-fault standing os
 
 -- the first answer has no fault, nor has any behind it
 first-fault-none : (standing : Option ℕ) (o : Outcome Record) (os : List (Outcome Record)) → first-fault standing (o ∷ os) ≡ 0
@@ -37,6 +44,22 @@ unfolding first-fault before-fault
 first-fault-before standing [] = refl
 first-fault-before standing (o ∷ os) =
     split (eqb (fault standing o) 0) (λ q. rw (q, q) (first-fault-before (standing-behind standing o) os)) (λ q. rw q)
+
+-- a faulty one stands right behind those before it
+pub first-faulty : (standing : Option ℕ) (os : List (Outcome Record)) → (first-fault standing os ≡ 0 → ⊥) → Faulty-from standing os
+unfolding first-fault before-fault standing-after
+first-faulty standing [] h = absurd (h refl)
+first-faulty standing (o ∷ os) h =
+    split (eqb (fault standing o) 0)
+    (λ q.
+    let later = first-faulty (standing-behind standing o) os (λ e. h (rw q e)) in
+    record {
+      answer = later .answer;
+      others = later .others;
+      behind = rw q (ap (λ (ps : List (Outcome Record)). o ∷ ps) (later .behind));
+      faulty = rw q (later .faulty);
+    })
+    (λ q. record { answer = o; others = os; behind = rw q; faulty = rw q })
 
 pub before-fault-all : (standing : Option ℕ) (os : List (Outcome Record)) → first-fault standing os ≡ 0 → before-fault standing os ≡ os
 unfolding before-fault
@@ -122,3 +145,22 @@ writing-accepted os text n e =
     let passed = accepted-by _ n (spelling os) text e in
     let fits = room-fault-none (first-fault none os) (length (spelling os)) (length text) (passed .0) in
     (fits .0, fits .1, passed .1)
+
+-- blank answers have no fault and leave what stands
+blank-faultless : (standing : Option ℕ) (o : Outcome Record) → is-blank o ≡ true → (fault standing o ≡ 0) × (standing-behind standing o ≡ standing)
+unfolding is-blank fault standing-behind
+blank-faultless standing (accepted (Set s)) h = clash (sym h)
+blank-faultless standing (accepted (Activate row)) h = clash (sym h)
+blank-faultless standing (accepted Refresh) h = clash (sym h)
+blank-faultless standing (accepted Blank) h = (refl, refl)
+blank-faultless standing (refused k) h = clash (sym h)
+
+pub first-fault-unblank : (standing : Option ℕ) (os : List (Outcome Record)) → first-fault standing (unblank os) ≡ first-fault standing os
+unfolding first-fault unblank
+first-fault-unblank standing [] = refl
+first-fault-unblank standing (o ∷ os) =
+    split (is-blank o)
+    (λ b.
+    let none = blank-faultless standing o b in
+    rw (b, eq-eqb _ _ (none .0), none .1) (first-fault-unblank standing os))
+    (λ b. rw (b, first-fault-unblank (standing-behind standing o) os))

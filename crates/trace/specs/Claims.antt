@@ -1,15 +1,23 @@
 -- What is claimed of spellings and of the writer. proofs/Claims.antt proves each under the same name.
-use Prim.Native.Nat.{ℕ, _≤_}
+use Prim.Native.Nat.{ℕ, _≤_, _<_}
 use mathlib.Core.Path.{_≡_}
 use mathlib.Core.Bool.{true}
-use mathlib.Core.List.{List}
+use mathlib.Core.List.{List, [], _∷_, _++_}
 use mathlib.Core.Option.{none}
-use lib.ListN.{length, take}
+use lib.ListN.{length, take, drop}
 use Rattle.device.specs.Refusal.{Outcome, accepted}
 use Rattle.trace.specs.declared.Record.{Record}
+use Rattle.trace.specs.Reading.{reading}
 use Rattle.trace.specs.Texts.{outcomes}
 use Rattle.trace.specs.Spelling.{spelling, unblank, unrefused}
-use Rattle.trace.specs.Writing.{first-fault, before-fault, writing}
+use Rattle.trace.specs.Writing.{standing-after, fault, first-fault, before-fault, writing}
+
+-- 'read line by line': what the reader says at a place, then what it says from the place behind that line on, until no byte is left
+unfoldable pub Read-in-turn : Type 0
+Read-in-turn =
+    (text : List ℕ) (place : ℕ) →
+    (place < length text → outcomes (drop place text) ≡ reading text place .outcome ∷ outcomes (drop (reading text place .place) text)) ×
+    (length text ≤ place → outcomes (drop place text) ≡ [])
 
 -- 'The reader returns the records that were written': the written text, read line by line from its start, gives exactly these, blank ones
 -- aside, and no refused line
@@ -43,8 +51,23 @@ Writer-spells =
     (writing os text .answer ≡ accepted (length (spelling os))) × (take (length (spelling os)) (writing os text .text) ≡ spelling os)) ×
     ((n : ℕ) → writing os text .answer ≡ accepted n → (first-fault none os ≡ 0) × (length (spelling os) ≤ length text) × (n ≡ length (spelling os)))
 
--- the answers before the first faulty one have no fault, and are all where none is faulty
+-- so a text that the writer wrote is rewritten to itself, wherever it fits
+unfoldable pub Written-stays : Type 0
+Written-stays =
+    (os : List (Outcome Record)) (text text′ : List ℕ) (n : ℕ) → writing os text .answer ≡ accepted n → n ≤ length text′ →
+    let bytes = take n (writing os text .text) in
+    (writing (outcomes bytes) text′ .answer ≡ accepted n) × (take n (writing (outcomes bytes) text′ .text) ≡ bytes)
+
+-- a faulty answer behind those without a fault, where they leave off
+pub record First-faulty (os : List (Outcome Record)) : Type 0 where
+  pub answer : Outcome Record
+  pub others : List (Outcome Record)
+  pub behind : os ≡ before-fault none os ++ (answer ∷ others)
+  pub faulty : fault (standing-after none (before-fault none os)) answer ≡ first-fault none os
+
+-- 'the first faulty record deciding': the answers before it have no fault; they are all, or it stands right behind them
 unfoldable pub Before-sound : Type 0
 Before-sound =
     (os : List (Outcome Record)) →
-    (first-fault none (before-fault none os) ≡ 0) × (first-fault none os ≡ 0 → before-fault none os ≡ os)
+    (first-fault none (before-fault none os) ≡ 0) × (first-fault none os ≡ 0 → before-fault none os ≡ os) ×
+    ((first-fault none os ≡ 0 → ⊥) → First-faulty os)

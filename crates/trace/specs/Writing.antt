@@ -20,6 +20,11 @@ standing-behind standing (accepted Refresh) = standing
 standing-behind standing (accepted Blank) = standing
 standing-behind standing (refused k) = standing
 
+-- behind a list of answers
+unfoldable pub standing-after : Option ℕ → List (Outcome Record) → Option ℕ
+standing-after standing [] = standing
+standing-after standing (o ∷ os) = standing-after (standing-behind standing o) os
+
 -- 'a row is held against the settings last before it': 9; 'a row before any settings gets 11'
 unfoldable pub row-fault : Option ℕ → ℕ → ℕ
 row-fault none row = 11
@@ -53,6 +58,7 @@ unfoldable pub room-fault : ℕ → ℕ → ℕ → ℕ
 room-fault zero needed room = first-failed (unless (leb needed room) 13 ∷ [])
 room-fault (suc k) needed room = suc k
 
+-- what the whole list earns in a lent text of so many bytes
 unfoldable pub writing-fault : List (Outcome Record) → ℕ → ℕ
 writing-fault os room = room-fault (first-fault none os) (length (spelling os)) room
 

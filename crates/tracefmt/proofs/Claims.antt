@@ -15,15 +15,19 @@ use Rattle.laws.proofs.Cases.{split}
 use Rattle.trace.specs.declared.Record.{Record}
 use Rattle.trace.specs.Lines.{ended}
 use Rattle.trace.specs.Texts.{outcomes, joined}
+use Rattle.trace.specs.Spelling.{spelling, unblank}
 use Rattle.trace.specs.Writing.{first-fault, before-fault}
 use Rattle.trace.proofs.Output.{counted-on, refusal-alike}
+use Rattle.trace.proofs.Spelling.Texts.{outcomes-spelling, spelling-unblank}
+use Rattle.trace.proofs.Writing.{first-fault-before, before-fault-all, faultless-readable, first-fault-unblank}
 use Rattle.input.specs.declared.Input.the-variants.{Bytes}
 use Rattle.input.specs.AtHand.{Came}
 use Rattle.input.proofs.AtHand.{at-hand}
 use Rattle.tracefmt.specs.Rewriting.{Progress, start, passed, rewriting, after, fault-line, fault-said}
 use Rattle.tracefmt.specs.Turns.{progress-of, Turned, Turns, goes-on, stops, ends}
-use Rattle.tracefmt.specs.Claims.{Rewritten-up-to-fault, Turns-rewritten}
+use Rattle.tracefmt.specs.Claims.{Rewritten-up-to-fault, Turns-rewritten, Rewritten-again}
 use Rattle.tracefmt.proofs.Faults.{after-stopped, rewriting-stopped, rewritten-before, passed-fault, passed-count}
+use Rattle.tracefmt.proofs.WholePart.{moves-writes, moves-leaves, moves-unended}
 use Rattle.tracefmt.proofs.Ends.{rewriting-end, after-end}
 
 said-of-fault : (os : List (Outcome Record)) → fault-line (passed start os) ≡ fault-said os
@@ -53,15 +57,15 @@ turns-rewrite : {g : Progress} {text : List ℕ} {kept : ℕ} {parts : List (Lis
 unfolding joined Turned progress-of
 turns-rewrite e (goes-on text₁ len r text₂ buffer {parts} came turned more later) =
     let moves = turned .0 in
-    let rest = turns-rewrite (moves .unended (eqb-true _ _ (sym (turned .1) ∙ more))) later in (
-      rw (in-parts (joined parts) came, moves .writes (joined parts), rest .0),
-      rw (in-parts (joined parts) came, moves .leaves (joined parts), rest .1),
+    let rest = turns-rewrite (moves-unended moves (eqb-true _ _ (sym (turned .1) ∙ more))) later in (
+      rw (in-parts (joined parts) came, moves-writes moves (joined parts), rest .0),
+      rw (in-parts (joined parts) came, moves-leaves moves (joined parts), rest .1),
     )
 turns-rewrite e (stops text₁ len r text₂ buffer parts came turned more) =
     let moves = turned .0 in
     let stopped = sym (turned .1) ∙ more in (
-      rw (in-parts (joined parts) came, moves .writes (joined parts), rewriting-stopped (progress-of (r .place)) stopped, append-nil),
-      rw (in-parts (joined parts) came, moves .leaves (joined parts), after-stopped (progress-of (r .place)) stopped),
+      rw (in-parts (joined parts) came, moves-writes moves (joined parts), rewriting-stopped (progress-of (r .place)) stopped, append-nil),
+      rw (in-parts (joined parts) came, moves-leaves moves (joined parts), after-stopped (progress-of (r .place)) stopped),
     )
 turns-rewrite {g} {text} {kept} e (ends text₁ r text₂ buffer few came turned) = (
   rw (append-nil, turned .1, rewriting-end g (take kept text) e),
@@ -74,3 +78,12 @@ turns-rewritten text parts out last run =
     let all = turns-rewrite refl run in
     let lines = rewritten-up-to-fault (outcomes (joined parts)) in
     (all .0 ∙ lines .0, ap fault-line (all .1) ∙ lines .1)
+
+pub rewritten-again : Rewritten-again
+unfolding Rewritten-again fault-said
+rewritten-again text =
+    let os = before-fault none (outcomes text) in
+    let sound : first-fault none os ≡ 0 = first-fault-before none (outcomes text) in
+    let back : outcomes (spelling os) ≡ unblank os = outcomes-spelling (faultless-readable os sound) in
+    let faultless : first-fault none (unblank os) ≡ 0 = first-fault-unblank none os ∙ sound in
+    (rw (back, before-fault-all none (unblank os) faultless) (spelling-unblank os), rw (back, faultless))

@@ -51,22 +51,26 @@ module _ (g : Progress) (rest : List ℕ) (all : g .refusal ≡ 0 → ended rest
       (λ e. rw (outcomes-kept rest more (all (eqb-true _ _ e))))
       (λ e. after-stopped g e (rest ++ more) ∙ sym (after-stopped g e (take 64 rest ++ more)))
 
--- a part, and the bytes kept behind it, are a move
-module _ {g g′ : Progress} {text buffer₀ buffer : List ℕ} {taken end : ℕ} (r : Rewrites g text buffer₀ buffer g′ taken end) where
-  cut : (more : List ℕ) → text ++ more ≡ take taken text ++ (drop taken text ++ more)
-  cut more = ap (λ (t : List ℕ). t ++ more) (sym (take-append-drop taken text)) ∙ append-assoc (take taken text) (drop taken text) more
+-- a move: whatever comes behind the bytes at hand, the rewriting is the same
+module _ {g g′ : Progress} {text written left : List ℕ} (m : Moves g text written g′ left) where
+  cut : (more : List ℕ) → text ++ more ≡ take (m .taken) text ++ (drop (m .taken) text ++ more)
+  cut more =
+      ap (λ (t : List ℕ). t ++ more) (sym (take-append-drop (m .taken) text)) ∙ append-assoc (take (m .taken) text) (drop (m .taken) text) more
 
-  pub moves-part : Moves g text (take end buffer) g′ (take 64 (drop taken text))
-  moves-part =
-      record {
-        writes = λ more.
-            ap (rewriting g) (cut more) ∙ rewriting-cut g (take taken text) (drop taken text ++ more) (r .lines) ∙
-            rw (take-printed (r .prints), ← r .leaves) (ap (λ (t : List ℕ). rewriting g (take taken text) ++ t) (rewriting-kept g′ (drop taken text) (r .all) more));
-        leaves = λ more.
-            ap (after g) (cut more) ∙ after-cut g (take taken text) (drop taken text ++ more) (r .lines) ∙
-            rw (← r .leaves) (after-kept g′ (drop taken text) (r .all) more);
-        unended = λ e. ended-less 64 (drop taken text) (r .all e);
-      }
+  pub moves-writes : (more : List ℕ) → rewriting g (text ++ more) ≡ written ++ rewriting g′ (left ++ more)
+  moves-writes more =
+      let rest : List ℕ = drop (m .taken) text in
+      ap (rewriting g) (cut more) ∙ rewriting-cut g (take (m .taken) text) (rest ++ more) (m .lines) ∙
+      rw (m .writes, m .keeps, ← m .leaves) (ap (λ (t : List ℕ). rewriting g (take (m .taken) text) ++ t) (rewriting-kept g′ rest (m .all) more))
+
+  pub moves-leaves : (more : List ℕ) → after g (text ++ more) ≡ after g′ (left ++ more)
+  moves-leaves more =
+      let rest : List ℕ = drop (m .taken) text in
+      ap (after g) (cut more) ∙ after-cut g (take (m .taken) text) (rest ++ more) (m .lines) ∙
+      rw (m .keeps, ← m .leaves) (after-kept g′ rest (m .all) more)
+
+  pub moves-unended : g′ .refusal ≡ 0 → ended left ≡ false
+  moves-unended e = rw (m .keeps) (ended-less 64 (drop (m .taken) text) (m .all e))
 
 -- what lies between two reads, by what the part and the keeping left
 pub chunk-moves : {g g′ : Progress} {text′ buffer₀ buffer : List ℕ} {taken end kept : ℕ} (text : List ℕ) (len : ℕ) → Rewrites g (take len text) buffer₀ buffer g′ taken end
@@ -76,7 +80,7 @@ unfolding kept-bytes
 chunk-moves {text′ = text′} {taken = taken} {kept = kept} text len r k t =
     let bytes : List ℕ = take 64 (drop taken (take len text)) in
     let front : take kept text′ ≡ bytes = ap (take kept) t ∙ take-at bytes (drop kept text) kept (sym k) in (
-      rw front (moves-part r),
+      record { taken = taken; lines = r .lines; writes = take-printed (r .prints); leaves = r .leaves; all = r .all; keeps = front },
       omega (arith, k, ap length t, length-append bytes (drop kept text)),
       omega (arith, r .prints .fits, r .prints .behind, prints-long (r .prints)),
     )

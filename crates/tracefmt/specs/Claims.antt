@@ -1,6 +1,6 @@
 -- What is claimed of the program, besides its functions' contracts. proofs/Claims.antt proves each under the same name.
 use mathlib.Core.Path.{_≡_}
-use mathlib.Core.List.{List}
+use mathlib.Core.List.{List, []}
 use mathlib.Core.Option.{none}
 use Prim.Native.Nat.{ℕ}
 use Rattle.device.specs.Refusal.{Outcome}
@@ -22,3 +22,10 @@ unfoldable pub Turns-rewritten : Type 0
 Turns-rewritten =
     (text : List ℕ) (parts : List (List ℕ)) (out : List ℕ) (last : Progress) → Turns start text 0 parts out last →
     (out ≡ spelling (before-fault none (outcomes (joined parts)))) × (fault-line last ≡ fault-said (outcomes (joined parts)))
+
+-- rewriting a rewritten text changes nothing, whatever the text was, and no line of it is faulty
+unfoldable pub Rewritten-again : Type 0
+Rewritten-again =
+    (text : List ℕ) →
+    let out = spelling (before-fault none (outcomes text)) in
+    (spelling (before-fault none (outcomes out)) ≡ out) × (fault-said (outcomes out) ≡ [])

@@ -12,8 +12,8 @@ use Rattle.trace.specs.Output.{line-modulus, refusal-line}
 use Rattle.trace.specs.Spelling.{answer-spelling}
 use Rattle.trace.specs.Writing.{standing-behind, fault, first-fault, before-fault}
 
--- where a rewriting is: N of the settings last before, if any stand; the lines so far, modulo 10,000,000,000; and the refusal of the line that
--- stopped it, 0 while none did
+-- where a rewriting is: N of the settings last before, if any stand; a number of lines alike modulo 10,000,000,000 to those so far; and the refusal
+-- of the line that stopped it, 0 while none did
 pub record Progress : Type 0 where
   pub standing : Option ℕ
   pub count : ℕ

@@ -8,7 +8,7 @@ use lib.ListN.{length, take, drop}
 use denote.Ref.{now}
 use Rattle.laws.specs.Lent.{Slice, Lent}
 use Rattle.trace.specs.Lines.{ended}
-use Rattle.trace.specs.Texts.{whole}
+use Rattle.trace.specs.Texts.{whole, most-kept}
 use Rattle.trace.specs.Output.{Prints}
 use Rattle.spelling.specs.Contracts.{standing-of}
 use Rattle.input.specs.declared.Input.{Input}
@@ -30,11 +30,14 @@ pub record Rewrites (g : Progress) (text buffer buffer′ : List ℕ) (g′ : Pr
   pub leaves : g′ ≡ after g (take taken text)
   pub all : g′ .refusal ≡ 0 → ended (drop taken text) ≡ false
 
--- bytes at hand are rewritten up to some that are left of a line that has not ended: whatever comes behind them, the rewriting is the same
+-- the bytes at hand are rewritten so, and of those behind the lines that were taken the first 64 are left
 pub record Moves (g : Progress) (text written : List ℕ) (g′ : Progress) (left : List ℕ) : Type 0 where
-  pub writes : (more : List ℕ) → rewriting g (text ++ more) ≡ written ++ rewriting g′ (left ++ more)
-  pub leaves : (more : List ℕ) → after g (text ++ more) ≡ after g′ (left ++ more)
-  pub unended : g′ .refusal ≡ 0 → ended left ≡ false
+  pub taken : ℕ
+  pub lines : whole (take taken text) ≡ true
+  pub writes : written ≡ rewriting g (take taken text)
+  pub leaves : g′ ≡ after g (take taken text)
+  pub all : g′ .refusal ≡ 0 → ended (drop taken text) ≡ false
+  pub keeps : left ≡ take most-kept (drop taken text)
 
 -- what a turn leaves, by what the read before it came to: it goes on while no line was faulty
 unfoldable pub Turned : Progress → List ℕ → ℕ → Input → Turn → List ℕ → List ℕ → Type 0

@@ -5,8 +5,8 @@ use mathlib.Core.List.{List, [], _∷_}
 use Prim.Native.Nat.{ℕ, suc, _≤_, _<_}
 use native.Mathlib.Omega.{arith}
 use lib.Dec.{eqb}
-use lib.ListN.{length, take, drop, take-append-drop, drop-of-length-le}
-use lib.Seq.{take-all}
+use lib.ListN.{length, take, drop, take-append-drop, drop-of-length-le, length-drop}
+use lib.Seq.{take-all, drop-drop}
 use Rattle.laws.proofs.Cases.{split, clash}
 use Rattle.trace.specs.Lines.{ended, extent}
 use Rattle.device.specs.Refusal.{refused}
@@ -20,7 +20,7 @@ unfolding lines in-front extent
 lines-front b [] = split (eqb b 10) (λ e. rw e) (λ e. rw e)
 lines-front b (c ∷ cs) = split (eqb b 10) (λ e. rw e) (λ e. rw (e, lines-front c cs))
 
-pub extent-most : (text : List ℕ) → ended text ≡ false → extent text ≡ length text
+extent-most : (text : List ℕ) → ended text ≡ false → extent text ≡ length text
 unfolding extent ended
 extent-most [] h = refl
 extent-most (b ∷ text) h = split (eqb b 10) (λ e. clash (rw e at h)) (λ e. rw e (ap suc (extent-most text (rw e at h))))
@@ -70,3 +70,11 @@ unfolding read reading reading-by or-refused
 outcomes-unended b text e =
     let rest : drop (extent (b ∷ text)) (b ∷ text) ≡ [] = drop-of-length-le (b ∷ text) {i = extent (b ∷ text)} (omega (arith, extent-most (b ∷ text) e)) in
     rw (outcomes-front (b ∷ text) (omega arith), rest, outcomes-none, e)
+
+-- the same from a place on
+pub outcomes-turn : (text : List ℕ) (place : ℕ) → place < length text
+    → outcomes (drop place text) ≡ reading text place .outcome ∷ outcomes (drop (reading text place .place) text)
+unfolding read reading reading-by
+outcomes-turn text place h =
+    let rest = drop place text in
+    outcomes-front rest (omega (arith, length-drop place text)) ∙ rw (drop-drop (extent rest) place text)

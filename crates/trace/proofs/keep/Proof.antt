@@ -5,7 +5,7 @@ use Prim.Native.Nat.{ℕ, _-_, _≤_}
 use native.Mathlib.Omega.{arith}
 use borrow.Author.Needs.{needs}
 use lib.ListN.{length, drop}
-use Rattle.trace.proofs.KeptBytes.{kept-few, kept-is, Copied, copied-long, front-long, copied-on}
+use Rattle.trace.proofs.Texts.KeptBytes.{kept-few, kept-is, Copied, copied-long, front-long, copied-on}
 use Rattle.trace.proofs.keep.Statement.{statement}
 use Rattle.trace.proofs.keep.Tie as tie
 
