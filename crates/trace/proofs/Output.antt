@@ -3,7 +3,7 @@ use mathlib.Core.Path.{_≡_, refl, ap, sym, _∙_}
 use mathlib.Core.List.{List, [], _∷_, _++_, append-assoc, append-nil}
 use Prim.Native.Nat.{ℕ, suc, _+_, _*_, _%_, _≤_, _<_}
 use native.Mathlib.Numerals.{add-one}
-use native.Mathlib.Nat.{add-zero}
+use native.Mathlib.Nat.{add-zero, zero-add}
 use native.Mathlib.Omega.{arith}
 use lib.ListN.{length, getD, take, drop, set, length-append, length-drop, take-append-drop}
 use lib.Seq.{take-at, drop-append-add, drop-drop, length-take-le, set-split, take-suc}
@@ -99,7 +99,9 @@ pub counted-on : (lines count : ℕ) → lines % 10000000000 ≡ count % 1000000
 counted-on lines count e = omega arith
 
 -- what was printed stands at the buffer's front
-pub take-printed : {before text buffer : List ℕ} {end : ℕ} → Prints before 0 text buffer end → take end buffer ≡ text
+pub take-written : (buffer text : List ℕ) → take (length text) (written buffer 0 text) ≡ text
 unfolding written
-take-printed {before} {text} {buffer} {end} p =
-    rw (p .holds, p .behind) (take-at text (drop (0 + length text) before) (0 + length text) (omega arith))
+take-written buffer text = take-at text (drop (0 + length text) buffer) (length text) refl
+
+pub take-printed : {before text buffer : List ℕ} {end : ℕ} → Prints before 0 text buffer end → take end buffer ≡ text
+take-printed {before} {text} {buffer} {end} p = rw (p .holds, p .behind, zero-add) (take-written before text)

@@ -8,8 +8,7 @@ use Prim.Native.Nat.{ℕ, zero, suc, _+_, _≤_, _<_}
 use native.Mathlib.Omega.{arith}
 use borrow.Author.Tests.{ltb-true, leb-true, le-leb, eqb-true, eqb-false, eq-eqb}
 use lib.Dec.{eqb, leb, ltb}
-use lib.ListN.{length, take, drop}
-use lib.Seq.{take-append-seam}
+use lib.ListN.{length, take}
 use Rattle.device.specs.declared.Settings.{Settings}
 use Rattle.device.specs.Refusal.{Outcome, accepted, refused, unless, refuse, first-failed}
 use Rattle.device.specs.Acceptance.{most-rows}
@@ -18,9 +17,9 @@ use Rattle.device.proofs.Refusal.{refuse-passed}
 use Rattle.laws.proofs.Cases.{split, clash, zero-one}
 use Rattle.trace.specs.declared.Record.{Record}
 use Rattle.trace.specs.declared.Record.the-variants.{Set, Activate, Refresh, Blank}
-use Rattle.trace.specs.Numbers.{written}
 use Rattle.trace.specs.Spelling.{settings-numbers, spelling, is-blank, unblank}
 use Rattle.trace.specs.Writing.{standing-behind, standing-after, row-fault, fault, first-fault, before-fault, room-fault, writing-fault, writing-by, writing}
+use Rattle.trace.proofs.Output.{take-written}
 use Rattle.trace.proofs.Spelling.Numbers.{Narrow, no-number, one-more}
 use Rattle.trace.proofs.Spelling.Readable.{Readable, Readables, no-answer, one-answer-more, of-settings, of-activation, of-refresh, of-blank}
 
@@ -121,10 +120,6 @@ room-fault-none (suc k) needed room e = absurd (omega arith)
 room-fault-fits : (needed room : ℕ) → needed ≤ room → room-fault 0 needed room ≡ 0
 unfolding room-fault first-failed unless refuse
 room-fault-fits needed room h = rw (le-leb _ _ h)
-
-take-written : (text bytes : List ℕ) → take (length bytes) (written text 0 bytes) ≡ bytes
-unfolding written
-take-written text bytes = take-append-seam bytes (drop (0 + length bytes) text)
 
 pub writing-fits : (os : List (Outcome Record)) (text : List ℕ) → first-fault none os ≡ 0 → length (spelling os) ≤ length text
     → (writing os text .answer ≡ accepted (length (spelling os))) × (take (length (spelling os)) (writing os text .text) ≡ spelling os)
