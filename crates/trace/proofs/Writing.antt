@@ -17,6 +17,7 @@ use Rattle.device.proofs.Refusal.{refuse-passed}
 use Rattle.laws.proofs.Cases.{split, clash, zero-one}
 use Rattle.trace.specs.declared.Record.{Record}
 use Rattle.trace.specs.declared.Record.the-variants.{Set, Activate, Refresh, Blank}
+use Rattle.trace.specs.Numbers.{written}
 use Rattle.trace.specs.Spelling.{settings-numbers, spelling, is-blank, unblank}
 use Rattle.trace.specs.Writing.{standing-behind, standing-after, row-fault, fault, first-fault, before-fault, room-fault, writing-fault, writing-by, writing}
 use Rattle.trace.proofs.Output.{take-written}
@@ -117,16 +118,14 @@ unfolding room-fault first-failed unless
 room-fault-none zero needed room e = (refl, leb-true needed room (refuse-passed (leb needed room) 12 0 e .0))
 room-fault-none (suc k) needed room e = absurd (omega arith)
 
-room-fault-fits : (needed room : ℕ) → needed ≤ room → room-fault 0 needed room ≡ 0
-unfolding room-fault first-failed unless refuse
-room-fault-fits needed room h = rw (le-leb _ _ h)
+pub writing-whole : (os : List (Outcome Record)) (text : List ℕ) → first-fault none os ≡ 0 → length (spelling os) ≤ length text
+    → writing os text ≡ record { answer = accepted (length (spelling os)); text = written text 0 (spelling os) }
+unfolding writing writing-fault room-fault writing-by first-failed unless refuse
+writing-whole os text e h = rw (e, le-leb _ _ h)
 
 pub writing-fits : (os : List (Outcome Record)) (text : List ℕ) → first-fault none os ≡ 0 → length (spelling os) ≤ length text
     → (writing os text .answer ≡ accepted (length (spelling os))) × (take (length (spelling os)) (writing os text .text) ≡ spelling os)
-unfolding writing writing-fault writing-by
-writing-fits os text e h =
-    let none-fails : room-fault (first-fault none os) (length (spelling os)) (length text) ≡ 0 = rw e (room-fault-fits (length (spelling os)) (length text) h) in
-    (rw none-fails, rw none-fails (take-written text (spelling os)))
+writing-fits os text e h = rw (writing-whole os text e h) (refl, take-written text (spelling os))
 
 accepted-by : (k n : ℕ) (bytes text : List ℕ) → writing-by k bytes text .answer ≡ accepted n → (k ≡ 0) × (n ≡ length bytes)
 unfolding writing-by

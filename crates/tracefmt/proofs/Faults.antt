@@ -44,10 +44,10 @@ module _ (g : Progress) (stopped : eqb (g .refusal) 0 ≡ false) where
   rewriting-stopped text = rewritten-stopped (outcomes text)
 
 -- where a rewriting is behind a line without a fault, and at one with it
-unfoldable gone-on : Progress → Outcome Record → Progress
+unfoldable pub gone-on : Progress → Outcome Record → Progress
 gone-on g o = record { standing = standing-behind (g .standing) o; count = g .count % 10000000000 + 1; refusal = 0 }
 
-unfoldable stopped-by : Progress → ℕ → Progress
+unfoldable pub stopped-by : Progress → ℕ → Progress
 stopped-by g k = record { standing = g .standing; count = g .count; refusal = k }
 
 next-by-faultless : (k : ℕ) (g : Progress) (o : Outcome Record) → eqb k 0 ≡ true → next-by k g o ≡ gone-on g o
@@ -66,10 +66,10 @@ module _ (g : Progress) (o : Outcome Record) (on : g .refusal ≡ 0) where
   unfolding next
   next-on = ap (λ (k : ℕ). cond (eqb k 0) (next-by (fault (g .standing) o) g o) g) on
 
-  next-faultless : eqb (fault (g .standing) o) 0 ≡ true → next g o ≡ gone-on g o
+  pub next-faultless : eqb (fault (g .standing) o) 0 ≡ true → next g o ≡ gone-on g o
   next-faultless q = next-on ∙ next-by-faultless (fault (g .standing) o) g o q
 
-  next-faulty : eqb (fault (g .standing) o) 0 ≡ false → next g o ≡ stopped-by g (fault (g .standing) o)
+  pub next-faulty : eqb (fault (g .standing) o) 0 ≡ false → next g o ≡ stopped-by g (fault (g .standing) o)
   next-faulty q = next-on ∙ next-by-faulty (fault (g .standing) o) g o q
 
 -- what a line writes, by where the rewriting is behind it

@@ -1,6 +1,6 @@
 -- Laws of the rewriting and of the program's turns.
-pub mod OneLine
 pub mod Faults
+pub mod OneLine
 pub mod Lines
 pub mod WholePart
 pub mod Ends

@@ -1,5 +1,5 @@
 -- One line, or the input's end: where the rewriting is behind it, and what it writes, by the fault that was found.
-use mathlib.Core.Path.{_≡_, refl}
+use mathlib.Core.Path.{_≡_, refl, sym, _∙_}
 use mathlib.Core.List.{[]}
 use Prim.Native.Nat.{ℕ, zero, suc, _+_, _%_}
 use borrow.Author.Tests.{eq-eqb, ne-eqb}
@@ -13,26 +13,24 @@ use Rattle.spelling.specs.declared.Standing.{Standing}
 use Rattle.spelling.specs.Contracts.{standing-of, stood}
 use Rattle.spelling.proofs.StandingLaws.{standing-stood}
 use Rattle.tracefmt.specs.declared.Place.{Place}
-use Rattle.tracefmt.specs.Rewriting.{Progress, next-by, next, writes, end-of}
+use Rattle.tracefmt.specs.Rewriting.{Progress, next, writes, end-of}
 use Rattle.tracefmt.specs.Turns.{progress-of}
-
-next-by-faulty : (k : ℕ) (g : Progress) (o : Outcome Record) → (k ≡ 0 → ⊥) → record { standing = g .standing; count = g .count; refusal = k } ≡ next-by k g o
-unfolding next-by
-next-by-faulty zero g o h = absurd (h refl)
-next-by-faulty (suc k) g o h = refl
+use Rattle.tracefmt.proofs.Faults.{gone-on, stopped-by, next-faultless, next-faulty}
 
 module _ (p : Place) (answer : Read) (going : p .refusal ≡ 0) where
   -- the line is faulty
-  pub next-faulty : (k : ℕ) → k ≡ fault (standing-of (p .standing)) (said answer .outcome) → (k ≡ 0 → ⊥)
+  pub place-faulty : (k : ℕ) → k ≡ fault (standing-of (p .standing)) (said answer .outcome) → (k ≡ 0 → ⊥)
       → progress-of (record { standing = p .standing; lines = p .lines; refusal = k }) ≡ next (progress-of p) (said answer .outcome)
-  unfolding next progress-of
-  next-faulty k f h = rw (eq-eqb _ _ going, ← f) (next-by-faulty k (progress-of p) (said answer .outcome) h)
+  unfolding progress-of stopped-by
+  place-faulty k f h = rw f (sym (next-faulty (progress-of p) (said answer .outcome) going (ne-eqb _ _ (λ e. h (f ∙ e)))))
 
   -- it is not
-  pub next-sound : 0 ≡ fault (standing-of (p .standing)) (said answer .outcome) → (s : Standing) → s ≡ stood (p .standing) (said answer .outcome)
+  pub place-sound : 0 ≡ fault (standing-of (p .standing)) (said answer .outcome) → (s : Standing) → s ≡ stood (p .standing) (said answer .outcome)
       → progress-of (record { standing = s; lines = p .lines % 10000000000 + 1; refusal = 0 }) ≡ next (progress-of p) (said answer .outcome)
-  unfolding next next-by progress-of
-  next-sound f s e = rw (eq-eqb _ _ going, ← f, e, standing-stood (p .standing) (said answer .outcome))
+  unfolding progress-of gone-on
+  place-sound f s e =
+      rw (e, standing-stood (p .standing) (said answer .outcome))
+      (sym (next-faultless (progress-of p) (said answer .outcome) going (eq-eqb _ _ (sym f))))
 
 module _ (g : Progress) (o : Outcome Record) (p : Place) (e : progress-of p ≡ next g o) where
   -- a line that stopped the rewriting, or came behind one, writes nothing

@@ -20,7 +20,7 @@ use Rattle.tracefmt.proofs.Lines.{rewriting-cut, after-cut, Taken}
 
 module _ {g₀ g : Progress} {text buffer₀ buffer : List ℕ} {at end : ℕ} (t : Taken g₀ text buffer₀ g buffer at end) where
   part-taken : (g .refusal ≡ 0 → ended (drop at text) ≡ false) → Rewrites g₀ text buffer₀ buffer g at end
-  part-taken all = record { within = t .within; lines = t .lines-taken; prints = t .prints; leaves = t .leaves; all = all }
+  part-taken all = record { takes = record { lines = t .lines-taken; leaves = t .leaves; all = all }; prints = t .prints }
 
   -- at a line that has not ended
   pub part-unended : ended (drop at text) ≡ false → Rewrites g₀ text buffer₀ buffer g at end
@@ -60,17 +60,17 @@ module _ {g g′ : Progress} {text written left : List ℕ} (m : Moves g text wr
   pub moves-writes : (more : List ℕ) → rewriting g (text ++ more) ≡ written ++ rewriting g′ (left ++ more)
   moves-writes more =
       let rest : List ℕ = drop (m .taken) text in
-      ap (rewriting g) (cut more) ∙ rewriting-cut g (take (m .taken) text) (rest ++ more) (m .lines) ∙
-      rw (m .writes, m .keeps, ← m .leaves) (ap (λ (t : List ℕ). rewriting g (take (m .taken) text) ++ t) (rewriting-kept g′ rest (m .all) more))
+      ap (rewriting g) (cut more) ∙ rewriting-cut g (take (m .taken) text) (rest ++ more) (m .takes .lines) ∙
+      rw (m .writes, m .keeps, ← m .takes .leaves) (ap (λ (t : List ℕ). rewriting g (take (m .taken) text) ++ t) (rewriting-kept g′ rest (m .takes .all) more))
 
   pub moves-leaves : (more : List ℕ) → after g (text ++ more) ≡ after g′ (left ++ more)
   moves-leaves more =
       let rest : List ℕ = drop (m .taken) text in
-      ap (after g) (cut more) ∙ after-cut g (take (m .taken) text) (rest ++ more) (m .lines) ∙
-      rw (m .keeps, ← m .leaves) (after-kept g′ rest (m .all) more)
+      ap (after g) (cut more) ∙ after-cut g (take (m .taken) text) (rest ++ more) (m .takes .lines) ∙
+      rw (m .keeps, ← m .takes .leaves) (after-kept g′ rest (m .takes .all) more)
 
   pub moves-unended : g′ .refusal ≡ 0 → ended left ≡ false
-  moves-unended e = rw (m .keeps) (ended-less 64 (drop (m .taken) text) (m .all e))
+  moves-unended e = rw (m .keeps) (ended-less 64 (drop (m .taken) text) (m .takes .all e))
 
 -- what lies between two reads, by what the part and the keeping left
 pub chunk-moves : {g g′ : Progress} {text′ buffer₀ buffer : List ℕ} {taken end kept : ℕ} (text : List ℕ) (len : ℕ) → Rewrites g (take len text) buffer₀ buffer g′ taken end
@@ -80,7 +80,7 @@ unfolding kept-bytes
 chunk-moves {text′ = text′} {taken = taken} {kept = kept} text len r k t =
     let bytes : List ℕ = take 64 (drop taken (take len text)) in
     let front : take kept text′ ≡ bytes = ap (take kept) t ∙ take-at bytes (drop kept text) kept (sym k) in (
-      record { taken = taken; lines = r .lines; writes = take-printed (r .prints); leaves = r .leaves; all = r .all; keeps = front },
+      record { taken = taken; takes = r .takes; writes = take-printed (r .prints); keeps = front },
       omega (arith, k, ap length t, length-append bytes (drop kept text)),
       omega (arith, r .prints .fits, r .prints .behind, prints-long (r .prints)),
     )

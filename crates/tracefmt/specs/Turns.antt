@@ -22,21 +22,22 @@ use Rattle.tracefmt.specs.Rewriting.{Progress, rewriting, after, end-of}
 unfoldable pub progress-of : Place → Progress
 progress-of p = record { standing = standing-of (p .standing); count = p .lines; refusal = p .refusal }
 
--- lines at the front of a text are rewritten from the front of a buffer on: all that have ended, or all before the first faulty one
-pub record Rewrites (g : Progress) (text buffer buffer′ : List ℕ) (g′ : Progress) (taken end : ℕ) : Type 0 where
-  pub within : taken ≤ length text
+-- lines at the front of a text are taken, so many bytes: where none was faulty, all that have ended
+pub record Takes (g : Progress) (text : List ℕ) (g′ : Progress) (taken : ℕ) : Type 0 where
   pub lines : whole (take taken text) ≡ true
-  pub prints : Prints buffer 0 (rewriting g (take taken text)) buffer′ end
   pub leaves : g′ ≡ after g (take taken text)
   pub all : g′ .refusal ≡ 0 → ended (drop taken text) ≡ false
 
--- the bytes at hand are rewritten so, and of those behind the lines that were taken the first 64 are left
+-- they are rewritten from the front of a buffer on
+pub record Rewrites (g : Progress) (text buffer buffer′ : List ℕ) (g′ : Progress) (taken end : ℕ) : Type 0 where
+  pub takes : Takes g text g′ taken
+  pub prints : Prints buffer 0 (rewriting g (take taken text)) buffer′ end
+
+-- what they write, and the first 64 bytes of those behind them, which are left
 pub record Moves (g : Progress) (text written : List ℕ) (g′ : Progress) (left : List ℕ) : Type 0 where
   pub taken : ℕ
-  pub lines : whole (take taken text) ≡ true
+  pub takes : Takes g text g′ taken
   pub writes : written ≡ rewriting g (take taken text)
-  pub leaves : g′ ≡ after g (take taken text)
-  pub all : g′ .refusal ≡ 0 → ended (drop taken text) ≡ false
   pub keeps : left ≡ take most-kept (drop taken text)
 
 -- what a turn leaves, by what the read before it came to: it goes on while no line was faulty

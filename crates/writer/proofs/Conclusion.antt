@@ -5,17 +5,18 @@ use mathlib.Core.List.{List, [], _∷_}
 use mathlib.Core.Option.{none}
 use Prim.Native.Nat.{ℕ, zero, suc, _+_, _-_, _≤_, _<_}
 use native.Mathlib.Omega.{arith}
-use borrow.Author.Tests.{leb-true, leb-false, le-leb, lt-leb, ne-eqb}
+use borrow.Author.Tests.{leb-true, leb-false, lt-leb, ne-eqb}
 use lib.Dec.{leb}
 use lib.ListN.{length, take, length-append}
 use lib.Seq.{take-length}
 use Rattle.laws.proofs.Cases.{split, clash}
-use Rattle.device.specs.Refusal.{Outcome, accepted, refused, unless, refuse, first-failed}
+use Rattle.device.specs.Refusal.{Outcome, refused, unless, refuse, first-failed}
 use Rattle.trace.specs.declared.Record.{Record}
 use Rattle.trace.specs.declared.Read.{Read}
 use Rattle.trace.specs.Numbers.{written}
 use Rattle.trace.specs.Spelling.{answer-spelling, spelling}
 use Rattle.trace.specs.Writing.{fault, standing-behind, first-fault, room-fault, writing-fault, writing-by, writing}
+use Rattle.trace.proofs.Writing.{writing-whole}
 use Rattle.writer.specs.declared.Survey.{Survey}
 use Rattle.spelling.proofs.StandingLaws.{standing-stood}
 use Rattle.spelling.specs.Contracts.{standing-of}
@@ -121,7 +122,7 @@ none-written : (text : List ℕ) (ys : List Read) → written text 0 (spelling (
 unfolding written spelling outcomes-of
 none-written text ys = refl
 
--- the definition in the same three cases
+-- the definition in the first two of these cases
 module _ (os : List (Outcome Record)) (text : List ℕ) where
   writing-fault-found : (k : ℕ) → first-fault none os ≡ suc k → writing os text ≡ record { answer = refused (suc k); text = text }
   unfolding writing writing-fault room-fault writing-by
@@ -130,10 +131,6 @@ module _ (os : List (Outcome Record)) (text : List ℕ) where
   writing-short : first-fault none os ≡ 0 → length text < length (spelling os) → writing os text ≡ record { answer = refused 13; text = text }
   unfolding writing writing-fault room-fault writing-by first-failed unless refuse
   writing-short h l = rw (h, lt-leb _ _ l)
-
-  writing-whole : first-fault none os ≡ 0 → length (spelling os) ≤ length text → writing os text ≡ record { answer = accepted (length (spelling os)); text = written text 0 (spelling os) }
-  unfolding writing writing-fault room-fault writing-by first-failed unless refuse
-  writing-whole h l = rw (h, le-leb _ _ l)
 
 module _ (ys : List Read) (text : List ℕ) where
   abbrev found : Survey
