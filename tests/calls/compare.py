@@ -6,10 +6,9 @@
 
 The program of crates/test_calls makes the library's calls. Builds the model, then compares the
 number and all lent memory after each call: on document 01's example and on edges, with answers
-written by hand (example.calls, edges.calls), on sweeps around limits, on runs, on states that no
-run reaches, on states that break one rule each, and on refused calls, with one fixed and one fresh
-seed (--seed repeats a fresh one). The model's number is also held against the one that the case was
-made for. Queries and answers stay in target/calls/.
+written by hand (example.calls, edges.calls), and on the calls of cases.py, the random ones with one
+fixed and one fresh seed (--seed repeats a fresh one). The model's number is also held against the
+one that the case was made for. Queries and answers stay in target/calls/.
 Exit status: 0 all equal; 1 a difference; 2 something is missing or cannot be built.
 """
 
@@ -24,14 +23,13 @@ import sys
 
 sys.dont_write_bytecode = True
 sys.path.insert(0, str(pathlib.Path(__file__).resolve().parents[1]))
+from cases import case, random_cases, sweep_cases
 from comparison import (
-    BLOCK, BUILD_MODEL, COUNTERS, DIAMETER, FIXED_SEED, INTERVAL, MODEL, ROOT, ROWS, Run, Tally,
-    TIME_LIMIT, U32, VOLUME, WINDOW, arguments_with_seeds, build, changed, give_up, read_figures,
+    BLOCK, BUILD_MODEL, COUNTERS, DIAMETER, FIXED_SEED, MODEL, ROOT, Run, Tally, TIME_LIMIT,
+    VOLUME, WINDOW, arguments_with_seeds, build, give_up, read_figures,
 )
 from states import (
-    ACTIVATIONS, BROKEN_RULES, EVENTS, MAX_COUNT, PLACES, SPILLOVER, State, TRACKED, any_settings,
-    bad_value, block_of, garbage, listed, physical_row, random_logical_row, resize,
-    state_of, valid_state, victims,
+    BROKEN_RULES, EVENTS, PLACES, SPILLOVER, State, block_of, cuts, edges, listed, physical_row,
 )
 
 HERE = "tests/calls"
@@ -39,13 +37,8 @@ OUT = "target/calls"
 WRITTEN = {"example": "document 01's example", "edges": "edges"}
 MODEL_CALLS = [MODEL, "calls"]
 
-# The number that the model has to give is None where only the model knows it.
-Case = collections.namedtuple("Case", "call state argument number kind")
 
-
-def case(call, state, argument=None, number=None, kind=None):
-    """The argument is a logical row, a list of picks or another state, as the call needs."""
-    return Case(call, state, argument, number, kind)
+# Queries and answers of the model
 
 
 def query(case):
@@ -173,41 +166,7 @@ def library_answers(program, cases, path):
     return lines + [None] * (len(cases) - len(lines))
 
 
-# Sweeps around limits; edges.calls has the edges with answers written by hand
-
-
-def sweep_cases():
-    example = (16, 2, 1, 2, 4, 4, 4)
-    for activations, number in ((0, 0), (3, 0), (4, -22)):
-        state = state_of(example, {4: 3}, 1, activations=activations)
-        kind = f"activation {activations + 1} of an interval of 4"
-        yield case("activate", state, 5, number, kind)
-    yield case("refresh", state_of(example, {4: 3}, 1, activations=4), [9], 1,
-               "event in a full interval")
-
-    for diameter in (2, 4):
-        settings = changed(example, (DIAMETER, diameter), (COUNTERS, 12))
-        for row in (0, 1, 2, 13, 14, 15):
-            for tracked in ((), range(12), range(4, 16)):
-                state = state_of(settings, {row: 5 for row in tracked}, 2)
-                kind = f"end of the bank, B {diameter}"
-                yield case("activate", state, physical_row(row), 0, kind)
-
-    several = changed(example, (VOLUME, 4), (COUNTERS, 6), (WINDOW, 6), (BLOCK, 3))
-    for tracked in range(7):
-        for event in range(6):
-            state = state_of(several, {2 * row: 3 + row % 2 for row in range(tracked)}, 1, event, 2)
-            picks = [U32, 7, U32, 7, 8, 9]
-            yield case("refresh", state, picks, min(4, tracked), "events of a whole window")
-    single = changed(example, (WINDOW, 1), (BLOCK, 16))
-    yield case("refresh", state_of(single, {4: 3, 6: 2}, 1), [9], 1, "window of one event")
-
-    full = state_of(example, {4: MAX_COUNT, 6: MAX_COUNT}, MAX_COUNT)
-    yield case("activate", full, 5, 0, "counts at the most")
-    yield case("refresh", full, [9], 1, "counts at the most")
-
-
-# Runs
+# The model
 
 
 class Model:
@@ -227,226 +186,7 @@ class Model:
         self.process.wait()
 
 
-def run_cases(rng, model, steps):
-    """The calls of one run from its set up, each on the memory that the one before left."""
-    settings = any_settings(rng)
-    tables = [garbage(rng, settings[COUNTERS]) for _ in range(2)]
-    first = case("set_up", State(settings, *tables, garbage(rng, 4)), None, 0, "set up of a run")
-    yield first
-    state = model.ask(first)[1]
-    earlier = state
-    hot_rows = [rng.randrange(settings[ROWS]) for _ in range(rng.choice((1, 2, 3, 6)))]
-    for _ in range(steps):
-        step = run_step(rng, state, earlier, hot_rows)
-        yield step
-        state = model.ask(step)[1]
-        if rng.random() < 0.2:
-            earlier = state
-
-
-def run_step(rng, state, earlier, hot_rows):
-    """The number is left to the model, which refuses none of these for the state."""
-    settings = state.settings
-    chance = rng.random()
-    if chance < 0.03:
-        return case("activate", state, settings[ROWS] + rng.choice((0, 1, 7)), -9, "fault in a run")
-    if chance < 0.06:
-        return case("refresh", state, garbage(rng, settings[VOLUME] - 1), -10, "fault in a run")
-    if chance < 0.12:
-        return case("agree", state, earlier, None, "agreement in a run")
-    full = state.position[ACTIVATIONS] == settings[INTERVAL]
-    if chance < 0.2 or full and chance < 0.9:
-        picks = garbage(rng, settings[VOLUME] + rng.choice((0, 0, 1, 5)))
-        return case("refresh", state, picks, None, "event of a run")
-    row = rng.choice(hot_rows) if rng.random() < 0.8 else rng.randrange(settings[ROWS])
-    return case("activate", state, row, -22 if full else 0, "activation of a run")
-
-
-# States that no run reaches
-
-
-def valid_cases(rng):
-    """A case of each call on an accepted state."""
-    state = valid_state(rng)
-    full = state.position[ACTIVATIONS] == state.settings[INTERVAL]
-    yield case("activate", state, random_logical_row(rng, state), -22 if full else 0, "valid state")
-    state = valid_state(rng)
-    volume = state.settings[VOLUME]
-    picked = min(volume, state.position[TRACKED])
-    picks = garbage(rng, volume + rng.choice((0, 0, 1, 5)))
-    yield case("refresh", state, picks, picked, "valid state")
-    yield agreement_case(rng)
-
-
-def agreement_case(rng):
-    """Two states that agree or do not, in a way that is known."""
-    one = valid_state(rng, spillover=rng.choice((None, 0, 3)))
-    other = one.copy()
-    other.position[EVENTS] = rng.randrange(one.settings[WINDOW])
-    other.position[ACTIVATIONS] = rng.randint(0, one.settings[INTERVAL])
-    make = rng.choice(AGREEMENTS)
-    return make(rng, one, other) or case("agree", one, other, 1, "agree: same tables")
-
-
-def equal_to_untracked(rng, one, other):
-    """Rows tracked at the spillover on one side only, perhaps with another blast diameter."""
-    spillover = one.position[SPILLOVER]
-    kept = {row: count for row, count in one.tracked().items() if count != spillover}
-    other = state_of(changed(one.settings, (DIAMETER, 2)), kept, spillover, *other.position[:2])
-    if len(kept) == one.position[TRACKED]:
-        return None
-    return in_any_order(rng, one, other, 1, "agree: tracked at the spillover on one side")
-
-
-def all_rows_tracked(rng, one, other):
-    """Where every row is tracked on both sides, the spillover does not matter."""
-    settings = changed(one.settings, (ROWS, 16), (VOLUME, 2), (COUNTERS, rng.choice((16, 20))))
-    counts_by_row = {row: rng.randint(5, 8) for row in range(16)}
-    one = state_of(settings, counts_by_row, rng.randint(0, 2))
-    other = state_of(settings, counts_by_row, rng.randint(3, 5))
-    return in_any_order(rng, one, other, 1, "agree: all rows tracked, other spillover")
-
-
-def other_counters(rng, one, other):
-    """The same summary in tables of another length, under other settings."""
-    counters = one.settings[COUNTERS] + rng.randint(1, 3)
-    if counters > PLACES:
-        return None
-    settings = changed(one.settings, (COUNTERS, counters), (VOLUME, 1), (INTERVAL, 4096))
-    other = state_of(settings, one.tracked(), one.position[SPILLOVER])
-    return in_any_order(rng, one, other, 1, "agree: other settings")
-
-
-def other_rows(rng, one, other):
-    """The same tables, another bank."""
-    rows = one.settings[ROWS] + 16
-    if rows > one.settings[BLOCK] * one.settings[WINDOW] or rows > 65_536:
-        return None
-    other.settings = changed(one.settings, (ROWS, rows))
-    return in_any_order(rng, one, other, 0, "disagree: other number of rows")
-
-
-def other_count(rng, one, other):
-    if not one.position[TRACKED]:
-        return None
-    slot = rng.randrange(one.position[TRACKED])
-    if other.counts[slot] == MAX_COUNT:
-        return None
-    other.counts[slot] += 1
-    return in_any_order(rng, one, other, 0, "disagree: one count")
-
-
-def other_spillover(rng, one, other):
-    least = min(one.tracked().values(), default=MAX_COUNT)
-    if one.position[SPILLOVER] >= least or one.position[TRACKED] == one.settings[ROWS]:
-        return None
-    other.position[SPILLOVER] += 1
-    return in_any_order(rng, one, other, 0, "disagree: spillover")
-
-
-AGREEMENTS = (equal_to_untracked, all_rows_tracked, other_counters, other_rows, other_count,
-              other_spillover, lambda rng, one, other: None)
-
-
-def in_any_order(rng, one, other, number, kind):
-    if rng.random() < 0.5:
-        one, other = other, one
-    return case("agree", one, other, number, kind)
-
-
-# Refused calls
-
-
-def broken_cases(rng):
-    """Every rule broken in every call that tests it, and in a set up, which does not."""
-    for rule, make in BROKEN_RULES.items():
-        state = make(rng)
-        yield case("activate", state, random_row(rng, state), -21, f"activate: {rule}")
-        state = make(rng)
-        yield case("refresh", state, garbage(rng, state.settings[VOLUME]), -21, f"refresh: {rule}")
-        state = make(rng)
-        yield case("agree", state, valid_state(rng), -21, f"agree, first: {rule}")
-        yield case("agree", valid_state(rng), state, -21, f"agree, second: {rule}")
-        yield case("set_up", make(rng), None, 0, "set up on a broken state")
-
-
-def random_row(rng, state):
-    return rng.randrange(state.settings[ROWS])
-
-
-def random_broken_state(rng):
-    return rng.choice(list(BROKEN_RULES.values()))(rng)
-
-
-def faulty_case(rng, several):
-    """A call with one fault, or with some at once, of which the first in document 01's order
-    decides."""
-    call = rng.choice(("set_up", "activate", "refresh", "agree"))
-    state = random_broken_state(rng) if several else valid_state(rng)
-    possible = {"set_up": (1, 8), "activate": (1, 8, 9), "refresh": (1, 8, 10), "agree": (1, 8)}
-    chosen = rng.sample(possible[call], rng.randint(1, len(possible[call])) if several else 1)
-    numbers = []
-    row = random_row(rng, state)
-    if 9 in chosen:
-        row = rng.choice((state.settings[ROWS], state.settings[ROWS] + 1, 65_536, U32))
-        numbers.append(9)
-    length = state.settings[VOLUME]
-    if 10 in chosen:
-        length = rng.choice((0, length - 1))
-        numbers.append(10)
-    if 8 in chosen:
-        for table in rng.choice(([state.rows], [state.counts], [state.rows, state.counts])):
-            resize(rng, table, (0, 1, U32))
-        numbers.append(8)
-    if 1 in chosen:
-        numbers.append(spoil_settings(rng, state, several))
-    if call == "agree":
-        return faulty_agreement(rng, state, min(numbers), several)
-    argument = {"set_up": None, "activate": row, "refresh": garbage(rng, length)}[call]
-    kind = "several faults" if several else "one fault"
-    return case(call, state, argument, -min(numbers), f"{kind}: {call}")
-
-
-def spoil_settings(rng, state, several):
-    """Makes settings refused; the number is that of the first one refused."""
-    fields = rng.sample(range(7), rng.choice((1, 1, 2, 3)) if several else 1)
-    for field in fields:
-        state.settings = changed(state.settings, (field, bad_value(rng, state.settings, field)))
-    return min(fields) + 1
-
-
-def faulty_agreement(rng, state, number, several):
-    """All settings come before the lengths, and those of the first state before the second's."""
-    other = random_broken_state(rng) if several else valid_state(rng)
-    if several and rng.random() < 0.5:
-        earlier = number
-        number = spoil_settings(rng, other, True)
-        if earlier < 8:
-            kind = "several faults: agree, both settings"
-            return case("agree", state, other, -earlier, kind)
-        return in_any_order(rng, state, other, -number, "several faults: agree")
-    kind = "several faults: agree" if several else "one fault: agree"
-    return in_any_order(rng, state, other, -number, kind)
-
-
-# All cases
-
-
-def random_cases(rng, model):
-    """About 5,000 cases."""
-    for steps in (5, 20, 40) * 27:
-        yield from run_cases(rng, model, steps)
-    for _ in range(500):
-        yield from valid_cases(rng)
-    for _ in range(12):
-        yield from broken_cases(rng)
-    for _ in range(600):
-        yield faulty_case(rng, several=False)
-    for _ in range(600):
-        yield faulty_case(rng, several=True)
-
-
-# Comparing, and what has to occur
+# What has to occur
 
 
 def kinds_of(case, answer):
@@ -470,8 +210,10 @@ def activation_kinds(case, after):
     if row in before:
         yield "activation: the row itself was tracked"
         del before[row]
-    if len(victims(settings, row)) < settings[DIAMETER]:
-        yield f"activation: cut at {'row 0' if row < 2 else 'the last row'}, B {settings[DIAMETER]}"
+    for end in cuts(settings, row):
+        yield f"activation: cut at {end}, B {settings[DIAMETER]}"
+        if row != case.argument:
+            yield f"activation: remapped row cut at {end}"
     if any(now.get(victim, 0) > count for victim, count in before.items()):
         yield "activation: a count rises"
     if len(now) > len(before):
@@ -492,6 +234,11 @@ def event_kinds(case):
         yield "event: the last of its window"
     if len(block) < settings[BLOCK]:
         yield "event: block cut" if block else "event: block empty"
+    if any(edge - 1 in block and edge in block for edge in edges(settings)):
+        yield "event: block across an edge of subarrays"
+    picked = sorted(tracked, key=lambda row: (-tracked[row], row))[:volume]
+    for end in {end for row in picked for end in cuts(settings, row)}:
+        yield f"event: picked row cut at {end}"
     if len(tracked) < volume:
         yield "event: fewer rows tracked than the volume" if tracked else "event: no row tracked"
     counts = sorted(tracked.values(), reverse=True)
@@ -503,6 +250,7 @@ def event_kinds(case):
         yield "event: list longer than the volume"
 
 
+ENDS = ("row 0", "the last row", "a subarray's first row", "a subarray's last row")
 EXPECTED_KINDS = (
     *(f"{call} accepted" for call in ("set_up", "activate", "refresh", "agree")),
     *(f"set_up refused with {k}" for k in (1, 2, 3, 4, 5, 6, 7, 8)),
@@ -523,8 +271,13 @@ EXPECTED_KINDS = (
     *(f"activation {number} of an interval of 4" for number in (1, 4, 5)),
     "event in a full interval", "events of a whole window", "window of one event",
     "counts at the most", *(f"end of the bank, B {diameter}" for diameter in (2, 4)),
-    *(f"activation: cut at {end}, B {diameter}" for end in ("row 0", "the last row")
+    *(f"edge of a subarray, N {rows}, B {diameter}" for rows in (512, 528, 1040)
       for diameter in (2, 4)),
+    *(f"activation: cut at {end}, B {diameter}" for end in ENDS for diameter in (2, 4)),
+    # the remap leaves remainders 0 and 1 where they are, so no remapped row is cut at a lower end
+    *(f"activation: remapped row cut at {end}" for end in ENDS if "last" in end),
+    *(f"event: picked row cut at {end}" for end in ENDS),
+    "event: block across an edge of subarrays",
     "activation: the row itself was tracked", "activation: a count rises",
     "activation: a row is entered in a free slot", "activation: a row takes another's place",
     "activation: the spillover rises",

@@ -15,6 +15,7 @@ from comparison import (
 EVENTS, ACTIVATIONS, TRACKED, SPILLOVER = range(4)
 MAX_COUNT = 2_000_000_000
 PLACES = 64
+SUBARRAY_ROWS = 512
 
 
 def listed(numbers):
@@ -56,10 +57,22 @@ def physical_row(logical_row):
     return logical_row ^ 1 if logical_row % 4 >= 2 else logical_row
 
 
-def victims(settings, row):
-    reach = settings[DIAMETER] // 2
-    return [victim for victim in range(row - reach, row + reach + 1)
-            if victim != row and 0 <= victim < settings[ROWS]]
+def edges(settings):
+    """The rows at which a subarray other than the first begins."""
+    return range(SUBARRAY_ROWS, settings[ROWS], SUBARRAY_ROWS)
+
+
+def cuts(settings, row):
+    """Where the reach of a row is cut."""
+    reach, rows = settings[DIAMETER] // 2, settings[ROWS]
+    if row < reach:
+        yield "row 0"
+    if row + reach >= rows:
+        yield "the last row"
+    if any(row - reach < edge <= row for edge in edges(settings)):
+        yield "a subarray's first row"
+    if any(row < edge <= row + reach for edge in edges(settings)):
+        yield "a subarray's last row"
 
 
 def block_of(settings, event):
@@ -71,8 +84,9 @@ def block_of(settings, event):
 
 
 def small_settings(rng):
-    """Accepted settings of a small bank, often with a figure at its limit."""
-    rows = 16 * rng.choice((1, 1, 1, 2, 3, 4, 16))
+    """Accepted settings of a small bank, of up to three subarrays, often with a figure at its
+    limit."""
+    rows = 16 * rng.choice((1, 1, 1, 2, 3, 4, 16, 32, 33, 64, 65))
     volume = rng.choice((1, 1, 2, 3, 4, 8, 16))
     counters = rng.choice((volume, volume, volume + 1, volume + rng.randint(1, 8), rows - 1, rows,
                            rows + 3, 64))
@@ -115,7 +129,9 @@ def valid_state(rng, settings=None, tracked=None, spillover=None):
     if rng.random() < 0.5:
         chosen = rng.sample(range(rows), tracked)
     else:
-        first = rng.choice((0, rows - tracked, rng.randint(0, rows - tracked)))
+        middle = rng.choice([tracked, *edges(settings)]) - tracked // 2
+        first = rng.choice((0, middle, rows - tracked, rng.randint(0, rows - tracked)))
+        first = min(max(0, first), rows - tracked)
         chosen = range(first, first + tracked)
     least = max(1, spillover)
     return state_of(
@@ -128,11 +144,14 @@ def valid_state(rng, settings=None, tracked=None, spillover=None):
 
 
 def random_logical_row(rng, state):
-    """A row of the bank: any one, one at an end, or one at or beside a tracked row."""
+    """A row of the bank: any one, one at an end or at an edge of a subarray, or one at or beside a
+    tracked row."""
     rows = state.settings[ROWS]
     tracked = list(state.tracked())
     row = rng.choice((rng.randrange(rows), rng.randrange(4), rows - 1 - rng.randrange(4)))
-    if tracked and rng.random() < 0.6:
+    if edges(state.settings) and rng.random() < 0.5:
+        row = rng.choice(edges(state.settings)) + rng.randint(-4, 3)
+    elif tracked and rng.random() < 0.6:
         row = min(rows - 1, max(0, rng.choice(tracked) + rng.randint(-2, 2)))
     return physical_row(row)
 

@@ -4,7 +4,7 @@
     python3 tests/listing/compare.py [--seed N] [--program COMMAND]
 
 Builds the model, then compares on document 01's example (example.*), on edges with a listing
-written by hand (edges.*) and on random traces (traces.py), with one fixed and one fresh seed
+written by hand (edges.*, subarrays.*) and on random traces (traces.py), with one fixed and one fresh seed
 (--seed repeats a fresh one). Traces come from a file, through a pipe, or in small pieces through
 a pipe. What differs stays in target/listing/.
 Exit status: 0 all equal; 1 a difference; 2 something is missing or cannot be built.
@@ -98,9 +98,9 @@ def line_kinds(listing):
 
 
 EXPECTED_KINDS = (
-    "empty input", "single byte", "plain", "several S", "settings at their limits", "no S",
-    "almost good lines", "damaged", "bytes 0, 13 and 255", "byte 13 before each byte 10",
-    "cut off", "noise", "long lines", "much output", "buffer boundary", "in pieces", "bound",
+    "empty input", "single byte", "plain", "several S", "settings at their limits",
+    "edges of subarrays", "no S", "almost good lines", "damaged", "bytes 0, 13 and 255",
+    "byte 13 before each byte 10", "cut off", "noise", "long lines", "much output", "buffer boundary", "in pieces", "bound",
     *(f"event with {picked} picked rows" for picked in range(17)),
     *(f"line refused with {number}" for number in REFUSALS),
 )
@@ -111,7 +111,7 @@ EXPECTED_KINDS = (
 
 def check_written(tally, command):
     tally.begin("document 01's example, and edges written by hand")
-    for name in ("example", "edges"):
+    for name in ("example", "edges", "subarrays"):
         text = pathlib.Path(f"{HERE}/{name}.trace").read_bytes()
         wanted = pathlib.Path(f"{HERE}/{name}.listing").read_bytes()
         check_listing(tally, MODEL_LISTING, from_file, f"{name} by the model", text, wanted)

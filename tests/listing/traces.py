@@ -100,6 +100,23 @@ def limit_settings(rng):
     return text
 
 
+def subarray_edges(rng):
+    """Rows hammered around the edges of subarrays and the bank's end; blocks of 3, 48 and 63 rows
+    straddle an edge, at the events that are run up to it."""
+    rows = rng.choice((512, 528, 1024, 1040, 1536, 65_536))
+    block = rng.choice((3, 16, 48, 63)) if rows < 65_536 else 63
+    volume = rng.choice((1, 2, 16))
+    settings = (rows, rng.choice((2, 4)), volume, volume + rng.choice((0, 1, 5, 30)),
+                rng.choice((4, 9, 30)), -(-rows // block) + rng.choice((0, 2)), block)
+    edge = rng.choice([edge for edge in (512, 1024, rows) if edge <= rows])
+    near = [row for row in range(edge - 4, edge + 4) if row < rows]
+    text = settings_line(rng, settings) + b"R\n" * (edge // block - rng.randint(1, 3))
+    for _ in range(rng.randint(4, 12)):
+        hammered = rng.choices(near, k=rng.randint(1, settings[INTERVAL]))
+        text += b"".join(activation_line(rng, row) for row in hammered) + b"R\n"
+    return text
+
+
 def bad_field(rng):
     """Almost a number in six columns."""
     number = str(rng.randint(0, 99))
@@ -266,6 +283,7 @@ def random_traces(rng):
         (plain_trace, "plain", 100),
         (many_settings, "several S", 40),
         (limit_settings, "settings at their limits", 30),
+        (subarray_edges, "edges of subarrays", 60),
         (no_settings, "no S", 10),
         (near_misses, "almost good lines", 40),
         (damaged, "damaged", 100),

@@ -5,6 +5,9 @@ use std::collections::BTreeMap;
 
 const REMAP: [u32; 16] = [0, 1, 3, 2, 4, 5, 7, 6, 8, 9, 11, 10, 12, 13, 15, 14];
 
+/// Disturbance stays in a row's own subarray.
+const SUBARRAY_ROWS: u32 = 512;
+
 pub struct Settings {
     rows: u32,
     blast_diameter: u32,
@@ -125,8 +128,10 @@ impl Tracker {
 
     fn disturb_victims(&mut self, row: u32) {
         let reach = self.settings.blast_diameter / 2;
-        let last = (row + reach).min(self.settings.rows - 1);
-        for victim in row.saturating_sub(reach)..=last {
+        let subarray = row / SUBARRAY_ROWS * SUBARRAY_ROWS;
+        let first = row.saturating_sub(reach).max(subarray);
+        let end = self.settings.rows.min(subarray + SUBARRAY_ROWS);
+        for victim in first..(row + reach + 1).min(end) {
             if victim != row {
                 self.disturb(victim);
             }

@@ -9,7 +9,7 @@ use crate::refusal::Refusal;
 use crate::remap::physical_row;
 use crate::settings::Settings;
 use crate::tracker::{activate, refresh, set_up, Position};
-use crate::victims::victims;
+use crate::victims::{victims, SUBARRAY_ROWS};
 
 /// Once in so many calls.
 const HARDLY_EVER: u32 = 1_000_000;
@@ -208,10 +208,18 @@ impl Run {
 }
 
 fn random_settings(random: &mut Random) -> Settings {
-    let large = random.once_in(40);
-    let rows = 16 * random.between(1, if large { 32 } else { 3 });
+    let several_subarrays = random.once_in(10);
+    let large = several_subarrays || random.once_in(40);
+    let (rows, block) = if several_subarrays {
+        let subarrays = random.between(1, 2) * SUBARRAY_ROWS;
+        // Blocks of 33, 48 and 63 rows straddle an edge.
+        let rows = subarrays + 16 * random.choose(&[1, 2, 31, 32]);
+        (rows, random.choose(&[33, 48, 63, 64]))
+    } else {
+        let rows = 16 * random.between(1, if large { 32 } else { 3 });
+        (rows, random.choose(&[1, 2, 3, 4, 8, 9, 16, 17, 33, 64]))
+    };
     let volume = random.choose(&[1, 1, 1, 2, 2, 3, 4, 16]);
-    let block = random.choose(&[1, 2, 3, 4, 8, 9, 16, 17, 33, 64]);
     let shortest_window = rows.div_ceil(block);
     Settings {
         rows,
@@ -228,8 +236,13 @@ fn random_plan(random: &mut Random, settings: &Settings) -> Plan {
     match random.between(1, 8) {
         1 => Plan::Uniform,
         2..=4 => {
-            let first = random.between(0, settings.rows - 1);
             let spread = random.choose(&[1, 2, 4, 8]);
+            let edges = (settings.rows - 1) / SUBARRAY_ROWS;
+            let first = if edges > 0 && !random.once_in(3) {
+                SUBARRAY_ROWS * random.between(1, edges) - random.between(0, spread)
+            } else {
+                random.between(0, settings.rows - 1)
+            };
             let few = random.between(1, 5);
             let row = |_| (first + random.between(0, spread)) % settings.rows;
             Plan::Few((0..few).map(row).collect())

@@ -2,13 +2,23 @@
 
 use crate::settings::Settings;
 
-/// 'Neighbours': the existing rows at distance 1 to half the blast diameter, ascending.
+/// 'The die is cut every 512 rows', counted from physical row 0.
+pub const SUBARRAY_ROWS: u32 = 512;
+
+/// The '512-row part' that a row is in; the last of a bank may be shorter.
+pub fn subarray(row: u32) -> u32 {
+    row / SUBARRAY_ROWS
+}
+
+/// 'Neighbours': the existing rows at distance 1 to half the blast diameter that are in the row's
+/// own subarray, ascending.
 pub fn victims(settings: &Settings, row: u32) -> Vec<u32> {
     let reach = settings.blast_diameter / 2;
     let first = row.saturating_sub(reach);
     let last = row + reach;
     (first..=last)
         .filter(|victim| *victim != row && *victim < settings.rows)
+        .filter(|victim| subarray(*victim) == subarray(row))
         .collect()
 }
 

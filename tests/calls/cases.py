@@ -1,0 +1,301 @@
+"""The calls that are compared: sweeps around limits, runs, states that no run reaches, states that
+break one rule each, and refused calls.
+
+A Case is a call with what it is lent, and the number that it has to answer where that is known.
+"""
+
+import collections
+
+from comparison import BLOCK, COUNTERS, DIAMETER, INTERVAL, ROWS, U32, VOLUME, WINDOW, changed
+from states import (
+    ACTIVATIONS, BROKEN_RULES, EVENTS, MAX_COUNT, PLACES, SPILLOVER, State, TRACKED, any_settings,
+    bad_value, edges, garbage, physical_row, random_logical_row, resize, state_of, valid_state,
+)
+
+# The number that the model has to give is None where only the model knows it.
+Case = collections.namedtuple("Case", "call state argument number kind")
+
+
+def case(call, state, argument=None, number=None, kind=None):
+    """The argument is a logical row, a list of picks or another state, as the call needs."""
+    return Case(call, state, argument, number, kind)
+
+
+# Sweeps around limits; edges.calls has the edges with answers written by hand
+
+
+def sweep_cases():
+    example = (16, 2, 1, 2, 4, 4, 4)
+    for activations, number in ((0, 0), (3, 0), (4, -22)):
+        state = state_of(example, {4: 3}, 1, activations=activations)
+        kind = f"activation {activations + 1} of an interval of 4"
+        yield case("activate", state, 5, number, kind)
+    yield case("refresh", state_of(example, {4: 3}, 1, activations=4), [9], 1,
+               "event in a full interval")
+
+    for diameter in (2, 4):
+        settings = changed(example, (DIAMETER, diameter), (COUNTERS, 12))
+        for row in (0, 1, 2, 13, 14, 15):
+            for tracked in ((), range(12), range(4, 16)):
+                state = state_of(settings, {row: 5 for row in tracked}, 2)
+                kind = f"end of the bank, B {diameter}"
+                yield case("activate", state, physical_row(row), 0, kind)
+
+    yield from subarray_cases()
+
+    several = changed(example, (VOLUME, 4), (COUNTERS, 6), (WINDOW, 6), (BLOCK, 3))
+    for tracked in range(7):
+        for event in range(6):
+            state = state_of(several, {2 * row: 3 + row % 2 for row in range(tracked)}, 1, event, 2)
+            picks = [U32, 7, U32, 7, 8, 9]
+            yield case("refresh", state, picks, min(4, tracked), "events of a whole window")
+    single = changed(example, (WINDOW, 1), (BLOCK, 16))
+    yield case("refresh", state_of(single, {4: 3, 6: 2}, 1), [9], 1, "window of one event")
+
+    full = state_of(example, {4: MAX_COUNT, 6: MAX_COUNT}, MAX_COUNT)
+    yield case("activate", full, 5, 0, "counts at the most")
+    yield case("refresh", full, [9], 1, "counts at the most")
+
+
+def subarray_cases():
+    """Rows at the edges of subarrays and at the end of a shorter last one, activated, picked and
+    in a block; and a bank of one whole subarray."""
+    for rows in (512, 528, 1040):
+        ends = [row for edge in (512, 1024, rows) for row in range(edge - 4, edge + 4) if row < rows]
+        for diameter in (2, 4):
+            settings = (rows, diameter, 2, 12, 4, -(-rows // 3), 3)
+            kind = f"edge of a subarray, N {rows}, B {diameter}"
+            for row in ends:
+                for tracked in ((), range(row - 2, row + 3), range(row - 12, row)):
+                    counts = {place: 5 for place in tracked if place < rows}
+                    state = state_of(settings, counts, 2)
+                    yield case("activate", state, physical_row(row), 0, kind)
+                yield case("refresh", state_of(settings, {row: 5}, 2), [U32] * 3, 1, kind)
+            for event in (*range(168, 173), *range(340, settings[WINDOW])):
+                if event < settings[WINDOW]:
+                    yield case("refresh", state_of(settings, {}, 2, event), [U32] * 3, 0, kind)
+
+
+# Runs
+
+
+def run_cases(rng, model, steps):
+    """The calls of one run from its set up, each on the memory that the one before left."""
+    settings = any_settings(rng)
+    tables = [garbage(rng, settings[COUNTERS]) for _ in range(2)]
+    first = case("set_up", State(settings, *tables, garbage(rng, 4)), None, 0, "set up of a run")
+    yield first
+    state = model.ask(first)[1]
+    earlier = state
+    hot_rows = [rng.randrange(settings[ROWS]) for _ in range(rng.choice((1, 2, 3, 6)))]
+    if edges(settings) and rng.random() < 0.7:
+        edge = rng.choice(edges(settings))
+        hot_rows = [edge + rng.randint(-4, 3) for _ in hot_rows]
+    for _ in range(steps):
+        step = run_step(rng, state, earlier, hot_rows)
+        yield step
+        state = model.ask(step)[1]
+        if rng.random() < 0.2:
+            earlier = state
+
+
+def run_step(rng, state, earlier, hot_rows):
+    """The number is left to the model, which refuses none of these for the state."""
+    settings = state.settings
+    chance = rng.random()
+    if chance < 0.03:
+        return case("activate", state, settings[ROWS] + rng.choice((0, 1, 7)), -9, "fault in a run")
+    if chance < 0.06:
+        return case("refresh", state, garbage(rng, settings[VOLUME] - 1), -10, "fault in a run")
+    if chance < 0.12:
+        return case("agree", state, earlier, None, "agreement in a run")
+    full = state.position[ACTIVATIONS] == settings[INTERVAL]
+    if chance < 0.2 or full and chance < 0.9:
+        picks = garbage(rng, settings[VOLUME] + rng.choice((0, 0, 1, 5)))
+        return case("refresh", state, picks, None, "event of a run")
+    row = rng.choice(hot_rows) if rng.random() < 0.8 else rng.randrange(settings[ROWS])
+    return case("activate", state, row, -22 if full else 0, "activation of a run")
+
+
+# States that no run reaches
+
+
+def valid_cases(rng):
+    """A case of each call on an accepted state."""
+    state = valid_state(rng)
+    full = state.position[ACTIVATIONS] == state.settings[INTERVAL]
+    yield case("activate", state, random_logical_row(rng, state), -22 if full else 0, "valid state")
+    state = valid_state(rng)
+    volume = state.settings[VOLUME]
+    picked = min(volume, state.position[TRACKED])
+    picks = garbage(rng, volume + rng.choice((0, 0, 1, 5)))
+    yield case("refresh", state, picks, picked, "valid state")
+    yield agreement_case(rng)
+
+
+def agreement_case(rng):
+    """Two states that agree or do not, in a way that is known."""
+    one = valid_state(rng, spillover=rng.choice((None, 0, 3)))
+    other = one.copy()
+    other.position[EVENTS] = rng.randrange(one.settings[WINDOW])
+    other.position[ACTIVATIONS] = rng.randint(0, one.settings[INTERVAL])
+    make = rng.choice(AGREEMENTS)
+    return make(rng, one, other) or case("agree", one, other, 1, "agree: same tables")
+
+
+def equal_to_untracked(rng, one, other):
+    """Rows tracked at the spillover on one side only, perhaps with another blast diameter."""
+    spillover = one.position[SPILLOVER]
+    kept = {row: count for row, count in one.tracked().items() if count != spillover}
+    other = state_of(changed(one.settings, (DIAMETER, 2)), kept, spillover, *other.position[:2])
+    if len(kept) == one.position[TRACKED]:
+        return None
+    return in_any_order(rng, one, other, 1, "agree: tracked at the spillover on one side")
+
+
+def all_rows_tracked(rng, one, other):
+    """Where every row is tracked on both sides, the spillover does not matter."""
+    settings = changed(one.settings, (ROWS, 16), (VOLUME, 2), (COUNTERS, rng.choice((16, 20))))
+    counts_by_row = {row: rng.randint(5, 8) for row in range(16)}
+    one = state_of(settings, counts_by_row, rng.randint(0, 2))
+    other = state_of(settings, counts_by_row, rng.randint(3, 5))
+    return in_any_order(rng, one, other, 1, "agree: all rows tracked, other spillover")
+
+
+def other_counters(rng, one, other):
+    """The same summary in tables of another length, under other settings."""
+    counters = one.settings[COUNTERS] + rng.randint(1, 3)
+    if counters > PLACES:
+        return None
+    settings = changed(one.settings, (COUNTERS, counters), (VOLUME, 1), (INTERVAL, 4096))
+    other = state_of(settings, one.tracked(), one.position[SPILLOVER])
+    return in_any_order(rng, one, other, 1, "agree: other settings")
+
+
+def other_rows(rng, one, other):
+    """The same tables, another bank."""
+    rows = one.settings[ROWS] + 16
+    if rows > one.settings[BLOCK] * one.settings[WINDOW] or rows > 65_536:
+        return None
+    other.settings = changed(one.settings, (ROWS, rows))
+    return in_any_order(rng, one, other, 0, "disagree: other number of rows")
+
+
+def other_count(rng, one, other):
+    if not one.position[TRACKED]:
+        return None
+    slot = rng.randrange(one.position[TRACKED])
+    if other.counts[slot] == MAX_COUNT:
+        return None
+    other.counts[slot] += 1
+    return in_any_order(rng, one, other, 0, "disagree: one count")
+
+
+def other_spillover(rng, one, other):
+    least = min(one.tracked().values(), default=MAX_COUNT)
+    if one.position[SPILLOVER] >= least or one.position[TRACKED] == one.settings[ROWS]:
+        return None
+    other.position[SPILLOVER] += 1
+    return in_any_order(rng, one, other, 0, "disagree: spillover")
+
+
+AGREEMENTS = (equal_to_untracked, all_rows_tracked, other_counters, other_rows, other_count,
+              other_spillover, lambda rng, one, other: None)
+
+
+def in_any_order(rng, one, other, number, kind):
+    if rng.random() < 0.5:
+        one, other = other, one
+    return case("agree", one, other, number, kind)
+
+
+# Refused calls
+
+
+def broken_cases(rng):
+    """Every rule broken in every call that tests it, and in a set up, which does not."""
+    for rule, make in BROKEN_RULES.items():
+        state = make(rng)
+        yield case("activate", state, random_row(rng, state), -21, f"activate: {rule}")
+        state = make(rng)
+        yield case("refresh", state, garbage(rng, state.settings[VOLUME]), -21, f"refresh: {rule}")
+        state = make(rng)
+        yield case("agree", state, valid_state(rng), -21, f"agree, first: {rule}")
+        yield case("agree", valid_state(rng), state, -21, f"agree, second: {rule}")
+        yield case("set_up", make(rng), None, 0, "set up on a broken state")
+
+
+def random_row(rng, state):
+    return rng.randrange(state.settings[ROWS])
+
+
+def random_broken_state(rng):
+    return rng.choice(list(BROKEN_RULES.values()))(rng)
+
+
+def faulty_case(rng, several):
+    """A call with one fault, or with some at once, of which the first in document 01's order
+    decides."""
+    call = rng.choice(("set_up", "activate", "refresh", "agree"))
+    state = random_broken_state(rng) if several else valid_state(rng)
+    possible = {"set_up": (1, 8), "activate": (1, 8, 9), "refresh": (1, 8, 10), "agree": (1, 8)}
+    chosen = rng.sample(possible[call], rng.randint(1, len(possible[call])) if several else 1)
+    numbers = []
+    row = random_row(rng, state)
+    if 9 in chosen:
+        row = rng.choice((state.settings[ROWS], state.settings[ROWS] + 1, 65_536, U32))
+        numbers.append(9)
+    length = state.settings[VOLUME]
+    if 10 in chosen:
+        length = rng.choice((0, length - 1))
+        numbers.append(10)
+    if 8 in chosen:
+        for table in rng.choice(([state.rows], [state.counts], [state.rows, state.counts])):
+            resize(rng, table, (0, 1, U32))
+        numbers.append(8)
+    if 1 in chosen:
+        numbers.append(spoil_settings(rng, state, several))
+    if call == "agree":
+        return faulty_agreement(rng, state, min(numbers), several)
+    argument = {"set_up": None, "activate": row, "refresh": garbage(rng, length)}[call]
+    kind = "several faults" if several else "one fault"
+    return case(call, state, argument, -min(numbers), f"{kind}: {call}")
+
+
+def spoil_settings(rng, state, several):
+    """Makes settings refused; the number is that of the first one refused."""
+    fields = rng.sample(range(7), rng.choice((1, 1, 2, 3)) if several else 1)
+    for field in fields:
+        state.settings = changed(state.settings, (field, bad_value(rng, state.settings, field)))
+    return min(fields) + 1
+
+
+def faulty_agreement(rng, state, number, several):
+    """All settings come before the lengths, and those of the first state before the second's."""
+    other = random_broken_state(rng) if several else valid_state(rng)
+    if several and rng.random() < 0.5:
+        earlier = number
+        number = spoil_settings(rng, other, True)
+        if earlier < 8:
+            kind = "several faults: agree, both settings"
+            return case("agree", state, other, -earlier, kind)
+        return in_any_order(rng, state, other, -number, "several faults: agree")
+    kind = "several faults: agree" if several else "one fault: agree"
+    return in_any_order(rng, state, other, -number, kind)
+
+
+# All cases
+
+
+def random_cases(rng, model):
+    """About 5,000 cases."""
+    for steps in (5, 20, 40) * 27:
+        yield from run_cases(rng, model, steps)
+    for _ in range(500):
+        yield from valid_cases(rng)
+    for _ in range(12):
+        yield from broken_cases(rng)
+    for _ in range(600):
+        yield faulty_case(rng, several=False)
+    for _ in range(600):
+        yield faulty_case(rng, several=True)
