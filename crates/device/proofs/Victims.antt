@@ -1,14 +1,15 @@
--- The victims of a row: exactly the other rows of the bank within reach, ascending, so none twice, and at most as many as the blast diameter.
+-- The victims of a row: exactly the other rows of its subarray, in the bank and within reach, ascending, so none twice, and at most as many as
+-- the blast diameter; in a bank of one subarray, those that the bank's ends leave.
 use mathlib.Core.Path.{_≡_, sym}
 use mathlib.Core.Logic.{⊎-elim}
 use mathlib.Core.List.{List, [], _∷_, _++_, List·Memᴰ, List·Memᴰ·head, List·Memᴰ·tail, List·Memᴰ·append-cases, List·Memᴰ·not-nil, List·Memᴰ·cases-cons, Memᴰ·append-left, Memᴰ·append-right}
-use Prim.Native.Nat.{ℕ, zero, suc, _+_, _-_, _/_, _≤_, _<_, min}
+use Prim.Native.Nat.{ℕ, zero, suc, _+_, _-_, _*_, _/_, _≤_, _<_, min, max}
 use native.Mathlib.Nat.{eq-or-lt-of-le}
 use native.Mathlib.Numerals.{add-one}
 use native.Mathlib.Omega.{arith}
 use lib.ListN.{length, getD, length-append}
 use Rattle.laws.proofs.Cases.{le-or-lt}
-use Rattle.device.specs.Victims.{rows-from, rows-between, victims}
+use Rattle.device.specs.Victims.{rows-from, rows-between, within-reach, subarray-rows, subarray, subarray-start, subarray-end, victims}
 use Rattle.device.specs.Claims.{distance}
 
 -- rows from low on and below high, each above the one before
@@ -74,46 +75,80 @@ from-in zero low v l h = absurd (omega arith)
 from-in (suc k) low v l h =
     ⊎-elim (λ e. List·Memᴰ·head (sym e)) (λ below. List·Memᴰ·tail (from-in k (suc low) v below (omega arith))) (eq-or-lt-of-le l)
 
-module _ (rows diameter row : ℕ) where
-  -- 'neighbours at distance 1 to B/2 that exist'
-  pub victim-near : row < rows → (v : ℕ) → List·Memᴰ v (victims rows diameter row) → (v < rows) × (1 ≤ distance v row) × (distance v row ≤ diameter / 2)
-  unfolding victims rows-between
-  victim-near h v m =
+-- the rows within reach, of those from low on and below high, where the row itself is one of these
+module _ (low high reach row : ℕ) where
+  in-reach : low ≤ row → row < high → (v : ℕ) → List·Memᴰ v (within-reach low high reach row) → (low ≤ v) × (v < high) × (1 ≤ distance v row) × (distance v row ≤ reach)
+  unfolding within-reach rows-between
+  in-reach l h v m =
       ⊎-elim
-      (λ below. let r = in-from (row - (row - diameter / 2)) (row - diameter / 2) v below in omega arith)
-      (λ above. let r = in-from (min (row + 1 + diameter / 2) rows - (row + 1)) (row + 1) v above in omega arith)
-      (List·Memᴰ·append-cases (rows-from (row - (row - diameter / 2)) (row - diameter / 2)) m)
+      (λ below. let r = in-from (row - max low (row - reach)) (max low (row - reach)) v below in omega arith)
+      (λ above. let r = in-from (min (row + 1 + reach) high - (row + 1)) (row + 1) v above in omega arith)
+      (List·Memᴰ·append-cases (rows-from (row - max low (row - reach)) (max low (row - reach))) m)
 
-  pub near-victim : (v : ℕ) → v < rows → 1 ≤ distance v row → distance v row ≤ diameter / 2 → List·Memᴰ v (victims rows diameter row)
-  unfolding victims rows-between
-  near-victim v h far near = ⊎-elim below above (le-or-lt v row)
+  reach-in : (v : ℕ) → low ≤ v → v < high → 1 ≤ distance v row → distance v row ≤ reach → List·Memᴰ v (within-reach low high reach row)
+  unfolding within-reach rows-between
+  reach-in v l h far near = ⊎-elim below above (le-or-lt v row)
     where
-      below : v ≤ row → List·Memᴰ v (victims rows diameter row)
-      below l =
-          Memᴰ·append-left (rows-between (row + 1) (min (row + 1 + diameter / 2) rows))
-          (from-in (row - (row - diameter / 2)) (row - diameter / 2) v (omega arith) (omega arith))
+      below : v ≤ row → List·Memᴰ v (within-reach low high reach row)
+      below b =
+          Memᴰ·append-left (rows-between (row + 1) (min (row + 1 + reach) high))
+          (from-in (row - max low (row - reach)) (max low (row - reach)) v (omega arith) (omega arith))
 
-      above : row < v → List·Memᴰ v (victims rows diameter row)
-      above l =
-          Memᴰ·append-right (rows-between (row - diameter / 2) row)
-          (from-in (min (row + 1 + diameter / 2) rows - (row + 1)) (row + 1) v (omega arith) (omega arith))
+      above : row < v → List·Memᴰ v (within-reach low high reach row)
+      above a =
+          Memᴰ·append-right (rows-between (max low (row - reach)) row)
+          (from-in (min (row + 1 + reach) high - (row + 1)) (row + 1) v (omega arith) (omega arith))
 
-  -- ascending and below the bank's end, so ascends-none twice
+  reach-ascends : low ≤ row → row < high → Ascends low high (within-reach low high reach row)
+  unfolding within-reach
+  reach-ascends l h =
+      ascends-append {middle = row}
+      (ascends-widen (between-ascends (max low (row - reach)) row {top = row} (omega arith)) (omega arith) (omega arith))
+      (ascends-widen (between-ascends (row + 1) (min (row + 1 + reach) high) {top = high} (omega arith)) (omega arith) (omega arith))
+      l
+      (omega arith)
+
+  length-reach-le : length (within-reach low high reach row) ≤ 2 * reach
+  unfolding within-reach
+  length-reach-le = simp (length-append, between-length) (omega arith)
+
+module _ (rows diameter row : ℕ) where
+  -- 'at distance 1 to B/2 that exist', 'in the same 512-row part'
+  pub victim-near : row < rows → (v : ℕ) → List·Memᴰ v (victims rows diameter row) → (v < rows) × (subarray v ≡ subarray row) × (1 ≤ distance v row) × (distance v row ≤ diameter / 2)
+  unfolding victims
+  victim-near h v m =
+      let r = in-reach (subarray-start row) (subarray-end rows row) (diameter / 2) row (omega arith) (omega arith) v m in
+      (omega arith, omega arith, r .2, r .3)
+
+  pub near-victim : (v : ℕ) → v < rows → subarray v ≡ subarray row → 1 ≤ distance v row → distance v row ≤ diameter / 2 → List·Memᴰ v (victims rows diameter row)
+  unfolding victims
+  near-victim v h same far near =
+      reach-in (subarray-start row) (subarray-end rows row) (diameter / 2) row v (omega arith) (omega arith) far near
+
+  -- ascending and below the bank's end, so none twice
   pub victims-ascend : row < rows → Ascends 0 rows (victims rows diameter row)
-  unfolding victims rows-between
+  unfolding victims
   victims-ascend h =
-      ascends-append {middle = row + 1}
-      (ascends-widen (from-ascends (row - (row - diameter / 2)) (row - diameter / 2) row (omega arith)) (omega arith) (omega arith))
-      (from-ascends (min (row + 1 + diameter / 2) rows - (row + 1)) (row + 1) rows (omega arith))
+      ascends-widen
+      (reach-ascends (subarray-start row) (subarray-end rows row) (diameter / 2) row (omega arith) (omega arith))
       (omega arith)
       (omega arith)
 
   -- at most as many as the blast diameter
   pub length-victims-le : length (victims rows diameter row) ≤ diameter
-  unfolding victims rows-between
-  length-victims-le = simp (length-append, from-length) (omega arith)
+  unfolding victims
+  length-victims-le =
+      omega (arith, length-reach-le (subarray-start row) (subarray-end rows row) (diameter / 2) row)
 
--- a run of rows, one row further, and ascends-none
+  -- in a bank of one subarray the cut is at the bank's ends
+  pub victims-uncut : rows ≤ subarray-rows → row < rows → victims rows diameter row ≡ within-reach 0 rows (diameter / 2) row
+  unfolding victims
+  victims-uncut small h =
+      let first : subarray-start row ≡ 0 = omega arith in
+      let last : subarray-end rows row ≡ rows = omega arith in
+      rw (last, first)
+
+-- a run of rows, one row further, and none
 pub between-step : (row high : ℕ) → row < high → rows-between row high ≡ row ∷ rows-between (row + 1) high
 unfolding rows-between rows-from
 between-step row high h =

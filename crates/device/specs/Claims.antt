@@ -4,21 +4,28 @@ use mathlib.Core.Path.{_≡_}
 use mathlib.Core.List.{List, List·Memᴰ}
 use lib.ListN.{length, getD}
 use Rattle.device.specs.Remap.{physical}
-use Rattle.device.specs.Victims.{victims}
+use Rattle.device.specs.Victims.{within-reach, subarray-rows, subarray, victims}
 
 -- the distance of two rows
 abbrev pub distance : ℕ → ℕ → ℕ
 distance a b = (a - b) + (b - a)
 
--- 'neighbours at distance 1 to B/2 that exist (0 to N − 1), ascending': those, all of them, and each above the one before
+-- 'neighbours at distance 1 to B/2 that exist (0 to N − 1), ascending', 'those in the same 512-row part': those, all of them, and each above the
+-- one before, so none twice
 pub record Neighbours (rows diameter row : ℕ) (list : List ℕ) : Type 0 where
-  pub only-near : (v : ℕ) → List·Memᴰ v list → (v < rows) × (1 ≤ distance v row) × (distance v row ≤ diameter / 2)
-  pub all-near : (v : ℕ) → v < rows → 1 ≤ distance v row → distance v row ≤ diameter / 2 → List·Memᴰ v list
+  pub only-near : (v : ℕ) → List·Memᴰ v list → (v < rows) × (subarray v ≡ subarray row) × (1 ≤ distance v row) × (distance v row ≤ diameter / 2)
+  pub all-near : (v : ℕ) → v < rows → subarray v ≡ subarray row → 1 ≤ distance v row → distance v row ≤ diameter / 2 → List·Memᴰ v list
   pub ascending : (i j : ℕ) → i < j → j < length list → getD list i 0 < getD list j 0
+  pub at-most : length list ≤ diameter
 
--- the victims of a row are exactly the other rows of the bank within reach, ascending
+-- the victims of a row are exactly the other rows of its subarray, in the bank and within reach, ascending and at most B
 unfoldable pub Victims-are-neighbours : Type 0
 Victims-are-neighbours = (rows diameter row : ℕ) → row < rows → Neighbours rows diameter row (victims rows diameter row)
+
+-- 'banks of 512 rows or fewer see no difference': their rows have the victims that the bank's ends alone leave
+unfoldable pub Small-banks-uncut : Type 0
+Small-banks-uncut =
+    (rows diameter row : ℕ) → rows ≤ subarray-rows → row < rows → victims rows diameter row ≡ within-reach 0 rows (diameter / 2) row
 
 -- a permutation of the bank's rows: rows of the bank stay in the bank, and different rows stay different
 pub record Permutation (rows : ℕ) : Type 0 where

@@ -1,12 +1,13 @@
-// A device: its settings with their tests, and where a logical row lies on the die.
+// A device: its settings with their tests, where a logical row lies on the die, and how far a row reaches in its subarray.
 ghost use mathlib.Core.Path.{_≡_};
-ghost use Prim.Native.Nat.{_<_, _*_};
+ghost use Prim.Native.Nat.{_<_, _+_, _-_, _*_, min, max};
 ghost use mathlib.Core.Bool.{not};
 ghost use lib.Dec.{leb};
 ghost use lib.ListN.{getD};
 ghost use Rattle.device.specs.Refusal.{refuse, first-failed};
 ghost use Rattle.device.specs.Acceptance.{within, rows-allowed, diameter-allowed, block-allowed, settings-tests, settings-tests-with, settings-tests-but-counters};
 ghost use Rattle.device.specs.Remap.{remap-table, physical};
+ghost use Rattle.device.specs.Victims.{subarray-rows, subarray-start};
 
 // The most rows of a bank and the most counters that settings may name.
 pub const MOST_ROWS: u32 = 65536;
@@ -128,4 +129,28 @@ pub fn physical_row(row: u32) -> u32
     ensures { λ r. ⌜ r ≡ physical row ⌝ }
 {
     row / 16 * 16 + remapped(row % 16)
+}
+
+// The smaller of two numbers.
+pub fn smaller(a: u32, b: u32) -> u32
+    ensures { λ r. ⌜ r ≡ min a b ⌝ }
+{
+    if a <= b { a } else { b }
+}
+
+// The rows of a subarray.
+const SUBARRAY_ROWS: u32 = 512;
+
+// The lowest row of a row's subarray that is at most so far below it.
+pub fn lowest_within(row: u32, reach: u32) -> u32
+    ensures { λ r. ⌜ r ≡ max (subarray-start row) (row - reach) ⌝ }
+{
+    row - smaller(row % SUBARRAY_ROWS, reach)
+}
+
+// The highest row of a row's subarray that is at most so far above it; the bank may end before it.
+pub fn highest_within(row: u32, reach: u32) -> u32
+    ensures { λ r. ⌜ r ≡ min (row + reach) (subarray-start row + subarray-rows - 1) ⌝ }
+{
+    row + smaller(SUBARRAY_ROWS - 1 - row % SUBARRAY_ROWS, reach)
 }

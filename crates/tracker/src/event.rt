@@ -141,7 +141,7 @@ pub fn event_tables(
     ensures { λ r. ⌜ Turns rows counts t (event (places rows) (victims-in s) (s .volume) (block-rows s e) (ends-window s e)) (r .tally) ⌝ }
 {
     let low = e * s.block;
-    let high = victims::smaller(low + s.block, s.rows);
+    let high = device::smaller(low + s.block, s.rows);
     let taken = take_out(s, rows, counts, t, low, high, picks);
     let rest = taken.tally;
     let begun = clear_if(e == s.window - 1, rows, counts, rest);

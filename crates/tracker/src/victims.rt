@@ -2,27 +2,13 @@
 use device::Settings;
 use summary::Tally;
 ghost use mathlib.Core.Path.{_≡_};
-ghost use Prim.Native.Nat.{_-_, _≤_, _<_, min};
+ghost use Prim.Native.Nat.{_≤_, _<_};
 ghost use lib.ListN.{length};
 ghost use Rattle.device.specs.Acceptance.{most-rows};
 ghost use Rattle.summary.specs.Steps.{disturb-each, activation};
 ghost use Rattle.summary.specs.Contracts.{summary, places, Tracks, Turns};
 ghost use Rattle.tracker.specs.Calls.{victims-in};
 ghost use Rattle.summary.specs.Rules.{Room-for};
-
-// a - b, not below 0.
-fn less_by(a: u32, b: u32) -> u32
-    ensures { λ r. ⌜ r ≡ a - b ⌝ }
-{
-    if b <= a { a - b } else { 0 }
-}
-
-// The smaller of two numbers.
-pub fn smaller(a: u32, b: u32) -> u32
-    ensures { λ r. ⌜ r ≡ min a b ⌝ }
-{
-    if a <= b { a } else { b }
-}
 
 // A row disturbs its victims, ascending.
 pub fn disturb_victims(
@@ -38,8 +24,8 @@ pub fn disturb_victims(
     ensures { λ r. ⌜ Turns rows counts t (disturb-each (places rows) (victims-in s row)) r ⌝ }
 {
     let reach = s.blast_diameter / 2;
-    let low = less_by(row, reach);
-    let high = smaller(row + 1 + reach, s.rows);
+    let low = device::lowest_within(row, reach);
+    let high = device::smaller(device::highest_within(row, reach) + 1, s.rows);
     let below = summary::disturb_run(rows, counts, t, low, row);
     summary::disturb_run(rows, counts, below, row + 1, high)
 }
