@@ -1,10 +1,12 @@
--- Edges of the tracker's calls, those of 'Edge figures' that bear no * among them: what follows by hand, and what the definitions give.
+-- Edges of the tracker's calls, those of 'Edge figures' that bear no * among them and those of subarrays: what follows by hand, and what the
+-- definitions give.
 use Prim.Native.Nat.{ℕ}
 use mathlib.Core.Bool.{Bool, cond}
 use mathlib.Core.List.{List, [], _∷_, _++_}
 use Rattle.device.specs.declared.Settings.{Settings}
 use Rattle.device.specs.Refusal.{Outcome, accepted, refused}
-use Rattle.tracker.specs.State.{State}
+use Rattle.summary.specs.Steps.{empty}
+use Rattle.tracker.specs.State.{State, state-of}
 use Rattle.tracker.specs.Calls.{SetUp-call, Activation-call, Refresh-call, set-up, activation-on, refresh-on, agreement-of}
 use Rattle.bound.specs.Answers.{settings-of}
 use Rattle.figures.specs.Table.{Figure, shown, state-numbers}
@@ -113,6 +115,46 @@ agreement-edges =
     agreement-figure (settings-of 16 2 1 3 4 4 4) (untracked 0 0) (8 ∷ []) ∷
     agreement-figure (small 2 1) (untracked 4 0) (21 ∷ []) ∷ []
 
+-- the settings N B 1 4 4 64 16, for banks of several subarrays
+unfoldable pub wide : ℕ → ℕ → Settings
+wide n b = settings-of n b 1 4 4 64 16
+
+-- no row tracked in tables of C places, after so many events
+unfoldable pub fresh : Settings → ℕ → State
+fresh s e = state-of s e 0 empty
+
+-- a first activation in such a bank
+unfoldable pub wide-figure : ℕ → ℕ → ℕ → List ℕ → Figure
+wide-figure n b row given = activation-figure (wide n b) (fresh (wide n b) 0) row given
+
+-- the settings 1024 4 1 6 4 342 3: the block of event 170 is rows 510 to 512; and 1024 4 1 4 4 66 16: that of event 64 is empty
+unfoldable pub across : Settings
+across = settings-of 1024 4 1 6 4 342 3
+
+unfoldable pub behind-all : Settings
+behind-all = settings-of 1024 4 1 4 4 66 16
+
+-- one row tracked, with a count of 5, after 64 events
+unfoldable pub tracks-one : ℕ → State
+tracks-one row = state-of behind-all 64 0 (record { entries = record { row = row; count = 5 } ∷ []; spillover = 0 })
+
+-- 'disturbance does not cross': rows 511, 510, 512 and 513, of which bus rows 510 and 511 are the first two; 'banks of 512 rows or fewer see no
+-- difference'; a last subarray of 16 rows; a block across the edge; rows 511 and 512 picked
+unfoldable pub subarray-edges : List Figure
+subarray-edges =
+    wide-figure 1024 4 510 (0 ∷ 509 ∷ 510 ∷ 0 ∷ 0 ∷ 1 ∷ 1 ∷ 0 ∷ 0 ∷ 0 ∷ 1 ∷ 2 ∷ 0 ∷ []) ∷
+    wide-figure 1024 4 511 (0 ∷ 508 ∷ 509 ∷ 511 ∷ 0 ∷ 1 ∷ 1 ∷ 1 ∷ 0 ∷ 0 ∷ 1 ∷ 3 ∷ 0 ∷ []) ∷
+    wide-figure 1024 4 512 (0 ∷ 513 ∷ 514 ∷ 0 ∷ 0 ∷ 1 ∷ 1 ∷ 0 ∷ 0 ∷ 0 ∷ 1 ∷ 2 ∷ 0 ∷ []) ∷
+    wide-figure 1024 4 513 (0 ∷ 512 ∷ 514 ∷ 515 ∷ 0 ∷ 1 ∷ 1 ∷ 1 ∷ 0 ∷ 0 ∷ 1 ∷ 3 ∷ 0 ∷ []) ∷
+    wide-figure 1024 2 510 (0 ∷ 510 ∷ 0 ∷ 0 ∷ 0 ∷ 1 ∷ 0 ∷ 0 ∷ 0 ∷ 0 ∷ 1 ∷ 1 ∷ 0 ∷ []) ∷
+    wide-figure 1024 2 512 (0 ∷ 513 ∷ 0 ∷ 0 ∷ 0 ∷ 1 ∷ 0 ∷ 0 ∷ 0 ∷ 0 ∷ 1 ∷ 1 ∷ 0 ∷ []) ∷
+    wide-figure 512 4 510 (0 ∷ 509 ∷ 510 ∷ 0 ∷ 0 ∷ 1 ∷ 1 ∷ 0 ∷ 0 ∷ 0 ∷ 1 ∷ 2 ∷ 0 ∷ []) ∷
+    wide-figure 528 4 512 (0 ∷ 513 ∷ 514 ∷ 0 ∷ 0 ∷ 1 ∷ 1 ∷ 0 ∷ 0 ∷ 0 ∷ 1 ∷ 2 ∷ 0 ∷ []) ∷
+    wide-figure 528 4 526 (0 ∷ 525 ∷ 526 ∷ 0 ∷ 0 ∷ 1 ∷ 1 ∷ 0 ∷ 0 ∷ 0 ∷ 1 ∷ 2 ∷ 0 ∷ []) ∷
+    event-figure across (fresh across 170) (0 ∷ 0 ∷ 7 ∷ 7 ∷ 508 ∷ 509 ∷ 510 ∷ 511 ∷ 513 ∷ 514 ∷ 1 ∷ 2 ∷ 1 ∷ 1 ∷ 1 ∷ 1 ∷ 171 ∷ 0 ∷ 6 ∷ 0 ∷ []) ∷
+    event-figure behind-all (tracks-one 511) (0 ∷ 1 ∷ 511 ∷ 7 ∷ 509 ∷ 510 ∷ 0 ∷ 0 ∷ 1 ∷ 1 ∷ 0 ∷ 0 ∷ 65 ∷ 0 ∷ 2 ∷ 0 ∷ []) ∷
+    event-figure behind-all (tracks-one 512) (0 ∷ 1 ∷ 512 ∷ 7 ∷ 513 ∷ 514 ∷ 0 ∷ 0 ∷ 1 ∷ 1 ∷ 0 ∷ 0 ∷ 65 ∷ 0 ∷ 2 ∷ 0 ∷ []) ∷ []
+
 -- all of them; tests/calls/edges.calls runs the same
 unfoldable pub edges : List Figure
-edges = set-up-edges ++ activation-edges ++ event-edges ++ agreement-edges
+edges = set-up-edges ++ activation-edges ++ event-edges ++ agreement-edges ++ subarray-edges
