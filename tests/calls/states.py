@@ -134,11 +134,12 @@ def valid_state(rng, settings=None, tracked=None, spillover=None):
         first = min(max(0, first), rows - tracked)
         chosen = range(first, first + tracked)
     least = max(1, spillover)
+    at_edges = [edge // settings[BLOCK] for edge in edges(settings)]
     return state_of(
         settings,
         {row: random_count(rng, least) for row in chosen},
         spillover,
-        events=rng.choice((0, window - 1, rng.randrange(window))),
+        events=rng.choice((0, window - 1, rng.randrange(window), *at_edges)),
         activations=rng.choice((0, interval - 1, interval, rng.randint(0, interval))),
     )
 

@@ -1,10 +1,11 @@
 #!/usr/bin/env python3
-"""Compares the code that README.md and docs/LIMIT.md show with the program that the gate proves and runs.
+"""Compares what README.md and docs/LIMIT.md show with what the gate proves and runs.
 
     python3 tests/docs/compare.py
 
 Each page has a block marked rust that begins with the page's comment, below, and every block marked rust has to
-stand in crates/example/src/main.rt, line for line. README.md also says what the program prints.
+stand in crates/example/src/main.rt, line for line. README.md also says what the program prints, shows the example
+traces with what comes of them, and has the lines of the trace of subarrays and of its listing in its table.
 Exit status: 0 all equal; 1 a difference.
 """
 
@@ -23,6 +24,18 @@ PAGES = {
 }
 
 
+SHOWN = (
+    "tests/listing/example.trace", "tests/listing/example.listing",
+    "tests/writer/example.trace", "tests/writer/example.spelling", "tests/writer/example.fault",
+)
+SUBARRAYS = ("tests/listing/subarrays.trace", "tests/listing/subarrays.listing")
+
+
+def indented(text):
+    """A text as a page shows it: four blanks before each line that is not blank."""
+    return "".join(f"    {line}\n" if line else "\n" for line in text.splitlines())
+
+
 def rust_blocks(text):
     """The blocks of a page that are marked rust, without their fences."""
     return re.findall(r"^```rust\n(.*?)^```$", text, re.MULTILINE | re.DOTALL)
@@ -38,8 +51,16 @@ def main():
         for block in shown:
             first = block.split("\n")[0]
             tally.check("\n" + block in source, f"the block that begins '{first}' is not in {SOURCE}")
+    readme = (ROOT / "README.md").read_text()
     printed = (ROOT / "crates/example/stdout").read_text().strip()
-    tally.check(f"`{printed}`" in (ROOT / "README.md").read_text(), f"README.md does not say that it prints '{printed}'")
+    tally.check(f"`{printed}`" in readme, f"README.md does not say that it prints '{printed}'")
+    for file in SHOWN:
+        text = (ROOT / file).read_text()
+        tally.check("\n\n" + indented(text) + "\n" in readme, f"README.md does not show {file}")
+    lines = [(ROOT / file).read_text().splitlines() for file in SUBARRAYS]
+    in_table = [line for line in lines[0] if line[0] in "SA"] + [line for line in lines[1] if line[0] == "R"]
+    for line in in_table:
+        tally.check(f"`{line}`" in readme, f"README.md does not have '{line}' of {SUBARRAYS[0]} or its listing")
     return tally.close("docs")
 
 
