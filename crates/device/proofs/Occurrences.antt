@@ -31,7 +31,7 @@ unfolding times
 times-append row [] ys = omega arith
 times-append row (x ∷ xs) ys = omega (arith, times-append row xs ys)
 
--- a row below the range is not in it, and ascends-none is in it twice
+-- a row below the range is not in it, and none is in it twice
 pub times-below : (row : ℕ) {low high : ℕ} {vs : List ℕ} → Ascends low high vs → row < low → times row vs ≡ 0
 unfolding times
 times-below row ascends-none h = omega arith

@@ -102,10 +102,10 @@ module _ (low high reach row : ℕ) where
   reach-ascends : low ≤ row → row < high → Ascends low high (within-reach low high reach row)
   unfolding within-reach
   reach-ascends l h =
-      ascends-append {middle = row}
+      ascends-append {middle = row + 1}
       (ascends-widen (between-ascends (max low (row - reach)) row {top = row} (omega arith)) (omega arith) (omega arith))
-      (ascends-widen (between-ascends (row + 1) (min (row + 1 + reach) high) {top = high} (omega arith)) (omega arith) (omega arith))
-      l
+      (between-ascends (row + 1) (min (row + 1 + reach) high) (omega arith))
+      (omega arith)
       (omega arith)
 
   length-reach-le : length (within-reach low high reach row) ≤ 2 * reach
