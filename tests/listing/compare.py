@@ -28,7 +28,7 @@ from failures import (
     check_failures, input_fails_after_lines, input_unreadable, output_fills, output_full, reader_leaves,
 )
 from programs import difference, from_file, in_pieces, random_pieces, through_pipe
-from traces import plain_trace, long_lines, random_traces
+from traces import KINDS, long_lines, plain_trace, random_traces
 
 HERE = "tests/listing"
 OUT = "target/listing"
@@ -98,9 +98,7 @@ def line_kinds(listing):
 
 
 EXPECTED_KINDS = (
-    "empty input", "single byte", "plain", "several S", "settings at their limits",
-    "edges of subarrays", "no S", "almost good lines", "damaged", "bytes 0, 13 and 255",
-    "byte 13 before each byte 10", "cut off", "noise", "long lines", "much output", "buffer boundary", "in pieces", "bound",
+    *KINDS, "in pieces", "bound",
     *(f"event with {picked} picked rows" for picked in range(17)),
     *(f"line refused with {number}" for number in REFUSALS),
 )

@@ -273,27 +273,30 @@ def boundary_traces(rng):
 
 # All traces
 
+PLANS = (  # how a trace is made, its kind, and how many
+    (plain_trace, "plain", 100),
+    (many_settings, "several S", 40),
+    (limit_settings, "settings at their limits", 30),
+    (subarray_edges, "edges of subarrays", 60),
+    (no_settings, "no S", 10),
+    (near_misses, "almost good lines", 40),
+    (damaged, "damaged", 100),
+    (special_bytes, "bytes 0, 13 and 255", 30),
+    (crlf, "byte 13 before each byte 10", 5),
+    (cut_off, "cut off", 40),
+    (noise, "noise", 10),
+    (long_lines, "long lines", 40),
+    (much_output, "much output", 3),
+)
+KINDS = ("empty input", "single byte", *(kind for _, kind, _ in PLANS), "buffer boundary")
+
 
 def random_traces(rng):
     """Some hundred pairs of a kind and a trace."""
     yield "empty input", b""
     yield "single byte", b"\n"
     yield "single byte", rng.choice((b"R", b"S", b"A", b" ", b"\x00", b"\r", b"\xff"))
-    for make, kind, count in (
-        (plain_trace, "plain", 100),
-        (many_settings, "several S", 40),
-        (limit_settings, "settings at their limits", 30),
-        (subarray_edges, "edges of subarrays", 60),
-        (no_settings, "no S", 10),
-        (near_misses, "almost good lines", 40),
-        (damaged, "damaged", 100),
-        (special_bytes, "bytes 0, 13 and 255", 30),
-        (crlf, "byte 13 before each byte 10", 5),
-        (cut_off, "cut off", 40),
-        (noise, "noise", 10),
-        (long_lines, "long lines", 40),
-        (much_output, "much output", 3),
-    ):
+    for make, kind, count in PLANS:
         for _ in range(count):
             yield kind, make(rng)
     for text in boundary_traces(rng):

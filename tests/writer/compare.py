@@ -40,6 +40,7 @@ from records import (
     Case, FAULTS, faulty_case, good_records, one_record_changed, random_cases, respelled, spelled,
     unfinished,
 )
+from traces import KINDS
 
 HERE = "tests/writer"
 OUT = "target/writer"
@@ -294,10 +295,7 @@ EXPECTED_KINDS = (
     "boundary", "boundary, fault", "long trace", "long trace, fault", "in pieces",
     "listing with a refused line",
     "no fault", *(f"fault {number}" for number in REFUSALS),
-    *(f"of the listing: {kind}" for kind in (
-        "empty input", "single byte", "plain", "several S", "settings at their limits", "no S",
-        "almost good lines", "damaged", "bytes 0, 13 and 255", "byte 13 before each byte 10", "cut off",
-        "noise", "long lines", "much output", "buffer boundary")),
+    *(f"of the listing: {kind}" for kind in KINDS),
     *calls.EXPECTED_KINDS,
 )
 

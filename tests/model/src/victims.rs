@@ -2,7 +2,7 @@
 
 use crate::settings::Settings;
 
-/// 'The die is cut every 512 rows', counted from physical row 0.
+/// 'A maker's die is cut every 512 rows': so many rows of the die, 'counted from row 0'.
 pub const SUBARRAY_ROWS: u32 = 512;
 
 /// The '512-row part' that a row is in; the last of a bank may be shorter.
