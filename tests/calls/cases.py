@@ -61,11 +61,11 @@ def subarray_cases():
     """Rows at the edges of subarrays and at the end of a shorter last one, activated, picked and
     in a block; and a bank of one whole subarray."""
     for rows in (512, 528, 1040):
-        ends = [row for edge in (512, 1024, rows) for row in range(edge - 4, edge + 4) if row < rows]
+        ends = {row for edge in (512, 1024, rows) for row in range(edge - 4, edge + 4) if row < rows}
         for diameter in (2, 4):
             settings = (rows, diameter, 2, 12, 4, -(-rows // 3), 3)
             kind = f"edge of a subarray, N {rows}, B {diameter}"
-            for row in ends:
+            for row in sorted(ends):
                 for tracked in ((), range(row - 2, row + 3), range(row - 12, row)):
                     counts = {place: 5 for place in tracked if place < rows}
                     state = state_of(settings, counts, 2)

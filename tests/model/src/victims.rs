@@ -6,7 +6,7 @@ use crate::settings::Settings;
 pub const SUBARRAY_ROWS: u32 = 512;
 
 /// The '512-row part' that a row is in; the last of a bank may be shorter.
-pub fn subarray(row: u32) -> u32 {
+fn subarray(row: u32) -> u32 {
     row / SUBARRAY_ROWS
 }
 
