@@ -1,15 +1,18 @@
 /*
- * Times the library's bound and least counter count against a plain C loop of the same steps,
- * written as document 01 says. Prints ratios; equal answers are the only test (else status 1).
+ * Times the library's bounds and least counter counts against a plain C loop that works out every
+ * step as document 01 writes it and searches upwards. Queries as in tests/c_interface/answers.c
+ * come on standard input. Prints times and ratios; equal answers are the only test (else status 1).
  */
 #define _POSIX_C_SOURCE 199309L
 
+#include <inttypes.h>
 #include <stdio.h>
+#include <string.h>
 #include <time.h>
 
 #include "row_tracker.h"
 
-enum { REPEATS = 7, SWEEP = 200, MAX_COUNTERS = 2048, LONGEST_WINDOW = 8192 };
+enum { REPEATS = 7, MOST_QUERIES = 4096, MAX_COUNTERS = 2048, LONGEST_WINDOW = 8192 };
 
 struct query {
     uint32_t rows, blast_diameter, volume, counters, interval, window, block;
@@ -69,6 +72,13 @@ static int64_t plain_least(const struct query *q)
 
 /* Measuring */
 
+struct group {
+    const char *title;
+    answer_function *library, *plain;
+    struct query queries[MOST_QUERIES];
+    int count;
+};
+
 static double seconds(void)
 {
     struct timespec now;
@@ -77,82 +87,110 @@ static double seconds(void)
     return (double)now.tv_sec + 1e-9 * (double)now.tv_nsec;
 }
 
-/* Answers all queries, `rounds` times over; the pointer is volatile so that no call is saved. */
-static double time_of(answer_function *function, const struct query *queries, int count,
-                      int rounds, int64_t *answers)
+/* Answers all queries; the pointer is volatile so that no call is saved. */
+static double time_of(answer_function *function, const struct group *g, int64_t *answers)
 {
     answer_function *volatile called = function;
     double start = seconds();
-    int round, i;
+    int i;
 
-    for (round = 0; round < rounds; round++)
-        for (i = 0; i < count; i++)
-            answers[i] = called(&queries[i]);
+    for (i = 0; i < g->count; i++)
+        answers[i] = called(&g->queries[i]);
     return seconds() - start;
 }
 
-/* Runs both by turns and prints the ratio of their least times; 0 if an answer differs. */
-static int compare(const char *title, answer_function *library, answer_function *plain,
-                   const struct query *queries, int count, int rounds)
+/* The least time of several runs. */
+static double least_time_of(answer_function *function, const struct group *g, int runs,
+                            int64_t *answers)
 {
-    static int64_t library_answers[SWEEP], plain_answers[SWEEP];
-    double library_time = 0, plain_time = 0, time;
-    int repeat, i;
+    double least = time_of(function, g, answers);
 
-    for (repeat = 0; repeat < REPEATS; repeat++) {
-        time = time_of(library, queries, count, rounds, library_answers);
-        if (repeat == 0 || time < library_time)
-            library_time = time;
-        time = time_of(plain, queries, count, rounds, plain_answers);
-        if (repeat == 0 || time < plain_time)
-            plain_time = time;
+    while (--runs > 0) {
+        double time = time_of(function, g, answers);
+
+        if (time < least)
+            least = time;
     }
-    for (i = 0; i < count; i++)
+    return least;
+}
+
+/* Prints a group's times and their ratio, and adds them up; 0 if an answer differs. */
+static int compare(const struct group *g, int plain_runs, double *library_sum, double *plain_sum)
+{
+    static int64_t library_answers[MOST_QUERIES], plain_answers[MOST_QUERIES];
+    double library_time = least_time_of(g->library, g, REPEATS, library_answers);
+    double plain_time = least_time_of(g->plain, g, plain_runs, plain_answers);
+    int i;
+
+    for (i = 0; i < g->count; i++)
         if (library_answers[i] != plain_answers[i]) {
-            printf("%s: query %d differs: library %lld, plain %lld\n", title, i + 1,
-                   (long long)library_answers[i], (long long)plain_answers[i]);
+            printf("%s: query %d differs: library %" PRId64 ", plain %" PRId64 "\n", g->title, i + 1,
+                   library_answers[i], plain_answers[i]);
             return 0;
         }
-    printf("%s: library/plain = %.2f\n", title, library_time / plain_time);
+    *library_sum += library_time;
+    *plain_sum += plain_time;
+    printf("%d %s: library %.3f ms, plain %.1f ms, library/plain = %.6f\n", g->count, g->title,
+           1e3 * library_time, 1e3 * plain_time, library_time / plain_time);
     fflush(stdout);
     return 1;
 }
 
-/* A fixed sequence of numbers below `limit`. */
-static uint32_t next_random(uint32_t limit)
-{
-    static uint64_t state = 1;
+/* Reading */
 
-    state = state * 6364136223846793005u + 1442695040888963407u;
-    return (uint32_t)(state >> 33) % limit;
+static void add(struct group *g, const struct query *q)
+{
+    if (g->count < MOST_QUERIES)
+        g->queries[g->count++] = *q;
 }
 
-static struct query random_query(void)
+static int read_query(const char *line, struct query *q)
 {
-    struct query q;
+    if (sscanf(line, "bound %" SCNu32 " %" SCNu32 " %" SCNu32 " %" SCNu32 " %" SCNu32 " %" SCNu32
+               " %" SCNu32, &q->rows, &q->blast_diameter, &q->volume, &q->counters, &q->interval,
+               &q->window, &q->block) == 7)
+        return 1;
+    return sscanf(line, "least %" SCNu32 " %" SCNu32 " %" SCNu32 " %" SCNu32 " %" SCNu32 " %" SCNu32
+                  " %" SCNu64, &q->rows, &q->blast_diameter, &q->volume, &q->interval, &q->window,
+                  &q->block, &q->threshold) == 7;
+}
 
-    q.blast_diameter = 2 + 2 * next_random(2);
-    q.volume = 1 + next_random(16);
-    q.counters = q.volume + next_random(MAX_COUNTERS + 1 - q.volume);
-    q.interval = 1 + next_random(4096);
-    q.window = 1024 + next_random(LONGEST_WINDOW - 1023);
-    q.block = 64;
-    q.rows = 16 * (1 + next_random(4096));
-    q.threshold = 0;
-    return q;
+static struct group longest = {"bound with the most steps", library_bound, plain_bound,
+                               {{65536, 4, 1, MAX_COUNTERS, 4096, LONGEST_WINDOW, 64, 0}}, 1};
+static struct group bounds = {"bounds", library_bound, plain_bound, {{0}}, 0};
+static struct group least[] = {
+    {"least counts up to 64", library_least, plain_least, {{0}}, 0},
+    {"least counts up to 1000", library_least, plain_least, {{0}}, 0},
+    {"least counts up to 2048", library_least, plain_least, {{0}}, 0},
+    {"least counts refused", library_least, plain_least, {{0}}, 0},
+};
+
+/* The group of a least count, by the library's answer. */
+static struct group *least_group(int64_t answer)
+{
+    return &least[answer < 0 ? 3 : answer <= 64 ? 0 : answer <= 1000 ? 1 : 2];
 }
 
 int main(void)
 {
-    const struct query longest = {65536, 4, 1, MAX_COUNTERS, 4096, LONGEST_WINDOW, 64, 0};
-    struct query sweep[SWEEP];
-    int equal = 1;
-    int i;
+    char line[256];
+    double bound_time = 0, plain_bound_time = 0, least_time = 0, plain_least_time = 0;
+    int equal, i;
 
-    for (i = 0; i < SWEEP; i++)
-        sweep[i] = random_query();
-    equal &= compare("bound, window 8192", library_bound, plain_bound, &longest, 1, 100);
-    equal &= compare("least count, window 8192", library_least, plain_least, &longest, 1, 1);
-    equal &= compare("bounds, 200 random settings", library_bound, plain_bound, sweep, SWEEP, 2);
+    while (fgets(line, sizeof line, stdin) != NULL) {
+        struct query q = {0};
+
+        if (!read_query(line, &q)) {
+            fprintf(stderr, "bound: no query: %s", line);
+            return 2;
+        }
+        add(strncmp(line, "bound", 5) == 0 ? &bounds : least_group(library_least(&q)), &q);
+    }
+    equal = compare(&longest, REPEATS, &bound_time, &plain_bound_time);
+    equal &= compare(&bounds, REPEATS, &bound_time, &plain_bound_time);
+    for (i = 0; i < 4; i++)
+        equal &= compare(&least[i], 1, &least_time, &plain_least_time);
+    printf("all least counts: library %.3f ms, plain %.1f ms, library/plain = %.6f\n",
+           1e3 * least_time, 1e3 * plain_least_time, least_time / plain_least_time);
     return equal ? 0 : 1;
 }

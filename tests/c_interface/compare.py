@@ -5,8 +5,9 @@
     python3 tests/c_interface/compare.py [--seed N] [--archive FILE]
 
 Builds the model, answers.c and the example program, then compares on the figures of document 01
-(figures.txt), on the limits of every setting and on random inputs: one fixed seed, one fresh
-(--seed repeats a fresh one). Queries and answers stay in target/c_interface/.
+(figures.txt), on the limits of every setting, on the sweep that bench/ measures (sweep.py) and on
+random inputs: one fixed seed, one fresh (--seed repeats a fresh one). Queries and answers stay in
+target/c_interface/.
 Exit status: 0 all equal; 1 a difference; 2 something is missing or cannot be built.
 """
 
@@ -21,15 +22,15 @@ import sys
 
 sys.dont_write_bytecode = True
 sys.path.insert(0, str(pathlib.Path(__file__).resolve().parents[1]))
+import sweep
 from comparison import (
-    BLOCK, BUILD_MODEL, COUNTERS, C_FLAGS, FIXED_SEED, MAX_COUNTERS, MAX_WINDOW, MODEL, ROOT,
-    ROWS, Run, TIME_LIMIT, Tally, U32, U64, VOLUME, WINDOW, accepted_settings,
-    arguments_with_seeds, build, changed, faulty_settings, give_up, limit_values, read_figures,
-    spread,
+    BLOCK, BUILD_MODEL, COUNTERS, C_FLAGS, FIXED_SEED, MAX_COUNTERS, MAX_WINDOW, ROOT, ROWS, Run,
+    TIME_LIMIT, Tally, U32, U64, VOLUME, WINDOW, accepted_settings, arguments_with_seeds, build,
+    changed, faulty_settings, give_up, limit_values, read_figures, spread,
 )
+from queries import OUT, bound_query, least_query, model_answers
 
 HERE = "tests/c_interface"
-OUT = "target/c_interface"
 ANSWERS = f"{OUT}/answers"
 EXAMPLES = (f"{OUT}/example_c", f"{OUT}/example_cxx")
 
@@ -50,16 +51,8 @@ def build_all(archive):
     )
 
 
-def start_model(queries, name):
-    return Run([MODEL, "queries"], queries, f"{OUT}/{name}.model")
-
-
 def start_library(queries, name):
     return Run([ANSWERS], queries, f"{OUT}/{name}.library")
-
-
-def model_answers(queries, name):
-    return [int(answer) for answer in start_model(queries, name).finish_model()]
 
 
 def library_answers(run):
@@ -72,15 +65,6 @@ def both_answers(queries, name):
 
 
 # Queries
-
-
-def bound_query(settings):
-    return "bound " + " ".join(map(str, settings))
-
-
-def least_query(settings, threshold):
-    given = settings[:COUNTERS] + settings[COUNTERS + 1:]
-    return "least " + " ".join(map(str, given + (threshold,)))
 
 
 def with_bounds(many_settings, name):
@@ -196,9 +180,14 @@ def any_threshold(rng, bound):
     ))
 
 
+def around_twice_the_bound(bound):
+    """The thresholds at which the answer changes at a counter count, and the least and largest."""
+    return 2 * bound - 1, 2 * bound, 2 * bound + 1, 0, U64
+
+
 def random_queries(rng, scale, name):
-    """About 24,000 queries at scale 1. A least count may cost 2,048 whole bounds, so its windows
-    are mostly short; some hundred are in the thousands and a few dozen are the longest."""
+    """About 28,000 queries at scale 1. A least count may cost the model 2,048 whole bounds, so its
+    windows are mostly short; some hundred are in the thousands and a few dozen are the longest."""
     def times(count):
         return range(int(count * scale))
 
@@ -216,6 +205,11 @@ def random_queries(rng, scale, name):
     accepted = [accepted_settings(rng, window) for window in windows]
     queries += [least_query(settings, any_threshold(rng, bound))
                 for settings, bound in with_bounds(accepted, f"{name}.thresholds")]
+    windows = [spread(rng, 1, 200) for _ in times(800)] + [MAX_WINDOW for _ in times(20)]
+    accepted = [accepted_settings(rng, window) for window in windows]
+    queries += [least_query(settings, threshold)
+                for settings, bound in with_bounds(accepted, f"{name}.around")
+                for threshold in around_twice_the_bound(bound)]
     rng.shuffle(queries)
     return queries
 
@@ -249,11 +243,22 @@ EXPECTED_KINDS = (
 
 
 def compare(tally, kinds, queries, name):
+    """Compares and counts the kinds; the model's answers."""
     tally.begin(f"{name}: {len(queries)} queries")
     model, library = both_answers(queries, name)
     for query, wanted, answer in zip(queries, model, library):
         kinds[kind(query, wanted)] += 1
         tally.check(answer == wanted, f"{query}: the model gives {wanted}, the library {answer}")
+    return model
+
+
+def compare_sweep(tally, kinds):
+    """The sweep; every size of least count has to be a fifth of it."""
+    answers = compare(tally, kinds, sweep.queries(), "sweep")
+    sizes = collections.Counter(map(sweep.size_of, answers[sweep.COUNT:]))
+    for size in (*sweep.SIZES, sweep.REFUSED):
+        print(f"  {sizes[size]:6} least counts {size}")
+        tally.check(5 * sizes[size] >= sweep.COUNT, f"too few least counts {size}")
 
 
 # The example program
@@ -297,6 +302,7 @@ def main():
     check_figures(tally)
     check_examples(tally)
     compare(tally, kinds, limit_queries(), "limits")
+    compare_sweep(tally, kinds)
     compare(tally, kinds, random_queries(random.Random(FIXED_SEED), 1, "fixed"), "fixed")
     compare(tally, kinds, random_queries(random.Random(fresh_seed), 0.25, "fresh"), "fresh")
     tally.begin("how often each kind of answer occurred")

@@ -8,7 +8,7 @@ use Rattle.device.specs.Refusal.{Outcome, accepted, first-failed, tested}
 use Rattle.device.specs.Acceptance.{settings-tests, settings-tests-but-counters}
 use Rattle.device.proofs.Acceptance.{accepted-skipping, accepted-but-counters, refusals-le, refusals-but-counters-le}
 use Rattle.bound.specs.Totals.{bound-of}
-use Rattle.bound.specs.Least.{with-counters, meets, first-from, or-else, least-of}
+use Rattle.bound.specs.Least.{meets, first-from, or-else, least-of}
 use Rattle.bound.specs.Answers.{Small, bound-answer, least-answer}
 use Rattle.bound.proofs.Totals.Bound.{bound-lt}
 
@@ -18,10 +18,10 @@ small-tested zero answer few small = small refl
 small-tested (suc k) answer few small = omega arith
 
 pub small-bound-answer : (s : Settings) → Small (bound-answer s)
-unfolding bound-answer Small with-counters
+unfolding bound-answer Small
 small-bound-answer s =
     small-tested (first-failed (settings-tests s)) (accepted (bound-of s)) (refusals-le s)
-    (λ e. omega (arith, bound-lt s (s .counters) (accepted-but-counters s (accepted-skipping s e))))
+    (λ e. omega (arith, bound-lt s (accepted-but-counters s (accepted-skipping s e))))
 
 small-or-else : (b : Bool) (c : ℕ) (later : Outcome ℕ) → c < 2 ^ 63 → Small later → Small (or-else b c later)
 unfolding or-else Small

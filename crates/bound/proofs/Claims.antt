@@ -2,7 +2,7 @@
 use Prim.Native.Nat.{_-_}
 use native.Mathlib.Omega.{arith}
 use Rattle.device.proofs.Acceptance.{accepted-skipping, accepted-but-counters}
-use Rattle.bound.specs.Least.{with-counters, meets, least-of}
+use Rattle.bound.specs.Least.{meets, least-of}
 use Rattle.bound.specs.Claims.{Bound-grows-with-window, Bound-falls-with-counters, Least-is-least, Twelve-is-none, Bound-is-small}
 use Rattle.bound.proofs.Totals.Bound.{bound-grows, bound-counters, bound-lt}
 use Rattle.bound.proofs.Least.{first-from-found, first-from-none, none-first-from}
@@ -30,5 +30,5 @@ twelve-is-none s threshold =
     }
 
 pub bound-is-small : Bound-is-small
-unfolding Bound-is-small with-counters
-bound-is-small s e = bound-lt s (s .counters) (accepted-but-counters s (accepted-skipping s e))
+unfolding Bound-is-small
+bound-is-small s e = bound-lt s (accepted-but-counters s (accepted-skipping s e))

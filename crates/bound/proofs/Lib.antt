@@ -1,5 +1,7 @@
 -- Laws of the bound and of the least counter count.
 pub mod Totals
+pub mod Rooms
 pub mod Least
+pub mod Walk
 pub mod Answers
 pub mod Claims

@@ -1,4 +1,5 @@
 -- Laws of specs/Totals.antt.
 pub mod Size
 pub mod Total
+pub mod Flat
 pub mod Bound

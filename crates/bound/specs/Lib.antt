@@ -2,4 +2,5 @@
 pub mod Totals
 pub mod Least
 pub mod Answers
+pub mod Contracts
 pub mod Claims

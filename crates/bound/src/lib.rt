@@ -1,11 +1,14 @@
 // The bound on disturbance and the least counter count, for Rattle and for C.
+mod search;
+mod total;
+
 use device::Settings;
 ghost use mathlib.Core.Path.{_≡_};
-ghost use Prim.Native.Nat.{_+_, _*_, _/_, _^_, _≤_, _<_};
+ghost use Prim.Native.Nat.{_≤_, _<_};
 ghost use Rattle.device.specs.Refusal.{first-failed};
-ghost use Rattle.device.specs.Acceptance.{most-counters, settings-tests-but-counters};
-ghost use Rattle.bound.specs.Totals.{size, total, bound-of};
-ghost use Rattle.bound.specs.Least.{with-counters, least-of};
+ghost use Rattle.device.specs.Acceptance.{settings-tests, settings-tests-but-counters};
+ghost use Rattle.bound.specs.Totals.{disturbers, bound-at};
+ghost use Rattle.bound.specs.Least.{least-of};
 ghost use Rattle.bound.specs.Answers.{outcome, bound-answer, least-answer, signed, Small, settings-of};
 
 // A value, or the number of the refusal.
@@ -14,51 +17,22 @@ pub enum Answer {
     Refused(u32),
 }
 
-fn size_at(volume: u64, counters: u64, j: u64) -> u64
-    requires { ⌜ (volume ≤ 16) × (counters ≤ most-counters) × (j ≤ 8192) ⌝ }
-    ensures { λ r. ⌜ r ≡ size volume counters j ⌝ }
+// T': the rows that disturb their victims from one event to the next.
+fn disturbers_of(s: Settings) -> u64
+    ensures { λ r. ⌜ r ≡ disturbers s ⌝ }
 {
-    let linear = j * volume + 1;
-    let most = counters + 1;
-    if linear < most { linear } else { most }
+    s.interval as u64 + s.volume as u64 + s.block as u64
 }
 
-// One step of the total: a number is added, and the total replaced by total × below / at, rounded down.
-fn step(t: u64, added: u64, below: u64, at: u64) -> u64
-    requires { ⌜ (t + added < 2 ^ 64) × ((t + added) * below < 2 ^ 64) × (0 < at) ⌝ }
-    ensures { λ r. ⌜ r ≡ (t + added) * below / at ⌝ }
+// H with so many events in a window.
+fn bound_at(s: Settings, events: u32) -> u64
+    requires { ⌜ first-failed (settings-tests s) ≡ 0 ⌝ }
+    requires { ⌜ (0 < events) × (events ≤ 16384) ⌝ }
+    ensures { λ r. ⌜ r ≡ bound-at s events ⌝ }
 {
-    (t + added) * below / at
-}
-
-// The total of so many steps, from 0.
-fn total_of(volume: u64, counters: u64, added: u64, steps: u64) -> u64
-    requires { ⌜ (volume ≤ 16) × (counters ≤ most-counters) × (added ≤ 16704) × (steps ≤ 8191) ⌝ }
-    ensures { λ r. ⌜ r ≡ total (size volume counters) added steps 0 ⌝ }
-{
-    let mut t: u64 = 0;
-    let mut j = steps;
-    while 0 < j {
-        t = step(
-            t,
-            added,
-            size_at(volume, counters, j - 1),
-            size_at(volume, counters, j),
-        );
-        j = j - 1;
-    }
-    t
-}
-
-// H with this counter count, whatever `counters` says.
-fn bound_with(s: Settings, counters: u32) -> u64
-    requires { ⌜ first-failed (settings-tests-but-counters s) ≡ 0 ⌝ }
-    requires { ⌜ counters ≤ most-counters ⌝ }
-    ensures { λ r. ⌜ r ≡ bound-of (with-counters s counters) ⌝ }
-{
-    let disturbers = s.interval as u64 + s.volume as u64 + s.block as u64;
+    let disturbers = disturbers_of(s);
     let added = s.blast_diameter as u64 * disturbers;
-    total_of(s.volume as u64, counters as u64, added, s.window as u64 - 1) + disturbers
+    total::total_of(s.volume as u64, s.counters as u64, added, events as u64 - 1) + disturbers
 }
 
 // The bound H on any row's disturbance, of which each of two windows adds at most one.
@@ -67,25 +41,21 @@ pub fn bound(s: Settings) -> Answer
 {
     let k = device::settings_refusal(s);
     if k == 0 {
-        Answer::Value(bound_with(s, s.counters))
+        Answer::Value(bound_at(s, s.window))
     } else {
         Answer::Refused(k)
     }
 }
 
 // The least counter count of accepted settings.
-fn search(s: Settings, threshold: u64) -> Answer
+fn least_of(s: Settings, threshold: u64) -> Answer
     requires { ⌜ first-failed (settings-tests-but-counters s) ≡ 0 ⌝ }
     ensures { λ r. ⌜ outcome r ≡ least-of s threshold ⌝ }
 {
-    let mut c = s.volume;
-    while c <= device::MOST_COUNTERS {
-        if 2 * bound_with(s, c) < threshold {
-            return Answer::Value(c as u64);
-        }
-        c += 1;
-    }
-    Answer::Refused(12)
+    let disturbers = disturbers_of(s);
+    let added = s.blast_diameter as u64 * disturbers;
+    let room = search::room_below(threshold, disturbers);
+    search::least_below(s.volume as u64, added, s.window as u64 - 1, room)
 }
 
 // The smallest counter count whose bound, twice, is below the threshold; `counters` is not looked at.
@@ -94,7 +64,7 @@ pub fn least_counters(s: Settings, threshold: u64) -> Answer
 {
     let k = device::settings_refusal_but_counters(s);
     if k == 0 {
-        search(s, threshold)
+        least_of(s, threshold)
     } else {
         Answer::Refused(k)
     }

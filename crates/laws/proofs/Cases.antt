@@ -1,12 +1,12 @@
 -- Case splits: on a test, on the order of two numbers, on an option; and cases that cannot be.
-use mathlib.Core.Path.{_≡_, refl}
+use mathlib.Core.Path.{_≡_, refl, _∙_, sym}
 use mathlib.Core.Bool.{Bool, true, false, _&&_, _||_, cond}
 use mathlib.Core.Logic.{_⊎_, inl, inr}
 use mathlib.Core.Option.{Option, none, some}
 use Prim.Native.Nat.{ℕ, _≤_, _<_}
 use native.Mathlib.Omega.{arith}
-use borrow.Author.Tests.{leb-true, leb-false}
-use lib.Dec.{leb}
+use borrow.Author.Tests.{leb-true, leb-false, ltb-true, lt-ltb}
+use lib.Dec.{leb, ltb}
 
 pub split {ℓ} : {X : Type ℓ} (b : Bool) → (b ≡ true → X) → (b ≡ false → X) → X
 split true f g = f refl
@@ -28,6 +28,13 @@ clash e = zero-one (cc)
 
 pub missing {ℓ} : {X : Type ℓ} {A : Type 0} {a : A} → none ≡ some a → X
 missing e = zero-one (cc)
+
+-- two comparisons of which each implies the other
+pub tests-same : (a b c d : ℕ) → (a < b → c < d) → (c < d → a < b) → ltb a b ≡ ltb c d
+tests-same a b c d f g =
+    split (ltb a b)
+    (λ on. on ∙ sym (lt-ltb c d (f (ltb-true a b on))))
+    (λ off. split (ltb c d) (λ on. clash (sym (lt-ltb a b (g (ltb-true c d on))) ∙ off)) (λ off′. off ∙ sym off′))
 
 -- two tests that both hold, and two of which neither does
 pub and-both : (a b : Bool) → (a && b) ≡ true → (a ≡ true) × (b ≡ true)

@@ -33,18 +33,24 @@ disturbers-le : (s : Settings) → InRange s → disturbers s ≤ 4176
 unfolding disturbers
 disturbers-le s ok = omega arith
 
-pub diameter-le : (s : Settings) → InRange s → s .«blast_diameter» ≤ 4
+diameter-le : (s : Settings) → InRange s → s .«blast_diameter» ≤ 4
 diameter-le s ok = ⊎-elim (λ e. omega arith) (λ e. omega arith) (ok .diameter)
 
 pub added-le : (s : Settings) → InRange s → s .«blast_diameter» * disturbers s ≤ 16704
 added-le s ok = omega (arith, mul-le-mul (diameter-le s ok) (disturbers-le s ok))
 
--- no bound of an accepted device, whatever its C, comes near 2^63
-pub bound-lt : (s : Settings) (c : ℕ) → InRange s → bound-of (with-counters s c) < 2 ^ 28
-unfolding bound-of bound-at with-counters disturbers
-bound-lt s c ok =
-    let T′ : ℕ = disturbers s in
-    let added : ℕ = s .«blast_diameter» * T′ in
-    let steps : s .window - 1 ≤ 8191 = omega arith in
-    let whole : (s .window - 1) * added ≤ 8191 * 16704 = mul-le-mul steps (added-le s ok) in
-    omega (arith, total-le (size (s .volume) c) added (size-grows (s .volume) c) (s .window - 1) 0, disturbers-le s ok)
+-- H of i events is at most what they all add, and T'
+bound-at-le : (s : Settings) (i most : ℕ) → InRange s → i - 1 ≤ most → bound-at s i ≤ most * 16704 + 4176
+unfolding bound-at
+bound-at-le s i most ok few =
+    let added : ℕ = s .«blast_diameter» * disturbers s in
+    let whole : (i - 1) * added ≤ most * 16704 = mul-le-mul few (added-le s ok) in
+    omega (arith, total-le (size (s .volume) (s .counters)) added (size-grows (s .volume) (s .counters)) (i - 1) 0, disturbers-le s ok)
+
+-- no bound of an accepted device comes near 2^63
+pub bound-lt : (s : Settings) → InRange s → bound-of s < 2 ^ 28
+unfolding bound-of
+bound-lt s ok = omega (arith, bound-at-le s (s .window) 8191 ok (omega arith))
+
+pub bound-at-lt : (s : Settings) (i : ℕ) → InRange s → i ≤ 16384 → bound-at s i < 2 ^ 29
+bound-at-lt s i ok few = omega (arith, bound-at-le s i 16383 ok (omega arith))

@@ -23,6 +23,15 @@ pub size-first : (v c : ℕ) → size v c 0 ≡ 1
 unfolding size
 size-first v c = omega arith
 
+-- D(j) grows by V up to C + 1, and stays there
+pub size-rising : (v c j : ℕ) → j * v ≤ c → size v c j ≡ j * v + 1
+unfolding size
+size-rising v c j h = omega arith
+
+pub size-flat : (v c j : ℕ) → c ≤ j * v → size v c j ≡ c + 1
+unfolding size
+size-flat v c j h = omega arith
+
 -- an event more is at most V slots more
 pub size-steps : (v c j : ℕ) → size v c (suc j) ≤ size v c j + v
 unfolding size

@@ -1,19 +1,26 @@
 -- Totals: monotone, longer for longer windows, smaller with more counters, and no more than what is added.
-use mathlib.Core.Path.{_≡_}
+use mathlib.Core.Path.{_≡_, refl}
 use Prim.Native.Nat.{ℕ, zero, suc, _+_, _-_, _*_, _/_, _≤_, _<_}
-use native.Mathlib.Nat.{add-zero, add-suc, le-dest, le-trans, le-refl, mul-le-mul, mul-le-mul-left, mul-le-mul-right, mul-comm, mul-assoc, div-le-of-le-mul}
-use native.Mathlib.Numerals.{sub-one}
+use native.Mathlib.Nat.{add-zero, add-suc, zero-mul, mul-div-cancel, le-dest, le-trans, le-refl, mul-le-mul, mul-le-mul-left, mul-le-mul-right, mul-comm, mul-assoc, div-le-of-le-mul}
 use native.Mathlib.Omega.{arith}
 use Rattle.laws.proofs.Division.{div-mono, div-le-div}
 use Rattle.bound.specs.Totals.{size, total}
 use Rattle.bound.proofs.Totals.Size.{size-positive, size-ratio}
 
 module _ (D : ℕ → ℕ) (added : ℕ) where
-  -- one step, as the code takes it
-  pub total-step : (j t : ℕ) → 0 < j → total D added j t ≡ total D added (j - 1) ((t + added) * D (j - 1) / D j)
+  pub total-next : (j t : ℕ) → total D added (suc j) t ≡ total D added j ((t + added) * D j / D (suc j))
   unfolding total
-  total-step zero t h = absurd (omega arith)
-  total-step (suc j) t h = rw (sub-one (suc j))
+  total-next j t = refl
+
+  -- steps between equal sizes only add
+  pub total-flat : (d r k t : ℕ) → 0 < d → ((i : ℕ) → r ≤ i → D i ≡ d) → total D added (r + k) t ≡ total D added r (t + k * added)
+  total-flat d r zero t positive same = rw (add-zero, zero-mul, add-zero)
+  total-flat d r (suc k) t positive same =
+      let first : r ≤ r + k = omega arith in
+      let second : r ≤ suc (r + k) = omega arith in
+      let sum : t + added + k * added ≡ t + suc k * added = omega arith in
+      rw (add-suc, total-next (r + k) t, same (r + k) first, same (suc (r + k)) second, mul-div-cancel (t + added) positive)
+      (rw sum at (total-flat d r k (t + added) positive same))
 
   total-mono : (j : ℕ) {t t′ : ℕ} → t ≤ t′ → total D added j t ≤ total D added j t′
   unfolding total

@@ -9,8 +9,8 @@ use Rattle.bound.specs.Answers.{outcome, least-answer}
 use Rattle.bound.proofs.least_counters.Statement.{statement}
 use Rattle.bound.proofs.least_counters.Tie as tie
 
-search-requires : tie.Need-search-requires
-search-requires c κs = sym (c .before .settings-refusal-but-counters .ensures) ∙ c .if1 .taken
+least-of-requires : tie.Need-least-of-requires
+least-of-requires c κs = sym (c .before .settings-refusal-but-counters .ensures) ∙ c .if1 .taken
 
 returns : tie.Need-returns
 unfolding least-answer
@@ -18,7 +18,7 @@ returns c =
     let a = c .before .before .before .args in
     let zero : first-failed (settings-tests-but-counters (a .s)) ≡ 0 =
     sym (c .before .before .settings-refusal-but-counters .ensures) ∙ c .before .if1 .taken in
-    c .search .ensures ∙ sym (tested-passed (least-of (a .s) (a .threshold)) zero)
+    c .least-of .ensures ∙ sym (tested-passed (least-of (a .s) (a .threshold)) zero)
 
 returns-2 : tie.Need-returns-2
 unfolding outcome least-answer
@@ -28,4 +28,4 @@ returns-2 c =
     rw (tested-failed (first-failed (settings-tests-but-counters (a .s))) (least-of (a .s) (a .threshold)) (λ e. c .if1 .left (told ∙ e))) (rw told)
 
 pub least-counters-spec : {M : Type 1} → statement M
-least-counters-spec = tie.close (tie.spec (λ c κs. search needs) search-requires returns returns-2)
+least-counters-spec = tie.close (tie.spec (λ c κs. search needs) least-of-requires returns returns-2)

@@ -1,21 +1,21 @@
--- `bound::size_at` meets its contract.
+-- `total::size_at` meets its contract.
 use Prim.Native.Nat.{_≤_}
 use native.Mathlib.Nat.{mul-le-mul}
 use native.Mathlib.Omega.{arith}
 use borrow.Author.Needs.{needs}
 use Rattle.bound.specs.Totals.{size}
-use Rattle.bound.proofs.size_at.Statement.{statement}
-use Rattle.bound.proofs.size_at.Tie as tie
+use Rattle.bound.proofs.total.size_at.Statement.{statement}
+use Rattle.bound.proofs.total.size_at.Tie as tie
 
 mul-linear : tie.Need-mul-linear
 mul-linear c =
-    let j : c .args .j ≤ 8192 = omega arith in
+    let j : c .args .j ≤ 16384 = omega arith in
     let v : c .args .volume ≤ 16 = omega arith in
     omega (arith, mul-le-mul j v)
 
 add-linear : tie.Need-add-linear
 add-linear c =
-    let j : c .args .j ≤ 8192 = omega arith in
+    let j : c .args .j ≤ 16384 = omega arith in
     let v : c .args .volume ≤ 16 = omega arith in
     omega (arith, mul-le-mul j v)
 

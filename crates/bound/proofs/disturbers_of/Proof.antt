@@ -1,0 +1,15 @@
+-- `bound::disturbers_of` meets its contract.
+use mathlib.Core.Path.{refl}
+use borrow.Author.Needs.{needs}
+use Rattle.bound.specs.Totals.{disturbers}
+use Rattle.bound.proofs.disturbers_of.Statement.{statement}
+use Rattle.bound.proofs.disturbers_of.Tie as tie
+
+returns : tie.Need-returns
+unfolding disturbers
+returns c = refl
+
+pub disturbers-of-spec : {M : Type 1} → statement M
+disturbers-of-spec =
+    tie.close
+    (tie.spec (λ c. search needs) (λ c. search needs) (λ c. search needs) (λ c. search needs) (λ c. search needs) returns)
