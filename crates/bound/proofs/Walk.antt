@@ -22,6 +22,7 @@ factor-positive : (y z : ℕ) {x : ℕ} → x < y * z → 0 < y
 factor-positive zero z h = absurd (omega arith)
 factor-positive (suc y) z h = omega arith
 
+-- V, what a step adds, how many steps there are, and the number that the total has to end below
 module _ (v a n w : ℕ) where
   -- with more counters no total is higher
   falls : (c d : ℕ) → c ≤ d → ends-below v a n w d ≡ false → ends-below v a n w c ≡ false
@@ -78,6 +79,7 @@ module _ (v a n w : ℕ) where
       let next : suc (x .m) * v + 1 ≡ at + v = omega (arith, x .at-is) in
       here x (suc (x .m) * v) (omega arith) (omega arith) ∙ rw next (le-ltb (sum * at) (rest * (at + v)) (rounded x h))
 
+  -- the room before one step more
   next-room : {sum rest at : ℕ} → (x : Walked sum rest at) → room-before v rest at - a ≡ room v a (suc (x .m)) w
   unfolding room
   next-room x = rw (x .rest-is, x .at-is) refl
@@ -113,6 +115,7 @@ module _ (v a n w : ℕ) where
       let c : ℕ = m * v + 2048 in
       past c few (omega arith) (rw whole at (no-room v a c m k w (omega arith) none))
 
+  -- the room is used up: 12
   pub walk-gives-up : {sum rest at : ℕ} → Walked sum rest at → v ≤ 2048 → room-before v rest at ≤ sum → room-before v rest at ≤ a →
       refused 12 ≡ first-from (ends-below v a n w) (2049 - v) v
   walk-gives-up {sum} {rest} {at} x few h none =
@@ -124,6 +127,7 @@ module _ (v a n w : ℕ) where
       without-room (suc (x .m)) (x .k - 1) (omega (arith, x .whole)) few (sym (next-room x) ∙ gone))
       (le-or-lt sum 0)
 
+  -- the counts are used up: 12
   pub walk-ends : {sum rest at : ℕ} → Walked sum rest at → v ≤ 2048 → 2048 < at → refused 12 ≡ first-from (ends-below v a n w) (2049 - v) v
   walk-ends x few h =
       let some : 0 < x .m = ⊎-elim (λ le. let m : x .m ≡ 0 = omega arith in absurd (omega (arith, rw m at (x .at-is)))) (λ lt. lt) (le-or-lt (x .m) 0) in
@@ -149,6 +153,7 @@ module _ (v a n w : ℕ) where
         unmet = mul-div-le (sum * at) rest;
       }
 
+  -- a count of the class will do: the first one, if it is allowed
   pub walk-finds : {sum rest at : ℕ} → Walked sum rest at → v ≤ 2048 → sum < room-before v rest at →
       or-else (leb (max v (sum * at / rest)) 2048) (max v (sum * at / rest)) (refused 12) ≡ first-from (ends-below v a n w) (2049 - v) v
   unfolding or-else

@@ -1,6 +1,6 @@
-// The least counter count, in one walk from the last step of the total up. Before its last m steps a total has to be below
-// some number, the room, to end below the one asked for. What comes before those steps is a product, so the first m at which
-// the product is below the room gives the count by one division.
+// The least counter count, in one walk from the total's last step up. To end below a number, a total has to be below another one,
+// the room, before its last m steps. With C from m × V to (m + 1) × V all earlier steps only add, but for the step down to D(m): so
+// the first m at which such a step ends below the room has the least count, and one division gives it.
 use crate::Answer;
 ghost use mathlib.Core.Path.{_≡_};
 ghost use Prim.Native.Nat.{_+_, _-_, _*_, _/_, _^_, _≤_, _<_, max};
@@ -23,7 +23,7 @@ pub fn room_below(threshold: u64, disturbers: u64) -> u64
     }
 }
 
-// What a sum has to be below so that sum × at / (at + volume), rounded down, is below the room: room × (at + volume) / at, rounded up.
+// A step undone: sum × at / (at + volume), rounded down, is below the room where the sum is below room × (at + volume) / at, rounded up.
 fn room_before(room: u64, volume: u64, at: u64) -> u64
     requires { ⌜ (room < 2 ^ 29) × (volume ≤ 16) × (0 < at) × (at ≤ most-counters) ⌝ }
     ensures { λ r. ⌜ r ≡ (room * (at + volume) + (at - 1)) / at ⌝ }
@@ -31,7 +31,7 @@ fn room_before(room: u64, volume: u64, at: u64) -> u64
     room + (room * volume + (at - 1)) / at
 }
 
-// The smallest count from the volume on for which sum × at is below room × (count + 1).
+// The smallest count from the volume on for which sum × at is below room × (count + 1); 12 if that is none up to 2,048.
 fn count_for(volume: u64, room: u64, sum: u64, at: u64) -> Answer
     requires { ⌜ (0 < room) × (sum < 2 ^ 29) × (at ≤ most-counters) ⌝ }
     ensures { λ r. ⌜ outcome r ≡ or-else (leb (max volume (sum * at / room)) most-counters) (max volume (sum * at / room)) (refused 12) ⌝ }
@@ -45,7 +45,8 @@ fn count_for(volume: u64, room: u64, sum: u64, at: u64) -> Answer
     }
 }
 
-// The smallest count from the volume on whose total is below the end.
+// The smallest count from the volume on whose total is below the end. Before the last m steps `sum` is what all steps up to there
+// add, `room` what a total has to be below, and `at` the size D(m); no count up to m × V will do.
 pub fn least_below(volume: u64, added: u64, steps: u64, end: u64) -> Answer
     requires { ⌜ (0 < volume) × (volume ≤ 16) × (added ≤ 16704) × (steps ≤ 16383) ⌝ }
     ensures { λ r. ⌜ outcome r ≡ first-from (ends-below volume added steps end) (most-counters + 1 - volume) volume ⌝ }

@@ -13,7 +13,7 @@ fn size_at(volume: u64, counters: u64, j: u64) -> u64
     if linear < most { linear } else { most }
 }
 
-// How many of so many steps have two different sizes: those whose lower size is not yet C + 1.
+// How many of so many steps, the last ones, go from one size to a smaller one: C / V, rounded up.
 fn rising_steps(volume: u64, counters: u64, steps: u64) -> u64
     requires { ⌜ (0 < volume) × (volume ≤ 16) × (counters ≤ most-counters) ⌝ }
     ensures { λ r. ⌜ r ≡ min steps ((counters + (volume - 1)) / volume) ⌝ }
