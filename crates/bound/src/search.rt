@@ -23,12 +23,28 @@ pub fn room_below(threshold: u64, disturbers: u64) -> u64
     }
 }
 
-// A step undone: sum × at / (at + volume), rounded down, is below the room where the sum is below room × (at + volume) / at, rounded up.
-fn room_before(room: u64, volume: u64, at: u64) -> u64
-    requires { ⌜ (room < 2 ^ 29) × (volume ≤ 16) × (0 < at) × (at ≤ most-counters) ⌝ }
-    ensures { λ r. ⌜ r ≡ (room * (at + volume) + (at - 1)) / at ⌝ }
+// A product over a size, rounded up, and how much the rounding added: quotient × size = product + over.
+struct Share {
+    quotient: u64,
+    over: u64,
+}
+
+// The share of a product that is smaller by `less`, at a size where quotient × size was the product and over. No division waits for
+// the share before: `less` is divided alone.
+fn share_less(share: Share, less: u64, at: u64) -> Share
+    requires { ⌜ (0 < at) × (at < 2 ^ 32) × (share .over < at) × (less + share .over ≤ share .quotient * at) ⌝ }
+    ensures { λ r. ⌜ (r .quotient * at + (less + share .over) ≡ share .quotient * at + r .over) × (r .over < at) ⌝ }
 {
-    room + (room * volume + (at - 1)) / at
+    let quotient = share.quotient - less / at;
+    let over = share.over + less % at;
+    if over < at {
+        Share { quotient, over }
+    } else {
+        Share {
+            quotient: quotient - 1,
+            over: over - at,
+        }
+    }
 }
 
 // The smallest count from the volume on for which sum × at is below room × (count + 1); 12 if that is none up to 2,048.
@@ -55,10 +71,15 @@ pub fn least_below(volume: u64, added: u64, steps: u64, end: u64) -> Answer
     if sum < end {
         return Answer::Value(volume);
     }
+    let less = added * volume;
     let mut room = end;
     let mut at: u64 = 1;
+    let mut share = Share {
+        quotient: end * volume,
+        over: 0,
+    };
     while at <= device::MOST_COUNTERS as u64 {
-        let before = room_before(room, volume, at);
+        let before = room + share.quotient;
         if sum < before {
             return count_for(volume, room, sum, at);
         }
@@ -68,6 +89,7 @@ pub fn least_below(volume: u64, added: u64, steps: u64, end: u64) -> Answer
         room = before - added;
         sum = sum - added;
         at = at + volume;
+        share = share_less(share, less, at);
     }
     Answer::Refused(12)
 }
