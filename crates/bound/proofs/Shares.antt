@@ -1,7 +1,7 @@
 -- The room times V over the size, rounded up, kept from size to size: what is taken from the room is divided in its stead.
 use mathlib.Core.Path.{_≡_}
 use Prim.Native.Nat.{ℕ, suc, _+_, _-_, _*_, _/_, _%_, _^_, _≤_, _<_}
-use native.Mathlib.Nat.{le-trans, mul-add, add-mul, mul-one, mul-le-mul, mul-le-mul-right, le-mul-of-pos-right, le-of-mul-le-mul-right, div-mul-le-self, div-add-mod', div-eq-of-lt-le}
+use native.Mathlib.Nat.{le-trans, mul-add, add-mul, mul-le-mul, mul-le-mul-right, le-mul-of-pos-right, le-of-mul-le-mul-right, div-mul-le-self, div-add-mod', div-eq-of-lt-le}
 use native.Mathlib.Omega.{arith}
 use Rattle.bound.proofs.Rooms.{room-before}
 

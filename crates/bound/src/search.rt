@@ -23,14 +23,14 @@ pub fn room_below(threshold: u64, disturbers: u64) -> u64
     }
 }
 
-// A product over a size, rounded up, and how much the rounding added: quotient × size = product + over.
+// A product over a size, rounded up, and what the rounding added: quotient × size is the product and `over`.
 struct Share {
     quotient: u64,
     over: u64,
 }
 
-// The share of a product that is smaller by `less`, at a size where quotient × size was the product and over. No division waits for
-// the share before: `less` is divided alone.
+// The share at another size of the product that is quotient × size less both `over` and `less`. Only `less` is divided, so that no
+// step's division waits for the one before.
 fn share_less(share: Share, less: u64, at: u64) -> Share
     requires { ⌜ (0 < at) × (at < 2 ^ 32) × (share .over < at) × (less + share .over ≤ share .quotient * at) ⌝ }
     ensures { λ r. ⌜ (r .quotient * at + (less + share .over) ≡ share .quotient * at + r .over) × (r .over < at) ⌝ }
@@ -62,7 +62,8 @@ fn count_for(volume: u64, room: u64, sum: u64, at: u64) -> Answer
 }
 
 // The smallest count from the volume on whose total is below the end. Before the last m steps `sum` is what all steps up to there
-// add, `room` what a total has to be below, and `at` the size D(m); no count up to m × V will do.
+// add, `room` what a total has to be below, `at` the size D(m), and `share` that of room × V; no count up to m × V will do. One step
+// undone, the room is room × (at + V) / at, rounded up, and what the step added is taken from it.
 pub fn least_below(volume: u64, added: u64, steps: u64, end: u64) -> Answer
     requires { ⌜ (0 < volume) × (volume ≤ 16) × (added ≤ 16704) × (steps ≤ 16383) ⌝ }
     ensures { λ r. ⌜ outcome r ≡ first-from (ends-below volume added steps end) (most-counters + 1 - volume) volume ⌝ }

@@ -1,5 +1,5 @@
 -- `search::share_less` meets its contract.
-use Prim.Native.Nat.{_+_, _%_, _≤_, _<_}
+use Prim.Native.Nat.{_<_}
 use native.Mathlib.Nat.{mod-lt}
 use native.Mathlib.Omega.{arith}
 use borrow.Author.Needs.{needs}
