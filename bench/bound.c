@@ -124,8 +124,8 @@ static int compare(const struct group *g, int plain_runs, double *library_sum, d
 
     for (i = 0; i < g->count; i++)
         if (library_answers[i] != plain_answers[i]) {
-            printf("%s: query %d differs: library %" PRId64 ", plain %" PRId64 "\n", g->title, i + 1,
-                   library_answers[i], plain_answers[i]);
+            printf("%s: query %d differs: library %" PRId64 ", plain %" PRId64 "\n", g->title,
+                   i + 1, library_answers[i], plain_answers[i]);
             return 0;
         }
     *library_sum += library_time;

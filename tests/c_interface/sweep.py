@@ -6,6 +6,7 @@ counts are small, middle and large, and some are refused with 12.
     python3 tests/c_interface/sweep.py      builds the model and prints the queries, one a line
 """
 
+import itertools
 import os
 import pathlib
 import random
@@ -34,7 +35,7 @@ def size_of(answer):
 
 
 def aimed_at(rng, settings, size):
-    """The settings with a counter count of that size."""
+    """The settings with a counter count of that size, the largest for a refusal."""
     least = settings[VOLUME]
     for name, most in SIZES.items():
         if name == size:
@@ -43,17 +44,20 @@ def aimed_at(rng, settings, size):
     return changed(settings, (COUNTERS, MAX_COUNTERS))
 
 
+def threshold_for(rng, size, bound):
+    """Just met by the bound's counter count; met by none if that is the largest."""
+    return 2 * bound - rng.randint(0, bound // 4) if size == REFUSED else 2 * bound + 1
+
+
 def queries():
     """As many bounds as least counts, whose sizes take turns."""
     rng = random.Random(FIXED_SEED)
-    sizes = [*SIZES, REFUSED]
     settings = [accepted_settings(rng, MAX_WINDOW) for _ in range(COUNT)]
-    aimed = [aimed_at(rng, s, sizes[i % len(sizes)]) for i, s in enumerate(settings)]
+    sizes = list(itertools.islice(itertools.cycle((*SIZES, REFUSED)), COUNT))
+    aimed = [aimed_at(rng, s, size) for s, size in zip(settings, sizes)]
     bounds = model_answers([bound_query(s) for s in aimed], "sweep.thresholds")
-    thresholds = [2 * bound - rng.randint(0, bound // 4) if i % len(sizes) == len(SIZES)
-                  else 2 * bound + 1 for i, bound in enumerate(bounds)]
-    return ([bound_query(s) for s in settings]
-            + [least_query(s, threshold) for s, threshold in zip(settings, thresholds)])
+    thresholds = [threshold_for(rng, size, bound) for size, bound in zip(sizes, bounds)]
+    return [*map(bound_query, settings), *map(least_query, settings, thresholds)]
 
 
 if __name__ == "__main__":
