@@ -1,4 +1,5 @@
--- What the contracts of the search say beside the definitions.
+-- Inner relations: only the contract of the search, which no caller of the library reaches, says this. Nobody has to believe it: the contract
+-- of the least count rests on it.
 use Prim.Native.Nat.{ℕ}
 use mathlib.Core.Bool.{Bool}
 use lib.Dec.{ltb}

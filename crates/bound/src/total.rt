@@ -4,6 +4,7 @@ ghost use Prim.Native.Nat.{_+_, _-_, _*_, _/_, _^_, _≤_, _<_, min};
 ghost use Rattle.device.specs.Acceptance.{most-counters};
 ghost use Rattle.bound.specs.Totals.{size, total};
 
+// The size D(j).
 fn size_at(volume: u64, counters: u64, j: u64) -> u64
     requires { ⌜ (volume ≤ 16) × (counters ≤ most-counters) × (j ≤ 16384) ⌝ }
     ensures { λ r. ⌜ r ≡ size volume counters j ⌝ }

@@ -1,4 +1,4 @@
--- Totals: monotone, longer for longer windows, smaller with more counters, and no more than what is added.
+-- Totals: only added to between equal sizes, monotone, longer for longer windows, smaller with more counters, and no more than what is added.
 use mathlib.Core.Path.{_≡_, refl}
 use Prim.Native.Nat.{ℕ, zero, suc, _+_, _-_, _*_, _/_, _≤_, _<_}
 use native.Mathlib.Nat.{add-zero, add-suc, zero-mul, mul-div-cancel, le-dest, le-trans, le-refl, mul-le-mul, mul-le-mul-left, mul-le-mul-right, mul-comm, mul-assoc, div-le-of-le-mul}
