@@ -54,13 +54,13 @@ module _ (v a n w : ℕ) where
   pub walked-small : {sum rest at : ℕ} → Walked sum rest at → a ≤ 16704 → n ≤ 16383 → sum < 2 ^ 29
   walked-small x ha hn = let few : x .k ≤ 16383 = omega (arith, x .whole) in omega (arith, x .sum-is, mul-le-mul few ha)
 
-  -- which counts of the class at hand will do
+  -- which counts of the class at hand, from m × V to (m + 1) × V, will do
   here : {sum rest at : ℕ} → (x : Walked sum rest at) (c : ℕ) → x .m * v ≤ c → c ≤ suc (x .m) * v →
       ends-below v a n w c ≡ ltb (sum * at) (rest * (c + 1))
   unfolding ends-below
   here x c low high = rw (x .sum-is, x .rest-is, x .at-is) (rw (x .whole) at (class-test v a c (x .m) (x .k) w low high))
 
-  -- the sum is below the room before the next step exactly if it is in products
+  -- where the sum is below the room before the next step, and where it is not, in products
   products : {sum rest at : ℕ} → Walked sum rest at → sum < room-before v rest at → sum * at < rest * (at + v)
   unfolding room-before
   products x h = below-product (omega (arith, x .at-is)) h

@@ -4,7 +4,7 @@ mod total;
 
 use device::Settings;
 ghost use mathlib.Core.Path.{_≡_};
-ghost use Prim.Native.Nat.{_≤_, _<_};
+ghost use Prim.Native.Nat.{_*_, _≤_, _<_};
 ghost use Rattle.device.specs.Refusal.{first-failed};
 ghost use Rattle.device.specs.Acceptance.{settings-tests, settings-tests-but-counters};
 ghost use Rattle.bound.specs.Totals.{disturbers, bound-at};
@@ -24,15 +24,23 @@ fn disturbers_of(s: Settings) -> u64
     s.interval as u64 + s.volume as u64 + s.block as u64
 }
 
+// B × T': what each step of the total adds.
+fn added_of(s: Settings) -> u64
+    requires { ⌜ first-failed (settings-tests-but-counters s) ≡ 0 ⌝ }
+    ensures { λ r. ⌜ r ≡ s .«blast_diameter» * disturbers s ⌝ }
+{
+    s.blast_diameter as u64 * disturbers_of(s)
+}
+
 // H with so many events in a window.
 fn bound_at(s: Settings, events: u32) -> u64
     requires { ⌜ first-failed (settings-tests s) ≡ 0 ⌝ }
     requires { ⌜ (0 < events) × (events ≤ 16384) ⌝ }
     ensures { λ r. ⌜ r ≡ bound-at s events ⌝ }
 {
-    let disturbers = disturbers_of(s);
-    let added = s.blast_diameter as u64 * disturbers;
-    total::total_of(s.volume as u64, s.counters as u64, added, events as u64 - 1) + disturbers
+    let added = added_of(s);
+    let total = total::total_of(s.volume as u64, s.counters as u64, added, events as u64 - 1);
+    total + disturbers_of(s)
 }
 
 // The bound H on any row's disturbance, of which each of two windows adds at most one.
@@ -52,9 +60,8 @@ fn least_of(s: Settings, threshold: u64) -> Answer
     requires { ⌜ first-failed (settings-tests-but-counters s) ≡ 0 ⌝ }
     ensures { λ r. ⌜ outcome r ≡ least-of s threshold ⌝ }
 {
-    let disturbers = disturbers_of(s);
-    let added = s.blast_diameter as u64 * disturbers;
-    let room = search::room_below(threshold, disturbers);
+    let added = added_of(s);
+    let room = search::room_below(threshold, disturbers_of(s));
     search::least_below(s.volume as u64, added, s.window as u64 - 1, room)
 }
 

@@ -20,7 +20,7 @@ rising-low v c n i positive h =
     let next : suc i ≤ (c + (v - 1)) / v = omega arith in
     omega (arith, le-div-iff-mul-le positive .0 next)
 
--- the sizes behind them all are
+-- the sizes from there on all are
 rising-high : (v c : ℕ) → 0 < v → c ≤ (c + (v - 1)) / v * v
 rising-high v c positive = let more : c + (v - 1) < (c + (v - 1)) / v * v + v = lt-div-mul-add positive in omega arith
 

@@ -1,6 +1,6 @@
 -- `bound::least_of` meets its contract: 2 × H is below the threshold exactly if the total is below the room that the threshold leaves.
 use mathlib.Core.Path.{_≡_, _∙_}
-use Prim.Native.Nat.{ℕ, _+_, _-_, _*_, _/_, _≤_}
+use Prim.Native.Nat.{ℕ, _+_, _-_, _*_, _/_}
 use native.Mathlib.Omega.{arith}
 use lib.Dec.{ltb}
 use borrow.Author.Needs.{needs}
@@ -24,11 +24,6 @@ same : (s : Settings) (threshold c : ℕ) →
 unfolding ends-below meets bound-of bound-at with-counters disturbers
 same s threshold c = halved (total (size (s .volume) c) (s .«blast_diameter» * disturbers s) (s .window - 1) 0) (disturbers s) threshold
 
-mul-added : tie.Need-mul-added
-mul-added c =
-    let a = c .before .before in
-    rw (c .before .disturbers-of .ensures) (omega (arith, added-le (a .args .s) (accepted-but-counters (a .args .s) (a .pre))))
-
 sub-least-below : tie.Need-sub-least-below
 sub-least-below c =
     let a = c .before .before .before .before .before in
@@ -37,16 +32,21 @@ sub-least-below c =
 least-below-requires : tie.Need-least-below-requires
 least-below-requires c κs =
     let a = c .before .before .before .before .before in
-    let ok = accepted-but-counters (a .args .s) (a .pre) in
-    let added : a .args .s .«blast_diameter» * c .before .before .before .before .disturbers-of .result ≤ 16704 =
-    rw (c .before .before .before .before .disturbers-of .ensures) (added-le (a .args .s) ok) in
-    (ok .volume .least, ok .volume .most, added, omega (arith, ok .window .most))
+    let ok = accepted-but-counters (a .args .s) (a .pre) in (
+      ok .volume .least,
+      ok .volume .most,
+      rw (c .before .before .before .before .added-of .ensures) (added-le (a .args .s) ok),
+      omega (arith, ok .window .most),
+    )
 
 returns : tie.Need-returns
 unfolding least-of
 returns c =
     let a = c .before .before .before .before .before .before .args in
-    let told = rw (c .before .before .before .room-below .ensures, c .before .before .before .before .before .disturbers-of .ensures) at (c .least-below .ensures) in
+    let room = c .before .before .before .room-below .ensures in
+    let disturbers-told = c .before .before .before .before .disturbers-of .ensures in
+    let added = c .before .before .before .before .before .added-of .ensures in
+    let told = rw (added, room, disturbers-told) at (c .least-below .ensures) in
     told ∙ first-from-same (same (a .s) (a .threshold)) (2049 - a .s .volume) (a .s .volume)
 
 pub least-of-spec : {M : Type 1} → statement M
@@ -54,8 +54,7 @@ least-of-spec =
     tie.close
     (tie.spec
     (λ c κs. search needs)
-    (λ c. search needs)
-    mul-added
+    (λ c κs. search needs)
     (λ c κs. search needs)
     (λ c. search needs)
     (λ c. search needs)

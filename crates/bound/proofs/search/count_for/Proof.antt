@@ -17,21 +17,16 @@ mul-first c =
     let d : c .args .at ≤ 2048 = omega arith in
     omega (arith, mul-le-mul s d)
 
+larger : (c : tie.Joined1) → c .if1 .count ≡ max (c .before .args .volume) (c .before .args .sum * c .before .args .at / c .before .args .room)
+larger c = ⊎-elim (λ i. omega (arith, i .0 .taken, i .1)) (λ i. omega (arith, i .0 .left, i .1)) (c .if1 .came)
+
 returns : tie.Need-returns
 unfolding outcome or-else
-returns c =
-    let a = c .before .before .args in
-    let j = c .before .if1 in
-    let larger : j .count ≡ max (a .volume) (a .sum * a .at / a .room) = ⊎-elim (λ i. omega (arith, i .0 .taken, i .1)) (λ i. omega (arith, i .0 .left, i .1)) (j .came) in
-    rw (← larger, le-leb (j .count) 2048 (omega arith)) refl
+returns c = rw (← larger (c .before), le-leb (c .before .if1 .count) 2048 (omega arith)) refl
 
 returns-2 : tie.Need-returns-2
 unfolding outcome or-else
-returns-2 c =
-    let a = c .before .before .args in
-    let j = c .before .if1 in
-    let larger : j .count ≡ max (a .volume) (a .sum * a .at / a .room) = ⊎-elim (λ i. omega (arith, i .0 .taken, i .1)) (λ i. omega (arith, i .0 .left, i .1)) (j .came) in
-    rw (← larger, lt-leb (j .count) 2048 (omega arith)) refl
+returns-2 c = rw (← larger (c .before), lt-leb (c .before .if1 .count) 2048 (omega arith)) refl
 
 pub count-for-spec : {M : Type 1} → statement M
 count-for-spec = tie.close (tie.spec mul-first (λ c. search needs) (λ c. search needs) returns returns-2)
