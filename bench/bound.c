@@ -2,6 +2,9 @@
  * Times the library's bounds and least counter counts against a plain C loop that works out every
  * step as document 01 writes it and searches upwards. Queries as in tests/c_interface/answers.c
  * come on standard input. Prints times and ratios; equal answers are the only test (else status 1).
+ *
+ * A time is the least of several runs, but the plain loop's least counts, which take a minute, are
+ * worked out once.
  */
 #define _POSIX_C_SOURCE 199309L
 
@@ -114,13 +117,25 @@ static double least_time_of(answer_function *function, const struct group *g, in
     return least;
 }
 
-/* Prints a group's times and their ratio, and adds them up; 0 if an answer differs. */
-static int compare(const struct group *g, int plain_runs, double *library_sum, double *plain_sum)
+struct times {
+    double library, plain;
+};
+
+static void print_times(int count, const char *title, struct times t)
+{
+    printf("%d %s: library %.3f ms, plain %.1f ms, library/plain = %.6f\n", count, title,
+           1e3 * t.library, 1e3 * t.plain, t.library / t.plain);
+    fflush(stdout);
+}
+
+/* Times a group and prints it; 0 if an answer differs. */
+static int compare(const struct group *g, int plain_runs, struct times *t)
 {
     static int64_t library_answers[MOST_QUERIES], plain_answers[MOST_QUERIES];
-    double library_time = least_time_of(g->library, g, REPEATS, library_answers);
-    double plain_time = least_time_of(g->plain, g, plain_runs, plain_answers);
     int i;
+
+    t->library = least_time_of(g->library, g, REPEATS, library_answers);
+    t->plain = least_time_of(g->plain, g, plain_runs, plain_answers);
 
     for (i = 0; i < g->count; i++)
         if (library_answers[i] != plain_answers[i]) {
@@ -128,20 +143,19 @@ static int compare(const struct group *g, int plain_runs, double *library_sum, d
                    i + 1, library_answers[i], plain_answers[i]);
             return 0;
         }
-    *library_sum += library_time;
-    *plain_sum += plain_time;
-    printf("%d %s: library %.3f ms, plain %.1f ms, library/plain = %.6f\n", g->count, g->title,
-           1e3 * library_time, 1e3 * plain_time, library_time / plain_time);
-    fflush(stdout);
+    print_times(g->count, g->title, *t);
     return 1;
 }
 
 /* Reading */
 
-static void add(struct group *g, const struct query *q)
+/* Puts a query into a group; 0 if it is full. */
+static int add(struct group *g, const struct query *q)
 {
-    if (g->count < MOST_QUERIES)
-        g->queries[g->count++] = *q;
+    if (g->count == MOST_QUERIES)
+        return 0;
+    g->queries[g->count++] = *q;
+    return 1;
 }
 
 static int read_query(const char *line, struct query *q)
@@ -158,6 +172,7 @@ static int read_query(const char *line, struct query *q)
 static struct group longest = {"bound with the most steps", library_bound, plain_bound,
                                {{65536, 4, 1, MAX_COUNTERS, 4096, LONGEST_WINDOW, 64, 0}}, 1};
 static struct group bounds = {"bounds", library_bound, plain_bound, {{0}}, 0};
+/* By the answer's size, as in tests/c_interface/sweep.py. */
 static struct group least[] = {
     {"least counts up to 64", library_least, plain_least, {{0}}, 0},
     {"least counts up to 1000", library_least, plain_least, {{0}}, 0},
@@ -165,7 +180,6 @@ static struct group least[] = {
     {"least counts refused", library_least, plain_least, {{0}}, 0},
 };
 
-/* The group of a least count, by the library's answer. */
 static struct group *least_group(int64_t answer)
 {
     return &least[answer < 0 ? 3 : answer <= 64 ? 0 : answer <= 1000 ? 1 : 2];
@@ -174,23 +188,27 @@ static struct group *least_group(int64_t answer)
 int main(void)
 {
     char line[256];
-    double bound_time = 0, plain_bound_time = 0, least_time = 0, plain_least_time = 0;
-    int equal, i;
+    struct times t, all = {0, 0};
+    int equal, i, count = 0;
 
     while (fgets(line, sizeof line, stdin) != NULL) {
         struct query q = {0};
+        int is_bound = strncmp(line, "bound", 5) == 0;
 
-        if (!read_query(line, &q)) {
-            fprintf(stderr, "bound: no query: %s", line);
+        if (!read_query(line, &q)
+            || !add(is_bound ? &bounds : least_group(library_least(&q)), &q)) {
+            fprintf(stderr, "bound: no query, or one too many: %s", line);
             return 2;
         }
-        add(strncmp(line, "bound", 5) == 0 ? &bounds : least_group(library_least(&q)), &q);
     }
-    equal = compare(&longest, REPEATS, &bound_time, &plain_bound_time);
-    equal &= compare(&bounds, REPEATS, &bound_time, &plain_bound_time);
-    for (i = 0; i < 4; i++)
-        equal &= compare(&least[i], 1, &least_time, &plain_least_time);
-    printf("all least counts: library %.3f ms, plain %.1f ms, library/plain = %.6f\n",
-           1e3 * least_time, 1e3 * plain_least_time, least_time / plain_least_time);
+    equal = compare(&longest, REPEATS, &t);
+    equal &= compare(&bounds, REPEATS, &t);
+    for (i = 0; i < 4; i++) {
+        equal &= compare(&least[i], 1, &t);
+        all.library += t.library;
+        all.plain += t.plain;
+        count += least[i].count;
+    }
+    print_times(count, "least counts in all", all);
     return equal ? 0 : 1;
 }
