@@ -2,6 +2,7 @@
 
 use crate::refusal::Refusal;
 
+pub const MAX_ROWS: u32 = 262_144;
 pub const MAX_COUNTERS: u32 = 2_048;
 
 /// The settings, in the order in which they are given and tested.
@@ -38,7 +39,7 @@ impl Settings {
     }
 
     fn check_before_counters(&self) -> Result<(), Refusal> {
-        if self.rows % 16 != 0 || self.rows < 16 || self.rows > 65_536 {
+        if self.rows % 16 != 0 || self.rows < 16 || self.rows > MAX_ROWS {
             return Err(Refusal::Rows);
         }
         if self.blast_diameter != 2 && self.blast_diameter != 4 {
