@@ -6,9 +6,9 @@ use lib.Dec.{leb, eqb}
 use Rattle.device.specs.declared.Settings.{Settings}
 use Rattle.device.specs.Refusal.{Test, unless}
 
--- the most rows in a bank, 'N .. 16 to 65,536'
+-- the most rows in a bank, 'N may now be any multiple of 16 up to 262,144'
 abbrev pub most-rows : ℕ
-most-rows = 65536
+most-rows = 262144
 
 -- the most counters, 'C .. V to 2,048'
 abbrev pub most-counters : ℕ
@@ -18,7 +18,7 @@ most-counters = 2048
 unfoldable pub within : ℕ → ℕ → ℕ → Bool
 within low high x = leb low x && leb x high
 
--- N: a multiple of 16, 16 to 65,536
+-- N: a multiple of 16, 16 to 262,144
 unfoldable pub rows-allowed : ℕ → Bool
 rows-allowed n = within 16 most-rows n && eqb (n % 16) 0
 

@@ -10,7 +10,7 @@ ghost use Rattle.device.specs.Remap.{remap-table, physical};
 ghost use Rattle.device.specs.Victims.{subarray-rows, subarray-start};
 
 // The most rows of a bank and the most counters that settings may name.
-pub const MOST_ROWS: u32 = 65536;
+pub const MOST_ROWS: u32 = 262144;
 
 pub const MOST_COUNTERS: u32 = 2048;
 
