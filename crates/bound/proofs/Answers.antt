@@ -9,7 +9,7 @@ use Rattle.device.specs.Acceptance.{settings-tests, settings-tests-but-counters
 use Rattle.device.proofs.Acceptance.{accepted-skipping, accepted-but-counters, refusals-le, refusals-but-counters-le}
 use Rattle.bound.specs.Totals.{bound-of}
 use Rattle.bound.specs.Least.{meets, first-from, or-else, least-of}
-use Rattle.bound.specs.Answers.{Small, bound-answer, least-answer}
+use Rattle.bound.specs.Answers.{Small, bound-answer-to, bound-answer, least-answer-to, least-answer}
 use Rattle.bound.proofs.Totals.Bound.{bound-lt}
 
 small-tested : (k : ℕ) (answer : Outcome ℕ) → k ≤ 7 → (k ≡ 0 → Small answer) → Small (tested k answer)
@@ -18,7 +18,7 @@ small-tested zero answer few small = small refl
 small-tested (suc k) answer few small = omega arith
 
 pub small-bound-answer : (s : Settings) → Small (bound-answer s)
-unfolding bound-answer Small
+unfolding bound-answer-to Small
 small-bound-answer s =
     small-tested (first-failed (settings-tests s)) (accepted (bound-of s)) (refusals-le s)
     (λ e. omega (arith, bound-lt s (accepted-but-counters s (accepted-skipping s e))))
@@ -35,7 +35,7 @@ small-first-from passes (suc k) c h =
     small-or-else (passes c) c (first-from passes k (suc c)) (omega arith) (small-first-from passes k (suc c) (omega arith))
 
 pub small-least-answer : (s : Settings) (threshold : ℕ) → Small (least-answer s threshold)
-unfolding least-answer least-of
+unfolding least-answer-to least-of
 small-least-answer s threshold =
     small-tested (first-failed (settings-tests-but-counters s)) (least-of s threshold) (refusals-but-counters-le s)
     (λ e. small-first-from (meets s threshold) (2049 - s .volume) (s .volume) (omega (arith, accepted-but-counters s e .volume .most)))

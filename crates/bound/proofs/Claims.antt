@@ -1,9 +1,10 @@
 -- The claims of specs/Claims.antt, each under its own name.
 use Prim.Native.Nat.{_-_}
 use native.Mathlib.Omega.{arith}
-use Rattle.device.proofs.Acceptance.{accepted-skipping, accepted-but-counters}
+use Rattle.device.proofs.Acceptance.{accepted-skipping, accepted-but-counters, settings-alike, but-counters-alike}
 use Rattle.bound.specs.Least.{meets, least-of}
-use Rattle.bound.specs.Claims.{Bound-grows-with-window, Bound-falls-with-counters, Least-is-least, Twelve-is-none, Bound-is-small}
+use Rattle.bound.specs.Answers.{bound-answer-to, least-answer-to}
+use Rattle.bound.specs.Claims.{Bound-grows-with-window, Bound-falls-with-counters, Least-is-least, Twelve-is-none, Bound-is-small, Answers-stay}
 use Rattle.bound.proofs.Totals.Bound.{bound-grows, bound-counters, bound-lt}
 use Rattle.bound.proofs.Least.{first-from-found, first-from-none, none-first-from}
 
@@ -32,3 +33,7 @@ twelve-is-none s threshold =
 pub bound-is-small : Bound-is-small
 unfolding Bound-is-small
 bound-is-small s e = bound-lt s (accepted-but-counters s (accepted-skipping s e))
+
+pub answers-stay : Answers-stay
+unfolding Answers-stay bound-answer-to least-answer-to
+answers-stay most s alike = (rw (settings-alike most s alike), λ threshold. rw (but-counters-alike most s alike))

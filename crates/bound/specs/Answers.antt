@@ -3,7 +3,7 @@ use Prim.Native.Nat.{ℕ, _<_, _^_}
 use lib.IntN.{ℤ, pos, negℤ}
 use Rattle.device.specs.declared.Settings.{Settings}
 use Rattle.device.specs.Refusal.{Outcome, accepted, refused, first-failed, tested}
-use Rattle.device.specs.Acceptance.{settings-tests, settings-tests-but-counters}
+use Rattle.device.specs.Acceptance.{most-rows, settings-tests-to, settings-tests-but-counters-to}
 use Rattle.bound.specs.declared.Answer.{Answer}
 use Rattle.bound.specs.declared.Answer.the-variants.{Value, Refused}
 use Rattle.bound.specs.Totals.{bound-of}
@@ -14,13 +14,20 @@ unfoldable pub outcome : Answer → Outcome ℕ
 outcome (Value v) = accepted v
 outcome (Refused k) = refused k
 
--- the bound's answer: the settings' refusals, else H
-unfoldable pub bound-answer : Settings → Outcome ℕ
-bound-answer s = tested (first-failed (settings-tests s)) (accepted (bound-of s))
+-- the bound's answer, where N may be up to the most: the settings' refusals, else H
+unfoldable pub bound-answer-to : ℕ → Settings → Outcome ℕ
+bound-answer-to most s = tested (first-failed (settings-tests-to most s)) (accepted (bound-of s))
 
 -- the least count's answer: the settings' refusals but 4, else the least count, which may be refusal 12
-unfoldable pub least-answer : Settings → ℕ → Outcome ℕ
-least-answer s threshold = tested (first-failed (settings-tests-but-counters s)) (least-of s threshold)
+unfoldable pub least-answer-to : ℕ → Settings → ℕ → Outcome ℕ
+least-answer-to most s threshold = tested (first-failed (settings-tests-but-counters-to most s)) (least-of s threshold)
+
+-- both with N up to 262,144
+abbrev pub bound-answer : Settings → Outcome ℕ
+bound-answer s = bound-answer-to most-rows s
+
+abbrev pub least-answer : Settings → ℕ → Outcome ℕ
+least-answer s threshold = least-answer-to most-rows s threshold
 
 -- 'one signed number of 64 bits out; refusal k comes back there as −k'
 unfoldable pub signed : Outcome ℕ → ℤ

@@ -5,8 +5,10 @@ use mathlib.Core.Bool.{true, false}
 use Rattle.device.specs.declared.Settings.{Settings}
 use Rattle.device.specs.Refusal.{accepted, refused, first-failed}
 use Rattle.device.specs.Acceptance.{most-counters, settings-tests}
+use Rattle.device.specs.Claims.{Alike}
 use Rattle.bound.specs.Totals.{bound-at, bound-of}
 use Rattle.bound.specs.Least.{with-counters, meets, least-of}
+use Rattle.bound.specs.Answers.{bound-answer-to, least-answer-to, bound-answer, least-answer}
 
 -- a longer window gives no lower bound
 unfoldable pub Bound-grows-with-window : Type 0
@@ -39,3 +41,9 @@ Twelve-is-none = (s : Settings) (threshold : ℕ) → Twelve s threshold
 -- the bound of accepted settings is below 2^28
 unfoldable pub Bound-is-small : Type 0
 Bound-is-small = (s : Settings) → first-failed (settings-tests s) ≡ 0 → bound-of s < 2 ^ 28
+
+-- settings whose N is judged alike where it may be up to another most, as that of all which 'were valid' is (`Settings-stay`), get the same answers
+unfoldable pub Answers-stay : Type 0
+Answers-stay =
+    (most : ℕ) (s : Settings) → Alike most s →
+    (bound-answer-to most s ≡ bound-answer s) × ((threshold : ℕ) → least-answer-to most s threshold ≡ least-answer s threshold)

@@ -3,13 +3,14 @@ use mathlib.Core.Path.{_≡_, refl}
 use mathlib.Core.Bool.{Bool, true, false, _||_, not}
 use mathlib.Core.Logic.{_⊎_, inl, inr, ⊎-map}
 use mathlib.Core.List.{List, _++_}
-use Prim.Native.Nat.{ℕ, _*_, _%_, _≤_}
-use borrow.Author.Tests.{leb-true, eqb-true}
+use Prim.Native.Nat.{ℕ, _*_, _%_, _≤_, _<_}
+use native.Mathlib.Omega.{arith}
+use borrow.Author.Tests.{leb-true, eqb-true, le-leb, lt-leb}
 use lib.Dec.{leb, eqb, lit≤}
 use Rattle.laws.proofs.Cases.{and-both}
 use Rattle.device.specs.declared.Settings.{Settings}
 use Rattle.device.specs.Refusal.{Test, first-failed, unless}
-use Rattle.device.specs.Acceptance.{most-rows, most-counters, within, rows-allowed, diameter-allowed, block-allowed, settings-tests-with, settings-tests, settings-tests-but-counters}
+use Rattle.device.specs.Acceptance.{most-rows, most-counters, within, rows-allowed-to, rows-allowed, diameter-allowed, block-allowed, settings-tests-with, settings-tests-to, settings-tests-but-counters-to, settings-tests, settings-tests-but-counters}
 use Rattle.device.proofs.Refusal.{refuse-passed, refuse-le, or-later, later-refuse}
 
 -- a number from low to high
@@ -47,8 +48,8 @@ diameter-of : (b : ℕ) → diameter-allowed b ≡ true → (b ≡ 2) ⊎ (b ≡
 unfolding diameter-allowed
 diameter-of b e = ⊎-map (eqb-true b 2) (eqb-true b 4) (or-true-either (eqb b 2) (eqb b 4) e)
 
-tests-passed : (counters-allowed : Bool) (s : Settings) → first-failed (settings-tests-with counters-allowed s) ≡ 0 → (counters-allowed ≡ true) × InRange s
-unfolding first-failed unless settings-tests-with rows-allowed block-allowed
+tests-passed : (counters-allowed : Bool) (s : Settings) → first-failed (settings-tests-with most-rows counters-allowed s) ≡ 0 → (counters-allowed ≡ true) × InRange s
+unfolding first-failed unless settings-tests-with rows-allowed-to block-allowed
 tests-passed counters-allowed s e =
     let p1 = refuse-passed (rows-allowed (s .rows)) 0 _ e in
     let p2 = refuse-passed (diameter-allowed (s .«blast_diameter»)) 1 _ (p1 .1) in
@@ -73,22 +74,22 @@ tests-passed counters-allowed s e =
     )
 
 pub accepted-settings : (s : Settings) → first-failed (settings-tests s) ≡ 0 → Accepted s
-unfolding settings-tests
+unfolding settings-tests-to
 accepted-settings s e =
     let parts = tests-passed (within (s .volume) most-counters (s .counters)) s e in
     record { others = parts .1; counters = within-between (s .volume) most-counters (s .counters) (parts .0) }
 
 pub accepted-but-counters : (s : Settings) → first-failed (settings-tests-but-counters s) ≡ 0 → InRange s
-unfolding settings-tests-but-counters
+unfolding settings-tests-but-counters-to
 accepted-but-counters s e = tests-passed true s e .1
 
 -- accepted-settings settings pass the tests that skip the counter count
 pub accepted-skipping : (s : Settings) → first-failed (settings-tests s) ≡ 0 → first-failed (settings-tests-but-counters s) ≡ 0
-unfolding settings-tests settings-tests-but-counters
+unfolding settings-tests-to settings-tests-but-counters-to
 accepted-skipping s e = rw (tests-passed (within (s .volume) most-counters (s .counters)) s e .0) at e
 
 -- the settings' refusals-le are 1 to 7
-refusals-with-le : (counters-allowed : Bool) (s : Settings) → first-failed (settings-tests-with counters-allowed s) ≤ 7
+refusals-with-le : (counters-allowed : Bool) (s : Settings) → first-failed (settings-tests-with most-rows counters-allowed s) ≤ 7
 unfolding first-failed unless settings-tests-with
 refusals-with-le counters-allowed s =
     refuse-le (not (rows-allowed (s .rows))) 1 (lit≤ tt)
@@ -100,16 +101,16 @@ refusals-with-le counters-allowed s =
     (refuse-le (not (block-allowed (s .block) (s .window) (s .rows))) 7 (lit≤ tt) (lit≤ tt)))))))
 
 pub refusals-le : (s : Settings) → first-failed (settings-tests s) ≤ 7
-unfolding settings-tests
+unfolding settings-tests-to
 refusals-le s = refusals-with-le (within (s .volume) most-counters (s .counters)) s
 
 pub refusals-but-counters-le : (s : Settings) → first-failed (settings-tests-but-counters s) ≤ 7
-unfolding settings-tests-but-counters
+unfolding settings-tests-but-counters-to
 refusals-but-counters-le s = refusals-with-le true s
 
 -- tests behind the settings' are heard where the settings are accepted-settings
 pub settings-then : (s : Settings) (later : List Test) → first-failed (settings-tests s ++ later) ≡ or-later (first-failed (settings-tests s)) (first-failed later)
-unfolding first-failed unless settings-tests settings-tests-with or-later
+unfolding first-failed unless settings-tests-to settings-tests-with or-later
 settings-then s later =
     simp (
       later-refuse (not (rows-allowed (s .rows))) 0,
@@ -120,3 +121,31 @@ settings-then s later =
       later-refuse (not (within 1 8192 (s .window))) 5,
       later-refuse (not (block-allowed (s .block) (s .window) (s .rows))) 6,
     )
+
+-- N up to another most: judged alike up to a smaller one, and above 262,144; accepted settings have no N above their most
+pub rows-small-alike : (most n : ℕ) → most ≤ most-rows → n ≤ most → rows-allowed-to most n ≡ rows-allowed n
+unfolding rows-allowed-to within
+rows-small-alike most n h small = rw (le-leb n most small, le-leb n most-rows (omega arith))
+
+pub rows-large-alike : (most n : ℕ) → most ≤ most-rows → most-rows < n → rows-allowed-to most n ≡ rows-allowed n
+unfolding rows-allowed-to within
+rows-large-alike most n h large = rw (lt-leb n most (omega arith), lt-leb n most-rows large)
+
+pub accepted-rows-le : (most : ℕ) (counters-allowed : Bool) (s : Settings) → first-failed (settings-tests-with most counters-allowed s) ≡ 0 → s .rows ≤ most
+unfolding first-failed unless settings-tests-with rows-allowed-to
+accepted-rows-le most counters-allowed s e =
+    let allowed = refuse-passed (rows-allowed-to most (s .rows)) 0 _ e .0 in
+    within-between 16 most (s .rows) (and-both (within 16 most (s .rows)) (eqb (s .rows % 16) 0) allowed .0) .most
+
+-- where N is judged alike, the tests are the same
+pub tests-alike : (most : ℕ) (counters-allowed : Bool) (s : Settings) → rows-allowed-to most (s .rows) ≡ rows-allowed (s .rows) → settings-tests-with most counters-allowed s ≡ settings-tests-with most-rows counters-allowed s
+unfolding settings-tests-with
+tests-alike most counters-allowed s alike = rw alike
+
+pub settings-alike : (most : ℕ) (s : Settings) → rows-allowed-to most (s .rows) ≡ rows-allowed (s .rows) → settings-tests-to most s ≡ settings-tests s
+unfolding settings-tests-to
+settings-alike most s alike = tests-alike most (within (s .volume) most-counters (s .counters)) s alike
+
+pub but-counters-alike : (most : ℕ) (s : Settings) → rows-allowed-to most (s .rows) ≡ rows-allowed (s .rows) → settings-tests-but-counters-to most s ≡ settings-tests-but-counters s
+unfolding settings-tests-but-counters-to
+but-counters-alike most s alike = tests-alike most true s alike

@@ -3,8 +3,28 @@ use Prim.Native.Nat.{ℕ, _+_, _-_, _/_, _%_, _≤_, _<_}
 use mathlib.Core.Path.{_≡_}
 use mathlib.Core.List.{List, List·Memᴰ}
 use lib.ListN.{length, getD}
+use Rattle.device.specs.declared.Settings.{Settings}
+use Rattle.device.specs.Refusal.{first-failed}
+use Rattle.device.specs.Acceptance.{most-rows, rows-allowed-to, rows-allowed, settings-tests-to, settings-tests-but-counters-to, settings-tests, settings-tests-but-counters}
 use Rattle.device.specs.Remap.{physical}
 use Rattle.device.specs.Victims.{within-reach, subarray-rows, subarray, victims}
+
+-- N is judged alike where it may be up to another most
+abbrev pub Alike : ℕ → Settings → Type 0
+Alike most s = rows-allowed-to most (s .rows) ≡ rows-allowed (s .rows)
+
+-- beside N up to another most: which settings are judged alike, and that their tests are the same
+pub record Stays (most : ℕ) (s : Settings) : Type 0 where
+  pub accepted-stays : first-failed (settings-tests-to most s) ≡ 0 → (first-failed (settings-tests s) ≡ 0) × Alike most s
+  pub accepted-but-counters-stays : first-failed (settings-tests-but-counters-to most s) ≡ 0 → (first-failed (settings-tests-but-counters s) ≡ 0) × Alike most s
+  pub small-alike : s .rows ≤ most → Alike most s
+  pub large-alike : most-rows < s .rows → Alike most s
+  pub same-tests : Alike most s → settings-tests-to most s ≡ settings-tests s
+  pub same-tests-but-counters : Alike most s → settings-tests-but-counters-to most s ≡ settings-tests-but-counters s
+
+-- 'settings that were valid' with a smaller most, 65,536 in document 01, are valid; and settings with N up to it, or above 262,144, are tested as they were
+unfoldable pub Settings-stay : Type 0
+Settings-stay = (most : ℕ) → most ≤ most-rows → (s : Settings) → Stays most s
 
 -- the distance of two rows
 abbrev pub distance : ℕ → ℕ → ℕ

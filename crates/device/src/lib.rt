@@ -5,7 +5,7 @@ ghost use mathlib.Core.Bool.{not};
 ghost use lib.Dec.{leb};
 ghost use lib.ListN.{getD};
 ghost use Rattle.device.specs.Refusal.{refuse, first-failed};
-ghost use Rattle.device.specs.Acceptance.{within, rows-allowed, diameter-allowed, block-allowed, settings-tests, settings-tests-with, settings-tests-but-counters};
+ghost use Rattle.device.specs.Acceptance.{most-rows, within, rows-allowed, diameter-allowed, block-allowed, settings-tests, settings-tests-with, settings-tests-but-counters};
 ghost use Rattle.device.specs.Remap.{remap-table, physical};
 ghost use Rattle.device.specs.Victims.{subarray-rows, subarray-start};
 
@@ -72,7 +72,7 @@ pub fn refuse_unless(allowed: bool, k: u32, later: u32) -> u32
 
 // The settings' tests in their order, the one of the counter count given by its outcome.
 fn refusal_with(s: Settings, counters_in_range: bool) -> u32
-    ensures { λ r. ⌜ r ≡ first-failed (settings-tests-with «counters_in_range» s) ⌝ }
+    ensures { λ r. ⌜ r ≡ first-failed (settings-tests-with most-rows «counters_in_range» s) ⌝ }
 {
     refuse_unless(
         rows_in_range(s.rows),

@@ -3,3 +3,4 @@ pub mod States
 pub mod Calls
 pub mod Contracts
 pub mod Steps
+pub mod Claims

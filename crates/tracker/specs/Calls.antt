@@ -6,7 +6,7 @@ use lib.Dec.{leb, ltb, eqb}
 use lib.ListN.{length, drop}
 use Rattle.device.specs.declared.Settings.{Settings}
 use Rattle.device.specs.Refusal.{Test, unless, first-failed, Outcome, accepted, tested}
-use Rattle.device.specs.Acceptance.{settings-tests}
+use Rattle.device.specs.Acceptance.{most-rows, settings-tests-to}
 use Rattle.device.specs.Remap.{physical}
 use Rattle.device.specs.Victims.{rows-between, victims}
 use Rattle.summary.specs.Steps.{Summary, empty, estimate, picked, activation, event}
@@ -33,29 +33,29 @@ next-event s e = cond (ends-window s e) 0 (e + 1)
 unfoldable pub tables-long : Settings → List ℕ → List ℕ → Bool
 tables-long s rows counts = eqb (length rows) (s .counters) && eqb (length counts) (s .counters)
 
--- the tests of each call, in their order
-unfoldable pub set-up-tests : Settings → List ℕ → List ℕ → List Test
-set-up-tests s rows counts = settings-tests s ++ unless (tables-long s rows counts) 8 ∷ []
+-- the tests of each call, in their order, where N may be up to the most
+unfoldable pub set-up-tests-to : ℕ → Settings → List ℕ → List ℕ → List Test
+set-up-tests-to most s rows counts = settings-tests-to most s ++ unless (tables-long s rows counts) 8 ∷ []
 
-unfoldable pub activation-tests : Settings → State → ℕ → List Test
-activation-tests s st row =
-    settings-tests s ++
+unfoldable pub activation-tests-to : ℕ → Settings → State → ℕ → List Test
+activation-tests-to most s st row =
+    settings-tests-to most s ++
     unless (tables-long s (st .rows) (st .counts)) 8 ∷
     unless (ltb row (s .rows)) 9 ∷
     unless (valid s st) 21 ∷
     unless (ltb (st .position .activations) (s .interval)) 22 ∷ []
 
-unfoldable pub refresh-tests : Settings → State → List ℕ → List Test
-refresh-tests s st picks =
-    settings-tests s ++
+unfoldable pub refresh-tests-to : ℕ → Settings → State → List ℕ → List Test
+refresh-tests-to most s st picks =
+    settings-tests-to most s ++
     unless (tables-long s (st .rows) (st .counts)) 8 ∷
     unless (leb (s .volume) (length picks)) 10 ∷
     unless (valid s st) 21 ∷ []
 
-unfoldable pub agreement-tests : Settings → State → Settings → State → List Test
-agreement-tests s st s′ st′ =
-    settings-tests s ++
-    settings-tests s′ ++
+unfoldable pub agreement-tests-to : ℕ → Settings → State → Settings → State → List Test
+agreement-tests-to most s st s′ st′ =
+    settings-tests-to most s ++
+    settings-tests-to most s′ ++
     unless (tables-long s (st .rows) (st .counts) && tables-long s′ (st′ .rows) (st′ .counts)) 8 ∷
     unless (valid s st && valid s′ st′) 21 ∷ []
 
@@ -70,9 +70,9 @@ pub record SetUp-call : Type 0 where
   pub rows : List ℕ
   pub counts : List ℕ
 
-unfoldable pub set-up : Settings → List ℕ → List ℕ → SetUp-call
-set-up s rows counts =
-    let k = first-failed (set-up-tests s rows counts) in
+unfoldable pub set-up-to : ℕ → Settings → List ℕ → List ℕ → SetUp-call
+set-up-to most s rows counts =
+    let k = first-failed (set-up-tests-to most s rows counts) in
     let begun = state-of s 0 0 empty in
     record {
       answer = tested k (accepted (begun .position));
@@ -86,9 +86,9 @@ pub record Activation-call : Type 0 where
   pub refusal : ℕ
   pub state : State
 
-unfoldable pub activation-on : Settings → State → ℕ → Activation-call
-activation-on s st row =
-    let k = first-failed (activation-tests s st row) in
+unfoldable pub activation-to : ℕ → Settings → State → ℕ → Activation-call
+activation-to most s st row =
+    let k = first-failed (activation-tests-to most s st row) in
     record {
       accepts = eqb k 0;
       refusal = k;
@@ -106,9 +106,9 @@ pub record Refresh-call : Type 0 where
   pub state : State
   pub picks : List ℕ
 
-unfoldable pub refresh-on : Settings → State → List ℕ → Refresh-call
-refresh-on s st picks =
-    let k = first-failed (refresh-tests s st picks) in
+unfoldable pub refresh-to : ℕ → Settings → State → List ℕ → Refresh-call
+refresh-to most s st picks =
+    let k = first-failed (refresh-tests-to most s st picks) in
     let e = st .position .events in
     let named = picked (s .volume) (summary-of st) in
     record {
@@ -128,7 +128,32 @@ same-estimates zero a b = true
 same-estimates (suc row) a b = eqb (estimate a row) (estimate b row) && same-estimates row a b
 
 -- 'two summaries agree when N is the same and every row has the same estimate in both'
-unfoldable pub agreement-of : Settings → State → Settings → State → Outcome Bool
-agreement-of s st s′ st′ =
-    tested (first-failed (agreement-tests s st s′ st′))
+unfoldable pub agreement-to : ℕ → Settings → State → Settings → State → Outcome Bool
+agreement-to most s st s′ st′ =
+    tested (first-failed (agreement-tests-to most s st s′ st′))
     (accepted (eqb (s .rows) (s′ .rows) && same-estimates (s .rows) (summary-of st) (summary-of st′)))
+
+-- the tests and the calls with N up to 262,144
+abbrev pub set-up-tests : Settings → List ℕ → List ℕ → List Test
+set-up-tests s rows counts = set-up-tests-to most-rows s rows counts
+
+abbrev pub activation-tests : Settings → State → ℕ → List Test
+activation-tests s st row = activation-tests-to most-rows s st row
+
+abbrev pub refresh-tests : Settings → State → List ℕ → List Test
+refresh-tests s st picks = refresh-tests-to most-rows s st picks
+
+abbrev pub agreement-tests : Settings → State → Settings → State → List Test
+agreement-tests s st s′ st′ = agreement-tests-to most-rows s st s′ st′
+
+abbrev pub set-up : Settings → List ℕ → List ℕ → SetUp-call
+set-up s rows counts = set-up-to most-rows s rows counts
+
+abbrev pub activation-on : Settings → State → ℕ → Activation-call
+activation-on s st row = activation-to most-rows s st row
+
+abbrev pub refresh-on : Settings → State → List ℕ → Refresh-call
+refresh-on s st picks = refresh-to most-rows s st picks
+
+abbrev pub agreement-of : Settings → State → Settings → State → Outcome Bool
+agreement-of s st s′ st′ = agreement-to most-rows s st s′ st′

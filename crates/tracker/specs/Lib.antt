@@ -3,3 +3,4 @@ pub mod State
 pub mod Calls
 pub mod Answers
 pub mod Contracts
+pub mod Claims

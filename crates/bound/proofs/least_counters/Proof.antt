@@ -5,7 +5,7 @@ use Rattle.device.specs.Refusal.{first-failed}
 use Rattle.device.specs.Acceptance.{settings-tests-but-counters}
 use Rattle.device.proofs.Refusal.{tested-passed, tested-failed}
 use Rattle.bound.specs.Least.{least-of}
-use Rattle.bound.specs.Answers.{outcome, least-answer}
+use Rattle.bound.specs.Answers.{outcome, least-answer-to}
 use Rattle.bound.proofs.least_counters.Statement.{statement}
 use Rattle.bound.proofs.least_counters.Tie as tie
 
@@ -13,7 +13,7 @@ least-of-requires : tie.Need-least-of-requires
 least-of-requires c κs = sym (c .before .settings-refusal-but-counters .ensures) ∙ c .if1 .taken
 
 returns : tie.Need-returns
-unfolding least-answer
+unfolding least-answer-to
 returns c =
     let a = c .before .before .before .args in
     let zero : first-failed (settings-tests-but-counters (a .s)) ≡ 0 =
@@ -21,7 +21,7 @@ returns c =
     c .least-of .ensures ∙ sym (tested-passed (least-of (a .s) (a .threshold)) zero)
 
 returns-2 : tie.Need-returns-2
-unfolding outcome least-answer
+unfolding outcome least-answer-to
 returns-2 c =
     let a = c .before .before .args in
     let told = c .before .settings-refusal-but-counters .ensures in

@@ -15,40 +15,40 @@ use Rattle.summary.specs.Steps.{empty, picked, event}
 use Rattle.summary.specs.Tables.{table}
 use Rattle.summary.specs.Contracts.{Holds, PickedFrom}
 use Rattle.tracker.specs.State.{State, summary-of, state-of}
-use Rattle.tracker.specs.Calls.{set-up-tests, activation-tests, refresh-tests, kept-unless, set-up, activation-on, refresh-on, victims-in, block-rows, ends-window, next-event, agreement-tests, agreement-of, same-estimates}
+use Rattle.tracker.specs.Calls.{set-up-tests, activation-tests, refresh-tests, kept-unless, set-up-to, set-up, activation-to, activation-on, refresh-to, refresh-on, victims-in, block-rows, ends-window, next-event, agreement-tests, agreement-to, agreement-of, same-estimates}
 use Rattle.tracker.specs.Answers.{given}
 use Rattle.tracker.proofs.States.StateOf.{state-of-holds}
 use Rattle.tracker.proofs.Calls.Ready.{open-tables, refresh-ready}
 
 -- each call refused, and accepted-settings
 pub set-up-refused : (s : Settings) (rows counts : List ℕ) (k : ℕ) → k ≡ first-failed (set-up-tests s rows counts) → (k ≡ 0 → ⊥) → record { answer = refused k; rows = rows; counts = counts } ≡ set-up s rows counts
-unfolding set-up kept-unless tested
+unfolding set-up-to kept-unless tested
 set-up-refused s rows counts zero e h = absurd (h refl)
 set-up-refused s rows counts (suc k) e h = rw (← e)
 
 pub set-up-done : (s : Settings) (rows counts : List ℕ) {rows′ counts′ : List ℕ} → first-failed (set-up-tests s rows counts) ≡ 0 → rows′ ≡ replicate (length rows) 0 → counts′ ≡ replicate (length counts) 0 → record { answer = accepted-with (record { events = 0; activations = 0; tracked = 0; spillover = 0 }); rows = rows′; counts = counts′ } ≡ set-up s rows counts
-unfolding set-up kept-unless tested state-of empty table rows-of counts-of
+unfolding set-up-to kept-unless tested state-of empty table rows-of counts-of
 set-up-done s rows counts e er ec =
     let o = open-tables s rows counts e in
     rw (e, er, ec, o .rows-long, o .counts-long, sub-zero (s .counters))
 
 pub activation-refused : (s : Settings) (st : State) (row k : ℕ) → k ≡ first-failed (activation-tests s st row) → (k ≡ 0 → ⊥) → record { accepts = false; refusal = k; state = st } ≡ activation-on s st row
-unfolding activation-on kept-unless
+unfolding activation-to kept-unless
 activation-refused s st row zero e h = absurd (h refl)
 activation-refused s st row (suc k) e h = rw (← e, ne-eqb (suc k) 0 h)
 
 pub activation-done : (s : Settings) (st : State) (row : ℕ) {st′ : State} → first-failed (activation-tests s st row) ≡ 0 → st′ ≡ activation-on s st row .state → record { accepts = true; refusal = 0; state = st′ } ≡ activation-on s st row
-unfolding activation-on
+unfolding activation-to
 activation-done s st row e same = λ i. record { accepts = eqb (sym e i) 0; refusal = sym e i; state = same i }
 
 pub refresh-refused : (s : Settings) (st : State) (picks : List ℕ) (k : ℕ) → k ≡ first-failed (refresh-tests s st picks) → (k ≡ 0 → ⊥) → record { accepts = false; refusal = k; count = 0; state = st; picks = picks } ≡ refresh-on s st picks
-unfolding refresh-on kept-unless
+unfolding refresh-to kept-unless
 refresh-refused s st picks zero e h = absurd (h refl)
 refresh-refused s st picks (suc k) e h = rw (← e, ne-eqb (suc k) 0 h)
 
 -- an accepted-settings event, from what was picked and what the tables hold
 pub refresh-done : (s : Settings) (st : State) (list₀ : List ℕ) {rows counts list : List ℕ} {count e k spill : ℕ} → first-failed (refresh-tests s st list₀) ≡ 0 → PickedFrom (s .volume) (summary-of st) list₀ list count → Holds (length (st .rows)) 4294967296 (event (length (st .rows)) (victims-in s) (s .volume) (block-rows s (st .position .events)) (ends-window s (st .position .events)) (summary-of st)) rows counts k spill → e ≡ next-event s (st .position .events) → record { accepts = true; refusal = 0; count = count; state = given rows counts (record { events = e; activations = 0; tracked = k; spillover = spill }); picks = list } ≡ refresh-on s st list₀
-unfolding refresh-on kept-unless picked
+unfolding refresh-to kept-unless picked
 refresh-done s st list₀ none x h ee =
     let r = refresh-ready s st list₀ none in
     let made = state-of-holds s (next-event s (st .position .events)) 0 (rw (r .0 .fitting .rows-long) at h) in
@@ -60,13 +60,13 @@ module _ (s : Settings) (st : State) (s′ : Settings) (st′ : State) where
   answer = eqb (s .rows) (s′ .rows) && same-estimates (s .rows) (summary-of st) (summary-of st′)
 
   pub agreement-refused : (k : ℕ) → k ≡ first-failed (agreement-tests s st s′ st′) → (k ≡ 0 → ⊥) → refused k ≡ agreement-of s st s′ st′
-  unfolding agreement-of answer
+  unfolding agreement-to answer
   agreement-refused k e h = rw (← e) (sym (tested-failed k (accepted-with answer) h))
 
   pub agreement-differs : first-failed (agreement-tests s st s′ st′) ≡ 0 → (s .rows ≡ s′ .rows → ⊥) → accepted-with false ≡ agreement-of s st s′ st′
-  unfolding agreement-of tested
+  unfolding agreement-to tested
   agreement-differs e h = rw (e, ne-eqb (s .rows) (s′ .rows) h)
 
   pub agreement-same : {b : Bool} → first-failed (agreement-tests s st s′ st′) ≡ 0 → s .rows ≡ s′ .rows → b ≡ same-estimates (s .rows) (summary-of st) (summary-of st′) → accepted-with b ≡ agreement-of s st s′ st′
-  unfolding agreement-of tested
+  unfolding agreement-to tested
   agreement-same e h same = rw (e, eq-eqb (s .rows) (s′ .rows) h, same)

@@ -13,7 +13,7 @@ use Rattle.device.proofs.Acceptance.{settings-then}
 use Rattle.summary.specs.Steps.{Summary}
 use Rattle.summary.specs.Rules.{Ceiling, Sound}
 use Rattle.tracker.specs.State.{state-of, valid, most-count}
-use Rattle.tracker.specs.Calls.{tables-long, activation-tests, refresh-tests}
+use Rattle.tracker.specs.Calls.{tables-long, activation-tests-to, activation-tests, refresh-tests-to, refresh-tests}
 use Rattle.tracker.proofs.States.StateOf.{tables-long-state-of, valid-state-of}
 
 -- a summary that a valid state can hold
@@ -32,9 +32,9 @@ module _ (s : Settings) (e a : ℕ) (sum : Summary) (ok : first-failed (settings
   held-valid = valid-state-of s e a sum (h .sound) (h .early) (h .within) (h .ceiling) (h .spillover-le)
 
   pub activation-refusals : (row : ℕ) → first-failed (activation-tests s (state-of s e a sum) row) ≡ refuse (not (ltb row (s .rows))) 9 (refuse (not (ltb a (s .interval))) 22 0)
-  unfolding activation-tests first-failed unless or-later refuse state-of
+  unfolding activation-tests-to first-failed unless or-later refuse state-of
   activation-refusals row = rw (settings-then s, ok, long, held-valid)
 
   pub refresh-refusals : (picks : List ℕ) → first-failed (refresh-tests s (state-of s e a sum) picks) ≡ refuse (not (leb (s .volume) (length picks))) 10 0
-  unfolding refresh-tests first-failed unless or-later refuse
+  unfolding refresh-tests-to first-failed unless or-later refuse
   refresh-refusals picks = rw (settings-then s, ok, long, held-valid)

@@ -12,7 +12,7 @@ use Rattle.device.specs.Acceptance.{settings-tests}
 use Rattle.device.proofs.Refusal.{or-later}
 use Rattle.device.proofs.Acceptance.{settings-then}
 use Rattle.tracker.specs.State.{State, valid}
-use Rattle.tracker.specs.Calls.{tables-long, set-up-tests, activation-tests, refresh-tests, agreement-tests}
+use Rattle.tracker.specs.Calls.{tables-long, set-up-tests-to, set-up-tests, activation-tests-to, activation-tests, refresh-tests-to, refresh-tests, agreement-tests-to, agreement-tests}
 
 -- a refusal that was given stands
 pub or-later-first : (k later : ℕ) → (k ≡ 0 → ⊥) → k ≡ or-later k later
@@ -43,28 +43,28 @@ passed-test false k later e = absurd (omega arith)
 
 -- what stands behind the tests of setting up
 behind-set-up : (s : Settings) (rows counts : List ℕ) (later : List Test) → first-failed (settings-tests s ++ unless (tables-long s rows counts) 8 ∷ later) ≡ or-later (first-failed (set-up-tests s rows counts)) (first-failed later)
-unfolding set-up-tests first-failed unless
+unfolding set-up-tests-to first-failed unless
 behind-set-up s rows counts later =
     rw (settings-then s (unless (tables-long s rows counts) 8 ∷ later), settings-then s (unless (tables-long s rows counts) 8 ∷ []))
     (later-test (first-failed (settings-tests s)) (tables-long s rows counts) 7 (first-failed later))
 
 pub set-up-tested : (s : Settings) (rows counts : List ℕ) → first-failed (set-up-tests s rows counts) ≡ or-later (first-failed (settings-tests s)) (refuse (not (tables-long s rows counts)) 8 0)
-unfolding set-up-tests first-failed unless
+unfolding set-up-tests-to first-failed unless
 set-up-tested s rows counts = settings-then s (unless (tables-long s rows counts) 8 ∷ [])
 
 pub activation-tested : (s : Settings) (st : State) (row : ℕ) → first-failed (activation-tests s st row) ≡ or-later (first-failed (set-up-tests s (st .rows) (st .counts))) (refuse (not (ltb row (s .rows))) 9 (refuse (not (valid s st)) 21 (refuse (not (ltb (st .position .activations) (s .interval))) 22 0)))
-unfolding activation-tests first-failed unless
+unfolding activation-tests-to first-failed unless
 activation-tested s st row =
     behind-set-up s (st .rows) (st .counts)
     (unless (ltb row (s .rows)) 9 ∷ unless (valid s st) 21 ∷ unless (ltb (st .position .activations) (s .interval)) 22 ∷ [])
 
 pub refresh-tested : (s : Settings) (st : State) (picks : List ℕ) → first-failed (refresh-tests s st picks) ≡ or-later (first-failed (set-up-tests s (st .rows) (st .counts))) (refuse (not (leb (s .volume) (length picks))) 10 (refuse (not (valid s st)) 21 0))
-unfolding refresh-tests first-failed unless
+unfolding refresh-tests-to first-failed unless
 refresh-tested s st picks =
     behind-set-up s (st .rows) (st .counts) (unless (leb (s .volume) (length picks)) 10 ∷ unless (valid s st) 21 ∷ [])
 
 pub agreement-tested : (s : Settings) (st : State) (s′ : Settings) (st′ : State) → first-failed (agreement-tests s st s′ st′) ≡ or-later (first-failed (settings-tests s)) (or-later (first-failed (settings-tests s′)) (refuse (not (tables-long s (st .rows) (st .counts) && tables-long s′ (st′ .rows) (st′ .counts))) 8 (refuse (not (valid s st && valid s′ st′)) 21 0)))
-unfolding agreement-tests first-failed unless
+unfolding agreement-tests-to first-failed unless
 agreement-tested s st s′ st′ =
     let rest = unless (tables-long s (st .rows) (st .counts) && tables-long s′ (st′ .rows) (st′ .counts)) 8 ∷ unless (valid s st && valid s′ st′) 21 ∷ [] in
     rw (append-assoc (settings-tests s) (settings-tests s′) rest, settings-then s (settings-tests s′ ++ rest), settings-then s′ rest)

@@ -12,7 +12,7 @@ use Rattle.summary.specs.Contracts.{Holds}
 use Rattle.summary.proofs.Rules.Room.{room-more}
 use Rattle.summary.proofs.Contracts.Holds.{tracked-le}
 use Rattle.tracker.specs.State.{summary-of, state-of}
-use Rattle.tracker.specs.Calls.{activation-on, kept-unless, victims-in}
+use Rattle.tracker.specs.Calls.{activation-to, kept-unless, victims-in}
 use Rattle.tracker.specs.Answers.{given}
 use Rattle.tracker.proofs.States.StateOf.{state-of-holds}
 use Rattle.tracker.proofs.Calls.Ready.{activation-ready, ready-held, diameter-four}
@@ -53,7 +53,7 @@ made-by : (s : Settings) (e a : ℕ) (sum : Summary) (at row : ℕ) {rows counts
 made-by s e a sum at row same h = state-of-holds s e a h ∙ ap (λ x. state-of s e a (activation (s .counters) (victims-in s) x sum)) same
 
 returns : tie.Need-returns
-unfolding activation-on kept-unless given summary-of
+unfolding activation-to kept-unless given summary-of
 returns c =
     let activate-row = c .before .before .before .before .before .before .activate-row in
     let a = c .before .before .before .before .before .before .before .before .before .before .before .before .before in
