@@ -1,14 +1,14 @@
 -- The table of edges passes its test, by computing.
 use lib.Dec.{T}
 use Rattle.device.specs.Refusal.{first-failed, unless, refuse, tested}
-use Rattle.device.specs.Acceptance.{within, rows-allowed, diameter-allowed, block-allowed, settings-tests-with, settings-tests}
+use Rattle.device.specs.Acceptance.{within, rows-allowed-to, diameter-allowed, block-allowed, settings-tests-with, settings-tests-to}
 use Rattle.device.specs.Remap.{remap-table, physical}
 use Rattle.device.specs.Victims.{rows-from, rows-between, within-reach, victims}
 use Rattle.summary.specs.Entries.{rows-of, counts-of, has, count-or, without, without-all, raised, entered, has-count, without-count, top, picks}
 use Rattle.summary.specs.Steps.{empty, estimate, in-rows, disturb, disturb-each, drop-rows, spread, activation, besides, picked, taken-out, cleared-if, sources, event}
 use Rattle.summary.specs.Tables.{table, entries-of, read}
 use Rattle.tracker.specs.State.{summary-of, state-of, zeros, ascending, counts-allowed, valid}
-use Rattle.tracker.specs.Calls.{victims-in, block-rows, ends-window, next-event, tables-long, set-up-tests, activation-tests, refresh-tests, agreement-tests, kept-unless, set-up, activation-on, refresh-on, same-estimates, agreement-of}
+use Rattle.tracker.specs.Calls.{victims-in, block-rows, ends-window, next-event, tables-long, set-up-tests-to, activation-tests-to, refresh-tests-to, agreement-tests-to, kept-unless, set-up-to, activation-to, refresh-to, same-estimates, agreement-to}
 use Rattle.bound.specs.Answers.{settings-of}
 use Rattle.figures.specs.Table.{state-numbers, shown}
 use Rattle.figures.specs.Edges.{small, whole, two-places, untracked, refusal-of, set-up-numbers, activation-numbers, event-numbers, agreement-numbers, set-up-figure, activation-figure, event-figure, agreement-figure, set-up-edges, activation-edges, event-edges, agreement-edges, wide, fresh, wide-figure, across, behind-all, tracks-one, subarray-edges, edges}
@@ -19,11 +19,11 @@ unfolding
     every same edges set-up-edges activation-edges event-edges agreement-edges subarray-edges shown state-numbers settings-of
     small whole two-places untracked refusal-of set-up-numbers activation-numbers event-numbers agreement-numbers
     set-up-figure activation-figure event-figure agreement-figure wide fresh wide-figure across behind-all tracks-one
-    first-failed unless refuse tested within rows-allowed diameter-allowed block-allowed settings-tests-with settings-tests
+    first-failed unless refuse tested within rows-allowed-to diameter-allowed block-allowed settings-tests-with settings-tests-to
     remap-table physical rows-from rows-between within-reach victims
     rows-of counts-of has count-or without without-all raised entered has-count without-count top picks
     empty estimate in-rows disturb disturb-each drop-rows spread activation besides picked taken-out cleared-if sources event
     table entries-of read summary-of state-of zeros ascending counts-allowed valid
-    victims-in block-rows ends-window next-event tables-long set-up-tests activation-tests refresh-tests agreement-tests kept-unless
-    set-up activation-on refresh-on same-estimates agreement-of
+    victims-in block-rows ends-window next-event tables-long set-up-tests-to activation-tests-to refresh-tests-to agreement-tests-to kept-unless
+    set-up-to activation-to refresh-to same-estimates agreement-to
 edges-pass = tt

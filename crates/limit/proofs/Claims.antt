@@ -8,7 +8,7 @@ use Rattle.device.specs.Refusal.{refuse}
 use Rattle.device.proofs.Acceptance.{accepted-settings}
 use Rattle.bound.specs.Totals.{bound-of}
 use Rattle.tracker.specs.State.{state-of}
-use Rattle.tracker.specs.Calls.{activation-on, refresh-on}
+use Rattle.tracker.specs.Calls.{activation-to, refresh-to}
 use Rattle.tracker.proofs.States.StateOf.{read-back}
 use Rattle.tracker.proofs.Calls.SoundTests.{activation-refusals, refresh-refusals}
 use Rattle.limit.specs.Claims.{Demand-3, Demand-3-of-answers, Never-21, Events-modulo, Estimated, Window-figure}
@@ -36,7 +36,7 @@ not-21 false true e = omega arith
 not-21 false false e = omega arith
 
 pub never-21 : Never-21
-unfolding Never-21 activation-on refresh-on refuse
+unfolding Never-21 activation-to refresh-to refuse
 never-21 s st b calls =
     let k = state-inv-run b calls in
     let ok = begun-accepted b in

@@ -19,7 +19,7 @@ use Rattle.device.proofs.Acceptance.{Accepted, accepted-settings as accepted-fa
 use Rattle.summary.specs.Steps.{Summary, empty, activation, picked, event}
 use Rattle.tracker.specs.declared.Position.{Position}
 use Rattle.tracker.specs.State.{State, state-of}
-use Rattle.tracker.specs.Calls.{kept-unless, set-up-tests, set-up, activation-on, refresh-on, block-rows, ends-window, next-event, victims-in}
+use Rattle.tracker.specs.Calls.{kept-unless, set-up-tests, set-up-to, activation-to, refresh-to, block-rows, ends-window, next-event, victims-in}
 use Rattle.tracker.proofs.States.StateOf.{read-back}
 use Rattle.tracker.proofs.Calls.Ready.{open-tables}
 use Rattle.tracker.proofs.Calls.SoundTests.{Held, activation-refusals, refresh-refusals}
@@ -68,7 +68,7 @@ module _ (s : Settings) (ok : first-failed (settings-tests s) ≡ 0) where
   state-inv-refused {e} {a} {sum} i = record { events = e; activations = a; sum = sum; stored = refl; inv = i }
 
   state-inv-activation : (row e a : ℕ) (sum : Summary) (x y : Exact) → Plain-inv s e a sum x y → Call-inv s (activation-of row) (state-of s e a sum) x y
-  unfolding left-by told-by activation-on kept-unless refuse after next-window state-of
+  unfolding left-by told-by activation-to kept-unless refuse after next-window state-of
   state-inv-activation row e a sum x y i =
       let refusals = activation-refusals s e a sum ok (plain-held i) row in
       split (ltb row (s .rows))
@@ -88,7 +88,7 @@ module _ (s : Settings) (ok : first-failed (settings-tests s) ≡ 0) where
       (λ outside. rw (refusals, outside) (state-inv-refused i))
 
   state-inv-refresh : (picks : List ℕ) (e a : ℕ) (sum : Summary) (x y : Exact) → Plain-inv s e a sum x y → Call-inv s (refresh-into picks) (state-of s e a sum) x y
-  unfolding left-by told-by refresh-on kept-unless refuse after next-window cleared state-of next-event
+  unfolding left-by told-by refresh-to kept-unless refuse after next-window cleared state-of next-event
   state-inv-refresh picks e a sum x y i =
       let refusals = refresh-refusals s e a sum ok (plain-held i) picks in
       let named = picked (s .volume) sum in
@@ -135,7 +135,7 @@ tested-accepted (suc k) p q e = zero-one (cc)
 
 module _ {s : Settings} {st : State} (b : Begun s st) where
   set-up-tests-passed : (first-failed (set-up-tests s (b .rows) (b .counts)) ≡ 0) × (state-of s 0 0 empty .position ≡ st .position)
-  unfolding set-up
+  unfolding set-up-to
   set-up-tests-passed =
       tested-accepted (first-failed (set-up-tests s (b .rows) (b .counts))) (state-of s 0 0 empty .position) (st .position) (b .accepts)
 
@@ -143,7 +143,7 @@ module _ {s : Settings} {st : State} (b : Begun s st) where
   begun-accepted = open-tables s (b .rows) (b .counts) (set-up-tests-passed .0) .settled
 
   begun-state : st ≡ state-of s 0 0 empty
-  unfolding set-up kept-unless
+  unfolding set-up-to kept-unless
   begun-state =
       let rows : st .rows ≡ state-of s 0 0 empty .rows = rw (set-up-tests-passed .0) at (b .rows-left) in
       let counts : st .counts ≡ state-of s 0 0 empty .counts = rw (set-up-tests-passed .0) at (b .counts-left) in

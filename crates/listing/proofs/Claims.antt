@@ -4,11 +4,13 @@ use mathlib.Core.List.{List, _++_, append-assoc, append-nil}
 use Prim.Native.Nat.{ℕ}
 use lib.ListN.{length, take, drop}
 use lib.Seq.{take-at, length-take-le}
-use Rattle.listing.specs.Texts.{listing, after}
-use Rattle.trace.specs.Texts.{kept-bytes, joined}
+use Rattle.listing.specs.Texts.{listing-to, listing, after}
+use Rattle.trace.specs.Texts.{outcomes, kept-bytes, joined}
 use Rattle.listing.specs.Chunks.{part, chunk}
 use Rattle.listing.specs.Parts.{comes, lists, keeps, ends}
-use Rattle.listing.specs.Claims.{Parts-joined, Part-moves, Chunk-moves, End-moves}
+use Rattle.listing.specs.Steps.{start}
+use Rattle.listing.specs.Claims.{Parts-joined, Part-moves, Chunk-moves, End-moves, Listings-stay}
+use Rattle.listing.proofs.Steps.Alike.{Standing-alike, listed-alike}
 use Rattle.listing.proofs.Texts.{listing-cut, listing-kept}
 use Rattle.listing.proofs.Chunks.Lines.{done-part}
 use Rattle.listing.proofs.Chunks.LastLine.{last-line-listing}
@@ -53,3 +55,7 @@ chunk-moves m g text len buffer r h room =
           printed-taken (d .took) parts out
           (keeps rest unended (rw (take-at (take 64 rest) (drop (length (take 64 rest)) text) (length (take 64 rest)) refl) at later));
     }
+
+pub listings-stay : Listings-stay
+unfolding Listings-stay listing-to start Standing-alike
+listings-stay most text all = listed-alike most start (outcomes text) tt all

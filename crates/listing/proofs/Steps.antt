@@ -4,3 +4,4 @@ pub mod ReachedCalls
 pub mod CallLines
 pub mod SettingsLine
 pub mod Lengths
+pub mod Alike

@@ -12,10 +12,10 @@ use Rattle.trace.specs.Texts.{whole, outcomes}
 use Rattle.trace.proofs.Texts.Cuts.{outcomes-cut, outcomes-kept}
 use Rattle.trace.proofs.Texts.NextLine.{outcomes-on}
 use Rattle.listing.specs.Steps.{Progress, step, next}
-use Rattle.listing.specs.Texts.{listed, passed, listing, after}
+use Rattle.listing.specs.Texts.{listed-to, listed, passed, listing-to, listing, after}
 
 listed-append : (g : Progress) (os ps : List (Outcome Record)) → listed g (os ++ ps) ≡ listed g os ++ listed (passed g os) ps
-unfolding listed passed
+unfolding listed-to passed
 listed-append g [] ps = refl
 listed-append g (o ∷ os) ps = rw (listed-append (next g o) os ps, append-assoc)
 
@@ -26,18 +26,18 @@ passed-append g (o ∷ os) ps = passed-append (next g o) os ps
 
 module _ (g : Progress) (a b : List ℕ) (h : whole a ≡ true) where
   pub listing-cut : listing g (a ++ b) ≡ listing g a ++ listing (after g a) b
-  unfolding listing after
+  unfolding listing-to after
   listing-cut = rw (outcomes-cut a b h) (listed-append g (outcomes a) (outcomes b))
 
 -- of a line that has not ended, the first 64 bytes tell as much as the whole
 pub listing-kept : (g : Progress) (u b : List ℕ) → ended u ≡ false → listing g (u ++ b) ≡ listing g (take 64 u ++ b)
-unfolding listing
+unfolding listing-to
 listing-kept g u b e = rw (outcomes-kept u b e)
 
 -- one line more
 module _ (text : List ℕ) (at : ℕ) (h : at < length text) (w : whole (take at text) ≡ true) where
   pub listing-on : (g : Progress) → listing g (take (reading text at .place) text) ≡ listing g (take at text) ++ step (after g (take at text)) (reading text at .outcome) .prints
-  unfolding listing after listed
+  unfolding listing-to after listed-to
   listing-on g =
       rw (outcomes-on text at h w, listed-append g (outcomes (take at text)) (reading text at .outcome ∷ []), append-nil)
 

@@ -5,11 +5,12 @@ use mathlib.Core.Bool.{false}
 use mathlib.Core.List.{List, [], _++_}
 use lib.ListN.{length, take, drop}
 use Rattle.trace.specs.Lines.{ended}
-use Rattle.listing.specs.Steps.{Progress}
-use Rattle.listing.specs.Texts.{listing}
+use Rattle.trace.specs.Claims.{All-alike}
+use Rattle.listing.specs.Steps.{Progress, start}
+use Rattle.listing.specs.Texts.{listing-to, listing}
 use Rattle.listing.specs.Memory.{Memory, Represents}
 use Rattle.listing.specs.Chunks.{next-number, line-room, part, chunk, last-line}
-use Rattle.trace.specs.Texts.{joined}
+use Rattle.trace.specs.Texts.{outcomes, joined}
 use Rattle.listing.specs.Parts.{Printed, Moves}
 
 -- however a text is cut into parts, and whatever is listed when: what is printed is the listing of the whole
@@ -36,3 +37,8 @@ unfoldable pub End-moves : Type 0
 End-moves =
     (m : Memory) (g : Progress) (text : List ℕ) (room : ℕ) → Represents m g → ended text ≡ false → 18 ≤ room →
     Printed g text [] (last-line (next-number (m .place .lines)) text room)
+
+-- 'settings that were valid give the listings they gave': so does a trace whose settings lines all have an N that is judged alike where N may be up to
+-- another most, as every N up to a smaller most is, and every one above 262,144 (`Settings-stay`)
+unfoldable pub Listings-stay : Type 0
+Listings-stay = (most : ℕ) (text : List ℕ) → All-alike most (outcomes text) → listing-to most start text ≡ listing start text

@@ -8,7 +8,8 @@ use Rattle.device.specs.Refusal.{Outcome, accepted, refused}
 use Rattle.bound.specs.Totals.{bound-of}
 use Rattle.tracker.specs.declared.Position.{Position}
 use Rattle.tracker.specs.State.{State}
-use Rattle.tracker.specs.Calls.{SetUp-call, Activation-call, Refresh-call, set-up, activation-on, refresh-on}
+use Rattle.device.specs.Acceptance.{most-rows}
+use Rattle.tracker.specs.Calls.{SetUp-call, Activation-call, Refresh-call, set-up-to, activation-to, refresh-to}
 use Rattle.trace.specs.declared.Record.{Record}
 use Rattle.trace.specs.declared.Record.the-variants.{Set, Activate, Refresh, Blank}
 use Rattle.trace.specs.Output.{refusal-line}
@@ -67,28 +68,42 @@ refresh-step number s e call =
       tracker = some (record { settings = s; state = call .state });
     }
 
--- a record, by the tracker that stands; 11: '`A` or `R` while no tracker stands'. An event is lent a list of V places
-unfoldable pub record-step : ℕ → Option Tracker → Record → Step
-record-step number t (Set s) =
-    let call = set-up s (replicate (s .counters) 0) (replicate (s .counters) 0) in
+-- a record where N may be up to the most, by the tracker that stands; 11: '`A` or `R` while no tracker stands'. An event is lent a list of V places
+unfoldable pub record-step-to : ℕ → ℕ → Option Tracker → Record → Step
+record-step-to most number t (Set s) =
+    let call = set-up-to most s (replicate (s .counters) 0) (replicate (s .counters) 0) in
     set-up-step number s call (call .answer)
-record-step number none (Activate row) = refused-step number 11 none
-record-step number (some t) (Activate row) = activation-step number (t .settings) (activation-on (t .settings) (t .state) row)
-record-step number none Refresh = refused-step number 11 none
-record-step number (some t) Refresh =
+record-step-to most number none (Activate row) = refused-step number 11 none
+record-step-to most number (some t) (Activate row) =
+    activation-step number (t .settings) (activation-to most (t .settings) (t .state) row)
+record-step-to most number none Refresh = refused-step number 11 none
+record-step-to most number (some t) Refresh =
     refresh-step number (t .settings) (t .state .position .events)
-    (refresh-on (t .settings) (t .state) (replicate (t .settings .volume) 0))
-record-step number t Blank = record { prints = []; tracker = t }
+    (refresh-to most (t .settings) (t .state) (replicate (t .settings .volume) 0))
+record-step-to most number t Blank = record { prints = []; tracker = t }
 
 -- a line as it was read: its record or its refusal
-unfoldable pub line-step : ℕ → Option Tracker → Outcome Record → Step
-line-step number t (accepted r) = record-step number t r
-line-step number t (refused k) = refused-step number k t
+unfoldable pub line-step-to : ℕ → ℕ → Option Tracker → Outcome Record → Step
+line-step-to most number t (accepted r) = record-step-to most number t r
+line-step-to most number t (refused k) = refused-step number k t
 
 -- the next line, 'its line number from 1'
-unfoldable pub step : Progress → Outcome Record → Step
-step g o = line-step (suc (g .count)) (g .tracker) o
+unfoldable pub step-to : ℕ → Progress → Outcome Record → Step
+step-to most g o = line-step-to most (suc (g .count)) (g .tracker) o
 
 -- where the listing is behind that line
-unfoldable pub next : Progress → Outcome Record → Progress
-next g o = record { tracker = step g o .tracker; count = suc (g .count) }
+unfoldable pub next-to : ℕ → Progress → Outcome Record → Progress
+next-to most g o = record { tracker = step-to most g o .tracker; count = suc (g .count) }
+
+-- the same with N up to 262,144
+abbrev pub record-step : ℕ → Option Tracker → Record → Step
+record-step number t r = record-step-to most-rows number t r
+
+abbrev pub line-step : ℕ → Option Tracker → Outcome Record → Step
+line-step number t o = line-step-to most-rows number t o
+
+abbrev pub step : Progress → Outcome Record → Step
+step g o = step-to most-rows g o
+
+abbrev pub next : Progress → Outcome Record → Progress
+next g o = next-to most-rows g o

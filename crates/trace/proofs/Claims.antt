@@ -2,13 +2,13 @@
 use mathlib.Core.Path.{sym, ap, _∙_}
 use mathlib.Core.Option.{none}
 use lib.ListN.{drop-of-length-le}
-use Rattle.trace.specs.Claims.{Read-in-turn, Round-trip, Read-back, One-spelling, Rewritten-stays, Writer-spells, Written-stays, Before-sound}
+use Rattle.trace.specs.Claims.{Read-in-turn, Round-trip, Read-back, One-spelling, Rewritten-stays, Writer-spells, Written-stays, Before-sound, Writing-stays}
 use Rattle.trace.specs.Spelling.{spelling, unblank}
 use Rattle.trace.specs.Texts.{outcomes}
 use Rattle.trace.proofs.Texts.FirstLine.{outcomes-none, outcomes-turn}
 use Rattle.trace.proofs.Spelling.Readable.{outcomes-readable}
 use Rattle.trace.proofs.Spelling.Texts.{outcomes-spelling, unrefused-unblank, spelling-unblank}
-use Rattle.trace.proofs.Writing.{first-fault-before, first-faulty, before-fault-all, first-fault-unblank, faultless-readable, writing-fits, writing-accepted}
+use Rattle.trace.proofs.Writing.{first-fault-before, first-faulty, before-fault-all, first-fault-unblank, faultless-readable, writing-fits, writing-accepted, first-fault-alike, before-fault-alike, writing-alike}
 
 pub read-in-turn : Read-in-turn
 unfolding Read-in-turn
@@ -59,4 +59,12 @@ before-sound os = (
   λ h.
       let f = first-faulty none os h in
       record { answer = f .answer; others = f .others; behind = f .behind; faulty = f .faulty },
+)
+
+pub writing-stays : Writing-stays
+unfolding Writing-stays
+writing-stays most os all = (
+  λ text. writing-alike most os text all,
+  first-fault-alike most none os all,
+  before-fault-alike most none os all,
 )

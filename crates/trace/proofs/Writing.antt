@@ -2,7 +2,7 @@
 use mathlib.Core.Path.{_≡_, refl, sym, ap}
 use mathlib.Core.Bool.{true}
 use mathlib.Core.Logic.{⊎-elim}
-use mathlib.Core.List.{List, [], _∷_, _++_}
+use mathlib.Core.List.{List, [], _∷_, _++_, List·Memᴰ·head, List·Memᴰ·tail}
 use mathlib.Core.Option.{Option, none, some}
 use Prim.Native.Nat.{ℕ, zero, suc, _+_, _≤_, _<_}
 use native.Mathlib.Omega.{arith}
@@ -12,14 +12,15 @@ use lib.ListN.{length, take}
 use Rattle.device.specs.declared.Settings.{Settings}
 use Rattle.device.specs.Refusal.{Outcome, accepted, refused, unless, refuse, first-failed}
 use Rattle.device.specs.Acceptance.{most-rows}
-use Rattle.device.proofs.Acceptance.{Between, Accepted, accepted-settings}
+use Rattle.device.proofs.Acceptance.{Between, Accepted, accepted-settings, settings-alike}
 use Rattle.device.proofs.Refusal.{refuse-passed}
 use Rattle.laws.proofs.Cases.{split, clash, zero-one}
 use Rattle.trace.specs.declared.Record.{Record}
 use Rattle.trace.specs.declared.Record.the-variants.{Set, Activate, Refresh, Blank}
 use Rattle.trace.specs.Numbers.{written}
 use Rattle.trace.specs.Spelling.{settings-numbers, spelling, is-blank, unblank}
-use Rattle.trace.specs.Writing.{standing-behind, standing-after, row-fault, fault, first-fault, before-fault, room-fault, writing-fault, writing-by, writing}
+use Rattle.trace.specs.Writing.{standing-behind, standing-after, row-fault, fault-to, fault, first-fault-to, first-fault, before-fault-to, before-fault, room-fault, writing-fault-to, writing-by, writing-to, writing}
+use Rattle.trace.specs.Claims.{All-alike}
 use Rattle.trace.proofs.Output.{take-written}
 use Rattle.trace.proofs.Spelling.Numbers.{Narrow, no-number, one-more}
 use Rattle.trace.proofs.Spelling.Readable.{Readable, Readables, no-answer, one-answer-more, of-settings, of-activation, of-refresh, of-blank}
@@ -33,21 +34,21 @@ pub record Faulty-from (standing : Option ℕ) (os : List (Outcome Record)) : Ty
 -- the first answer has no fault, nor has any behind it
 first-fault-none : (standing : Option ℕ) (o : Outcome Record) (os : List (Outcome Record)) → first-fault standing (o ∷ os) ≡ 0
     → (fault standing o ≡ 0) × (first-fault (standing-behind standing o) os ≡ 0)
-unfolding first-fault
+unfolding first-fault-to
 first-fault-none standing o os e =
     split (eqb (fault standing o) 0)
     (λ q. (eqb-true (fault standing o) 0 q, rw q at e))
     (λ q. absurd (eqb-false (fault standing o) 0 q (rw q at e)))
 
 pub first-fault-before : (standing : Option ℕ) (os : List (Outcome Record)) → first-fault standing (before-fault standing os) ≡ 0
-unfolding first-fault before-fault
+unfolding first-fault-to before-fault-to
 first-fault-before standing [] = refl
 first-fault-before standing (o ∷ os) =
     split (eqb (fault standing o) 0) (λ q. rw (q, q) (first-fault-before (standing-behind standing o) os)) (λ q. rw q)
 
 -- a faulty one stands right behind those before it
 pub first-faulty : (standing : Option ℕ) (os : List (Outcome Record)) → (first-fault standing os ≡ 0 → ⊥) → Faulty-from standing os
-unfolding first-fault before-fault standing-after
+unfolding first-fault-to before-fault-to standing-after
 first-faulty standing [] h = absurd (h refl)
 first-faulty standing (o ∷ os) h =
     split (eqb (fault standing o) 0)
@@ -62,7 +63,7 @@ first-faulty standing (o ∷ os) h =
     (λ q. record { answer = o; others = os; behind = rw q; faulty = rw q })
 
 pub before-fault-all : (standing : Option ℕ) (os : List (Outcome Record)) → first-fault standing os ≡ 0 → before-fault standing os ≡ os
-unfolding before-fault
+unfolding before-fault-to
 before-fault-all standing [] e = refl
 before-fault-all standing (o ∷ os) e =
     let first = first-fault-none standing o os e in
@@ -94,7 +95,7 @@ row-fault-lt row no-settings e = absurd (omega arith)
 row-fault-lt row (some-settings {rows} h) e = omega (arith, ltb-true row rows (refuse-passed (ltb row rows) 8 0 e .0))
 
 answer-faultless : {standing : Option ℕ} (o : Outcome Record) → Standing standing → fault standing o ≡ 0 → Readable o × Standing (standing-behind standing o)
-unfolding fault standing-behind
+unfolding fault-to standing-behind
 answer-faultless (accepted (Set s)) h e =
     let all = accepted-settings s e in
     (of-settings (narrow-accepted s all), some-settings (all .others .rows .most))
@@ -120,7 +121,7 @@ room-fault-none (suc k) needed room e = absurd (omega arith)
 
 pub writing-whole : (os : List (Outcome Record)) (text : List ℕ) → first-fault none os ≡ 0 → length (spelling os) ≤ length text
     → writing os text ≡ record { answer = accepted (length (spelling os)); text = written text 0 (spelling os) }
-unfolding writing writing-fault room-fault writing-by first-failed unless refuse
+unfolding writing-to writing-fault-to room-fault writing-by first-failed unless refuse
 writing-whole os text e h = rw (e, le-leb _ _ h)
 
 pub writing-fits : (os : List (Outcome Record)) (text : List ℕ) → first-fault none os ≡ 0 → length (spelling os) ≤ length text
@@ -134,7 +135,7 @@ accepted-by (suc k) n bytes text e = zero-one (cc)
 
 pub writing-accepted : (os : List (Outcome Record)) (text : List ℕ) (n : ℕ) → writing os text .answer ≡ accepted n
     → (first-fault none os ≡ 0) × (length (spelling os) ≤ length text) × (n ≡ length (spelling os))
-unfolding writing writing-fault
+unfolding writing-to writing-fault-to
 writing-accepted os text n e =
     let passed = accepted-by _ n (spelling os) text e in
     let fits = room-fault-none (first-fault none os) (length (spelling os)) (length text) (passed .0) in
@@ -142,7 +143,7 @@ writing-accepted os text n e =
 
 -- blank answers have no fault and leave what stands
 blank-faultless : (standing : Option ℕ) (o : Outcome Record) → is-blank o ≡ true → (fault standing o ≡ 0) × (standing-behind standing o ≡ standing)
-unfolding is-blank fault standing-behind
+unfolding is-blank fault-to standing-behind
 blank-faultless standing (accepted (Set s)) h = clash (sym h)
 blank-faultless standing (accepted (Activate row)) h = clash (sym h)
 blank-faultless standing (accepted Refresh) h = clash (sym h)
@@ -150,7 +151,7 @@ blank-faultless standing (accepted Blank) h = (refl, refl)
 blank-faultless standing (refused k) h = clash (sym h)
 
 pub first-fault-unblank : (standing : Option ℕ) (os : List (Outcome Record)) → first-fault standing (unblank os) ≡ first-fault standing os
-unfolding first-fault unblank
+unfolding first-fault-to unblank
 first-fault-unblank standing [] = refl
 first-fault-unblank standing (o ∷ os) =
     split (is-blank o)
@@ -158,3 +159,28 @@ first-fault-unblank standing (o ∷ os) =
     let none = blank-faultless standing o b in
     rw (b, eq-eqb _ _ (none .0), none .1) (first-fault-unblank standing os))
     (λ b. rw (b, first-fault-unblank (standing-behind standing o) os))
+
+-- settings that are judged alike where N may be up to another most, there and here
+fault-alike : (most : ℕ) (standing : Option ℕ) (o : Outcome Record) (os : List (Outcome Record)) → All-alike most (o ∷ os) → fault-to most standing o ≡ fault standing o
+unfolding fault-to
+fault-alike most standing (accepted (Set s)) os all = ap first-failed (settings-alike most s (all s (List·Memᴰ·head refl)))
+fault-alike most standing (accepted (Activate row)) os all = refl
+fault-alike most standing (accepted Refresh) os all = refl
+fault-alike most standing (accepted Blank) os all = refl
+fault-alike most standing (refused k) os all = refl
+
+pub first-fault-alike : (most : ℕ) (standing : Option ℕ) (os : List (Outcome Record)) → All-alike most os → first-fault-to most standing os ≡ first-fault standing os
+unfolding first-fault-to
+first-fault-alike most standing [] all = refl
+first-fault-alike most standing (o ∷ os) all =
+    rw (fault-alike most standing o os all, first-fault-alike most (standing-behind standing o) os (λ s m. all s (List·Memᴰ·tail m)))
+
+pub before-fault-alike : (most : ℕ) (standing : Option ℕ) (os : List (Outcome Record)) → All-alike most os → before-fault-to most standing os ≡ before-fault standing os
+unfolding before-fault-to
+before-fault-alike most standing [] all = refl
+before-fault-alike most standing (o ∷ os) all =
+    rw (fault-alike most standing o os all, before-fault-alike most (standing-behind standing o) os (λ s m. all s (List·Memᴰ·tail m)))
+
+pub writing-alike : (most : ℕ) (os : List (Outcome Record)) (text : List ℕ) → All-alike most os → writing-to most os text ≡ writing os text
+unfolding writing-to writing-fault-to
+writing-alike most os text all = rw (first-fault-alike most none os all)

@@ -2,15 +2,18 @@
 use Prim.Native.Nat.{ℕ, _≤_, _<_}
 use mathlib.Core.Path.{_≡_}
 use mathlib.Core.Bool.{true}
-use mathlib.Core.List.{List, [], _∷_, _++_}
+use mathlib.Core.List.{List, [], _∷_, _++_, List·Memᴰ}
 use mathlib.Core.Option.{none}
 use lib.ListN.{length, take, drop}
+use Rattle.device.specs.declared.Settings.{Settings}
 use Rattle.device.specs.Refusal.{Outcome, accepted}
+use Rattle.device.specs.Claims.{Alike}
 use Rattle.trace.specs.declared.Record.{Record}
+use Rattle.trace.specs.declared.Record.the-variants.{Set}
 use Rattle.trace.specs.Reading.{reading}
 use Rattle.trace.specs.Texts.{outcomes}
 use Rattle.trace.specs.Spelling.{spelling, unblank, unrefused}
-use Rattle.trace.specs.Writing.{standing-after, fault, first-fault, before-fault, writing}
+use Rattle.trace.specs.Writing.{first-fault-to, before-fault-to, writing-to, standing-after, fault, first-fault, before-fault, writing}
 
 -- 'read line by line': what the reader says at a place, then what it says from the place behind that line on, until no byte is left
 unfoldable pub Read-in-turn : Type 0
@@ -71,3 +74,14 @@ Before-sound =
     (os : List (Outcome Record)) →
     (first-fault none (before-fault none os) ≡ 0) × (first-fault none os ≡ 0 → before-fault none os ≡ os) ×
     ((first-fault none os ≡ 0 → ⊥) → First-faulty os)
+
+-- every settings record among the answers has an N that is judged alike where N may be up to another most
+abbrev pub All-alike : ℕ → List (Outcome Record) → Type 0
+All-alike most os = (s : Settings) → List·Memᴰ (accepted (Set s)) os → Alike most s
+
+-- such answers are written as they would be there, and the same one is the first faulty
+unfoldable pub Writing-stays : Type 0
+Writing-stays =
+    (most : ℕ) (os : List (Outcome Record)) → All-alike most os →
+    ((text : List ℕ) → writing-to most os text ≡ writing os text) × (first-fault-to most none os ≡ first-fault none os) ×
+    (before-fault-to most none os ≡ before-fault none os)

@@ -6,7 +6,7 @@ use mathlib.Core.Option.{Option, none, some}
 use lib.Dec.{eqb, leb, ltb}
 use lib.ListN.{length}
 use Rattle.device.specs.Refusal.{Outcome, accepted, refused, unless, first-failed}
-use Rattle.device.specs.Acceptance.{settings-tests}
+use Rattle.device.specs.Acceptance.{most-rows, settings-tests-to}
 use Rattle.trace.specs.declared.Record.{Record}
 use Rattle.trace.specs.declared.Record.the-variants.{Set, Activate, Refresh, Blank}
 use Rattle.trace.specs.Numbers.{written}
@@ -35,23 +35,25 @@ unfoldable pub event-fault : Option ℕ → ℕ
 event-fault none = 11
 event-fault (some rows) = 0
 
--- the refusal that an answer earns, 0 for none: settings 1 to 7; 'a refusal among the records gets 11'
-unfoldable pub fault : Option ℕ → Outcome Record → ℕ
-fault standing (accepted (Set s)) = first-failed (settings-tests s)
-fault standing (accepted (Activate row)) = row-fault standing row
-fault standing (accepted Refresh) = event-fault standing
-fault standing (accepted Blank) = 0
-fault standing (refused k) = 11
+-- the refusal that an answer earns where N may be up to the most, 0 for none: settings 1 to 7; 'a refusal among the records gets 11'
+unfoldable pub fault-to : ℕ → Option ℕ → Outcome Record → ℕ
+fault-to most standing (accepted (Set s)) = first-failed (settings-tests-to most s)
+fault-to most standing (accepted (Activate row)) = row-fault standing row
+fault-to most standing (accepted Refresh) = event-fault standing
+fault-to most standing (accepted Blank) = 0
+fault-to most standing (refused k) = 11
 
 -- 'the first faulty record deciding'
-unfoldable pub first-fault : Option ℕ → List (Outcome Record) → ℕ
-first-fault standing [] = 0
-first-fault standing (o ∷ os) = cond (eqb (fault standing o) 0) (first-fault (standing-behind standing o) os) (fault standing o)
+unfoldable pub first-fault-to : ℕ → Option ℕ → List (Outcome Record) → ℕ
+first-fault-to most standing [] = 0
+first-fault-to most standing (o ∷ os) =
+    cond (eqb (fault-to most standing o) 0) (first-fault-to most (standing-behind standing o) os) (fault-to most standing o)
 
 -- the answers before the first faulty one
-unfoldable pub before-fault : Option ℕ → List (Outcome Record) → List (Outcome Record)
-before-fault standing [] = []
-before-fault standing (o ∷ os) = cond (eqb (fault standing o) 0) (o ∷ before-fault (standing-behind standing o) os) []
+unfoldable pub before-fault-to : ℕ → Option ℕ → List (Outcome Record) → List (Outcome Record)
+before-fault-to most standing [] = []
+before-fault-to most standing (o ∷ os) =
+    cond (eqb (fault-to most standing o) 0) (o ∷ before-fault-to most (standing-behind standing o) os) []
 
 -- '13, the lent text is too short for the whole .. It follows the refusals of the settings and rows being written'
 unfoldable pub room-fault : ℕ → ℕ → ℕ → ℕ
@@ -59,8 +61,8 @@ room-fault zero needed room = first-failed (unless (leb needed room) 13 ∷ [])
 room-fault (suc k) needed room = suc k
 
 -- what the whole list earns in a lent text of so many bytes
-unfoldable pub writing-fault : List (Outcome Record) → ℕ → ℕ
-writing-fault os room = room-fault (first-fault none os) (length (spelling os)) room
+unfoldable pub writing-fault-to : ℕ → List (Outcome Record) → ℕ → ℕ
+writing-fault-to most os room = room-fault (first-fault-to most none os) (length (spelling os)) room
 
 -- what the writer answers, and what it leaves in the lent text
 pub record Writing : Type 0 where
@@ -73,5 +75,21 @@ writing-by zero bytes text = record { answer = accepted (length bytes); text = w
 writing-by (suc k) bytes text = record { answer = refused (suc k); text = text }
 
 -- 'the writer', given the reader's answers and a lent text
-unfoldable pub writing : List (Outcome Record) → List ℕ → Writing
-writing os text = writing-by (writing-fault os (length text)) (spelling os) text
+unfoldable pub writing-to : ℕ → List (Outcome Record) → List ℕ → Writing
+writing-to most os text = writing-by (writing-fault-to most os (length text)) (spelling os) text
+
+-- the same with N up to 262,144
+abbrev pub fault : Option ℕ → Outcome Record → ℕ
+fault standing o = fault-to most-rows standing o
+
+abbrev pub first-fault : Option ℕ → List (Outcome Record) → ℕ
+first-fault standing os = first-fault-to most-rows standing os
+
+abbrev pub before-fault : Option ℕ → List (Outcome Record) → List (Outcome Record)
+before-fault standing os = before-fault-to most-rows standing os
+
+abbrev pub writing-fault : List (Outcome Record) → ℕ → ℕ
+writing-fault os room = writing-fault-to most-rows os room
+
+abbrev pub writing : List (Outcome Record) → List ℕ → Writing
+writing os text = writing-to most-rows os text

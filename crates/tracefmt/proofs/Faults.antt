@@ -12,7 +12,7 @@ use Rattle.laws.proofs.Cases.{split, clash}
 use Rattle.trace.specs.declared.Record.{Record}
 use Rattle.trace.specs.Texts.{outcomes}
 use Rattle.trace.specs.Spelling.{answer-spelling, spelling}
-use Rattle.trace.specs.Writing.{standing-behind, fault, first-fault, before-fault}
+use Rattle.trace.specs.Writing.{standing-behind, fault, first-fault-to, first-fault, before-fault-to, before-fault}
 use Rattle.tracefmt.specs.Rewriting.{Progress, next-by, next, writes, rewritten, passed, rewriting, after}
 
 -- a rewriting that stopped stays and writes nothing
@@ -78,7 +78,7 @@ unfolding writes
 writes-to g o e = rw e
 
 pub rewritten-before : (g : Progress) (os : List (Outcome Record)) → g .refusal ≡ 0 → rewritten g os ≡ spelling (before-fault (g .standing) os)
-unfolding rewritten spelling before-fault gone-on stopped-by
+unfolding rewritten spelling before-fault-to gone-on stopped-by
 rewritten-before g [] on = refl
 rewritten-before g (o ∷ os) on =
     split (eqb (fault (g .standing) o) 0)
@@ -91,7 +91,7 @@ rewritten-before g (o ∷ os) on =
 
 -- the refusal at the first faulty line, and the lines counted before it
 pub passed-fault : (g : Progress) (os : List (Outcome Record)) → g .refusal ≡ 0 → passed g os .refusal ≡ first-fault (g .standing) os
-unfolding passed first-fault gone-on stopped-by
+unfolding passed first-fault-to gone-on stopped-by
 passed-fault g [] on = on
 passed-fault g (o ∷ os) on =
     split (eqb (fault (g .standing) o) 0)
@@ -103,7 +103,7 @@ passed-fault g (o ∷ os) on =
 
 pub passed-count : (g : Progress) (os : List (Outcome Record)) → g .refusal ≡ 0 → eqb (first-fault (g .standing) os) 0 ≡ false
     → passed g os .count % 10000000000 ≡ (g .count + length (before-fault (g .standing) os)) % 10000000000
-unfolding passed first-fault before-fault gone-on stopped-by
+unfolding passed first-fault-to before-fault-to gone-on stopped-by
 passed-count g [] on h = clash h
 passed-count g (o ∷ os) on h =
     split (eqb (fault (g .standing) o) 0)

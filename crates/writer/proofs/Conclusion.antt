@@ -15,7 +15,7 @@ use Rattle.trace.specs.declared.Record.{Record}
 use Rattle.trace.specs.declared.Read.{Read}
 use Rattle.trace.specs.Numbers.{written}
 use Rattle.trace.specs.Spelling.{answer-spelling, spelling}
-use Rattle.trace.specs.Writing.{fault, standing-behind, first-fault, room-fault, writing-fault, writing-by, writing}
+use Rattle.trace.specs.Writing.{fault, standing-behind, first-fault-to, first-fault, room-fault, writing-fault-to, writing-by, writing-to, writing}
 use Rattle.trace.proofs.Writing.{writing-whole}
 use Rattle.writer.specs.declared.Survey.{Survey}
 use Rattle.spelling.proofs.StandingLaws.{standing-stood}
@@ -46,7 +46,7 @@ fault-stays (y ∷ ys) v k h = rw (fault-next y v k h) (fault-stays ys v k h)
 module _ (o : Outcome Record) (os : List (Outcome Record)) (v u w : Survey) (clear : fault (standing-of (standing-in v)) o ≡ 0)
     (stands : standing-of (standing-in u) ≡ standing-behind (standing-of (standing-in v)) o) (rest : Passed os u w) where
   faults-on : w .refusal ≡ first-fault (standing-of (standing-in v)) (o ∷ os)
-  unfolding first-fault
+  unfolding first-fault-to
   faults-on = rest .faults ∙ rw (stands, clear)
 
   passed-within : length (answer-spelling o) ≤ v .left → u .left ≡ v .left - length (answer-spelling o) → u .short ≡ v .short → Passed (o ∷ os) v w
@@ -75,7 +75,7 @@ module _ (o : Outcome Record) (os : List (Outcome Record)) (v u w : Survey) (cle
 
 passed-by : (m : ℕ) (o : Outcome Record) (os : List (Outcome Record)) (ys : List Read) (v : Survey) → fault (standing-of (standing-in v)) o ≡ m
     → ((u : Survey) → u .refusal ≡ 0 → Passed os u (surveys u ys)) → Passed (o ∷ os) v (surveys (surveyed-by m v o) ys)
-unfolding surveyed-by first-fault
+unfolding surveyed-by first-fault-to
 passed-by zero o os ys v e rest =
     let u = surveyed-by zero v o in
     let next = rest u refl in
@@ -91,7 +91,7 @@ passed-by (suc k) o os ys v e rest =
     })
 
 passed : (ys : List Read) (v : Survey) → v .refusal ≡ 0 → Passed (outcomes-of ys) v (surveys v ys)
-unfolding surveys outcomes-of outcome-of first-fault spelling
+unfolding surveys outcomes-of outcome-of first-fault-to spelling
 passed [] v h = record { faults = h; leaves = omega arith; fits = λ _ e. (e, omega arith); lacks = λ _ e f. clash (sym e ∙ f) }
 passed (y ∷ ys) v h = rw (clear-next y v h) (passed-by _ (outcome-of y) (outcomes-of ys) ys v refl (passed ys))
 
@@ -125,11 +125,11 @@ none-written text ys = refl
 -- the definition in the first two of these cases
 module _ (os : List (Outcome Record)) (text : List ℕ) where
   writing-fault-found : (k : ℕ) → first-fault none os ≡ suc k → writing os text ≡ record { answer = refused (suc k); text = text }
-  unfolding writing writing-fault room-fault writing-by
+  unfolding writing-to writing-fault-to room-fault writing-by
   writing-fault-found k h = rw h
 
   writing-short : first-fault none os ≡ 0 → length text < length (spelling os) → writing os text ≡ record { answer = refused 13; text = text }
-  unfolding writing writing-fault room-fault writing-by first-failed unless refuse
+  unfolding writing-to writing-fault-to room-fault writing-by first-failed unless refuse
   writing-short h l = rw (h, lt-leb _ _ l)
 
 module _ (ys : List Read) (text : List ℕ) where

@@ -10,21 +10,21 @@ use lib.ListN.{length}
 use Rattle.laws.proofs.Cases.{le-or-lt}
 use Rattle.trace.specs.Lines.{ended}
 use Rattle.trace.specs.Output.{refusal-line}
-use Rattle.listing.specs.Steps.{Progress, refused-step, line-step, step}
+use Rattle.listing.specs.Steps.{Progress, refused-step, line-step-to, step-to}
 use Rattle.trace.specs.Texts.{lines}
-use Rattle.listing.specs.Texts.{listed, listing}
+use Rattle.listing.specs.Texts.{listed-to, listing-to, listing}
 use Rattle.listing.specs.Memory.{Memory, Represents}
 use Rattle.listing.specs.Chunks.{next-number, last-line}
 use Rattle.trace.proofs.Output.{counted-on, refusal-alike, length-refusal-line}
 use Rattle.trace.proofs.Texts.FirstLine.{outcomes-none, outcomes-unended}
 
 none-listed : (g : Progress) (text : List ℕ) → length text ≡ 0 → listing g text ≡ []
-unfolding listing listed
+unfolding listing-to listed-to
 none-listed g [] e = rw outcomes-none
 none-listed g (b ∷ text) e = absurd (omega arith)
 
 unended-listing : (g : Progress) (b : ℕ) (text : List ℕ) → ended (b ∷ text) ≡ false → listing g (b ∷ text) ≡ refusal-line (suc (g .count)) 11
-unfolding listing listed step line-step refused-step
+unfolding listing-to listed-to step-to line-step-to refused-step
 unended-listing g b text e = rw (outcomes-unended b text e, append-nil)
 
 -- what the end of a trace prints, by what is left of it and by the room

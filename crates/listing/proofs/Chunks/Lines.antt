@@ -17,7 +17,7 @@ use Rattle.trace.specs.Reading.{reading, reading-by}
 use Rattle.trace.specs.Output.{Prints}
 use Rattle.listing.specs.Steps.{Progress}
 use Rattle.trace.specs.Texts.{whole, read, outcomes, lines}
-use Rattle.listing.specs.Texts.{listed, passed, listing, after}
+use Rattle.listing.specs.Texts.{listed-to, passed, listing-to, listing, after}
 use Rattle.listing.specs.Memory.{Memory, tracker-of, Represents}
 use Rattle.listing.specs.Chunks.{next-number, step-in, Going, gone, takes, going, part}
 use Rattle.trace.proofs.Texts.FirstLine.{lines-front, extent-within, ended-first, read-front}
@@ -36,7 +36,7 @@ pub record Taken (g : Progress) (text buffer : List ℕ) (q : Going) : Type 0 wh
   pub spent : q .end ≤ 55 * q .taken
 
 taken-start : {m : Memory} {g : Progress} (text buffer : List ℕ) → Represents m g → Taken g text buffer (record { memory = m; taken = 0; buffer = buffer; end = 0 })
-unfolding whole listing after outcomes lines listed passed
+unfolding whole listing-to after outcomes lines listed-to passed
 taken-start text buffer r =
     record {
       within = omega arith;

@@ -12,7 +12,7 @@ use Rattle.tracker.specs.Calls.{set-up}
 use Rattle.limit.proofs.Reachable.{reached-set-up, reached-activation, reached-refresh}
 use Rattle.trace.specs.declared.Record.{Record}
 use Rattle.trace.specs.declared.Record.the-variants.{Set, Activate, Refresh, Blank}
-use Rattle.listing.specs.Steps.{Tracker, Progress, start, Step, refused-step, set-up-step, activation-step, refresh-step, record-step, line-step, step, next}
+use Rattle.listing.specs.Steps.{Tracker, Progress, start, Step, refused-step, set-up-step, activation-step, refresh-step, record-step-to, line-step-to, line-step, step-to, step, next-to, next}
 use Rattle.listing.specs.Memory.{Memory, memory, start-place, tracker-of, stored, Running, Ready, Represents}
 use Rattle.listing.specs.Chunks.{next-number, step-in, next-in}
 use Rattle.trace.proofs.Output.{counted-on}
@@ -31,7 +31,7 @@ stored-lines none lines m = refl
 stored-lines (some t) lines m = refl
 
 running-step : (number : ℕ) (t : Option Tracker) (o : Outcome Record) → Running t → Running (line-step number t o .tracker)
-unfolding Running line-step record-step refused-step activation-step refresh-step
+unfolding Running line-step-to record-step-to refused-step activation-step refresh-step
 running-step number t (refused k) r = r
 running-step number t (accepted (Set s)) r = set-up-runs number s (replicate (s .counters) 0) (replicate (s .counters) 0) _ refl
 running-step number none (accepted (Activate row)) r = tt
@@ -42,7 +42,7 @@ running-step number t (accepted Blank) r = r
 
 module _ {m : Memory} {g : Progress} (h : Represents m g) (o : Outcome Record) where
   pub step-represented : step-in m o ≡ step g o
-  unfolding step step-in next-number
+  unfolding step-to step-in next-number
   step-represented =
       line-alike (m .place .lines % 10000000000 + 1) (suc (g .count)) (counted-on (m .place .lines) (g .count) (h .lines)) (tracker-of m) o ∙
       ap (λ (t : Option Tracker). line-step (suc (g .count)) t o) (sym (h .tracker))
@@ -52,7 +52,7 @@ module _ {m : Memory} {g : Progress} (h : Represents m g) (o : Outcome Record) w
   step-running = running-step (next-number (m .place .lines)) (tracker-of m) o (h .ready .running)
 
   pub represents-next : Represents (next-in m o) (next g o)
-  unfolding next next-in next-number
+  unfolding next-to next-in next-number
   represents-next =
       let t = step-in m o .tracker in
       record {

@@ -24,7 +24,7 @@ use Rattle.trace.specs.Reading.{reading, reading-by, or-refused}
 use Rattle.trace.proofs.Numbers.Printed.{length-printed}
 use Rattle.laws.proofs.Cases.{split, clash}
 use Rattle.listing.specs.Output.{bound-line, refresh-line}
-use Rattle.listing.specs.Steps.{Tracker, refused-step, set-up-step, answered, activation-step, refresh-step, record-step, line-step}
+use Rattle.listing.specs.Steps.{Tracker, refused-step, set-up-step, answered, activation-step, refresh-step, record-step-to, line-step-to, line-step}
 use Rattle.trace.specs.Texts.{read}
 use Rattle.listing.specs.Memory.{Running}
 use Rattle.listing.proofs.Steps.ReachedCalls.{event-is, names-few}
@@ -56,7 +56,7 @@ names-most {s} {st} r e =
     (omega (arith, length-refresh-line e (picked (s .volume) (summary-of st)), names-few s st, volume-most r))
 
 pub length-step-le : (number : ℕ) (t : Option Tracker) (o : Outcome Record) → Running t → length (line-step number t o .prints) ≤ 110
-unfolding Running line-step record-step refused-step activation-step refresh-step
+unfolding Running line-step-to record-step-to refused-step activation-step refresh-step
 length-step-le number t (refused k) r = omega (arith, length-refusal-line number k)
 length-step-le number t (accepted (Set s)) r = set-up-most number s _ _
 length-step-le number none (accepted (Activate row)) r = omega (arith, length-refusal-line number 11)
@@ -73,7 +73,7 @@ blank-read (b ∷ []) e h = split (eqb b 10) (λ ten. let same : b ≡ 10 = eqb-
 blank-read (b ∷ c ∷ cs) e h = absurd (omega arith)
 
 pub length-step-line : (number : ℕ) (t : Option Tracker) (line : List ℕ) → ended line ≡ true → Running t → length (line-step number t (read line) .prints) ≤ 55 * length line
-unfolding line-step record-step ended
+unfolding line-step-to record-step-to ended
 length-step-line number t [] e r = clash (sym e)
 length-step-line number t (b ∷ []) e r = rw (blank-read (b ∷ []) e refl) (omega arith)
 length-step-line number t (b ∷ c ∷ cs) e r = omega (arith, length-step-le number t (read (b ∷ c ∷ cs)) r)

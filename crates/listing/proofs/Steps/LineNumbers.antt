@@ -15,7 +15,7 @@ use Rattle.tracker.proofs.Calls.Tests.{set-up-tested}
 use Rattle.trace.specs.declared.Record.{Record}
 use Rattle.trace.specs.declared.Record.the-variants.{Set, Activate, Refresh, Blank}
 use Rattle.trace.proofs.Output.{refusal-alike}
-use Rattle.listing.specs.Steps.{Tracker, refused-step, set-up-step, answered, activation-step, refresh-step, record-step, line-step}
+use Rattle.listing.specs.Steps.{Tracker, refused-step, set-up-step, answered, activation-step, refresh-step, record-step-to, record-step, line-step-to, line-step}
 
 module _ (n m : ℕ) (e : n % 10000000000 ≡ m % 10000000000) where
   answered-alike : (k : ℕ) (text : List ℕ) → answered n k text ≡ answered m k text
@@ -33,7 +33,7 @@ module _ (n m : ℕ) (e : n % 10000000000 ≡ m % 10000000000) where
   set-up-step-alike s call (refused k) = refused-alike k none
 
   record-alike : (t : Option Tracker) (r : Record) → record-step n t r ≡ record-step m t r
-  unfolding record-step activation-step refresh-step
+  unfolding record-step-to activation-step refresh-step
   record-alike t (Set s) =
       let call = set-up s (replicate (s .counters) 0) (replicate (s .counters) 0) in
       set-up-step-alike s call (call .answer)
@@ -46,7 +46,7 @@ module _ (n m : ℕ) (e : n % 10000000000 ≡ m % 10000000000) where
 
   -- any line
   pub line-alike : (t : Option Tracker) (o : Outcome Record) → line-step n t o ≡ line-step m t o
-  unfolding line-step
+  unfolding line-step-to
   line-alike t (accepted r) = record-alike t r
   line-alike t (refused k) = refused-alike k t
 

@@ -12,7 +12,7 @@ use Rattle.device.specs.Refusal.{first-failed, refuse}
 use Rattle.summary.specs.Steps.{picked}
 use Rattle.summary.proofs.Entries.Picks.{length-picks-le}
 use Rattle.tracker.specs.State.{State, summary-of}
-use Rattle.tracker.specs.Calls.{kept-unless, activation-tests, refresh-tests, activation-on, refresh-on}
+use Rattle.tracker.specs.Calls.{kept-unless, activation-tests, refresh-tests, activation-on, refresh-to, refresh-on}
 use Rattle.tracker.proofs.Calls.Outcomes.{activation-refused}
 use Rattle.limit.specs.Reachable.{Reached}
 use Rattle.limit.proofs.Reachable.{activation-refused-with, refresh-refused-with}
@@ -48,7 +48,7 @@ pub record Event (s : Settings) (st : State) (picks : List ℕ) : Type 0 where
 
 module _ {s : Settings} {st : State} (r : Reached s st) where
   pub event-is : (picks : List ℕ) → s .volume ≤ length picks → Event s st picks
-  unfolding refresh-on kept-unless
+  unfolding refresh-to kept-unless
   event-is picks h =
       let none = event-accepted r picks h in
       let named = picked (s .volume) (summary-of st) in
@@ -60,7 +60,7 @@ module _ {s : Settings} {st : State} (r : Reached s st) where
 
   -- what the lent list held does not matter to the state
   pub event-leaves : (picks picks′ : List ℕ) → s .volume ≤ length picks → s .volume ≤ length picks′ → refresh-on s st picks .state ≡ refresh-on s st picks′ .state
-  unfolding refresh-on kept-unless
+  unfolding refresh-to kept-unless
   event-leaves picks picks′ h h′ = rw (event-accepted r picks h, event-accepted r picks′ h′)
 
   -- nor to the rows that it names

@@ -11,16 +11,16 @@ use Rattle.device.specs.Acceptance.{settings-tests}
 use Rattle.device.proofs.Refusal.{or-later}
 use Rattle.bound.specs.Totals.{bound-of}
 use Rattle.bound.specs.declared.Answer.{Answer}
-use Rattle.bound.specs.Answers.{outcome, bound-answer}
+use Rattle.bound.specs.Answers.{outcome, bound-answer-to, bound-answer}
 use Rattle.summary.specs.Steps.{empty}
 use Rattle.tracker.specs.declared.Position.{Position}
 use Rattle.tracker.specs.declared.SetUp.{SetUp}
 use Rattle.tracker.specs.State.{state-of}
-use Rattle.tracker.specs.Calls.{SetUp-call, kept-unless, set-up-tests, set-up}
+use Rattle.tracker.specs.Calls.{SetUp-call, kept-unless, set-up-tests, set-up-to, set-up}
 use Rattle.tracker.specs.Answers.{given, set-up-call}
 use Rattle.trace.specs.declared.Record.the-variants.{Set}
 use Rattle.trace.specs.Output.{Prints}
-use Rattle.listing.specs.Steps.{Tracker, refused-step, set-up-step, record-step}
+use Rattle.listing.specs.Steps.{Tracker, refused-step, set-up-step, record-step-to, record-step}
 use Rattle.listing.specs.Memory.{tracker-in}
 use Rattle.listing.specs.Contracts.{settings-line}
 use Rattle.listing.proofs.Steps.LineNumbers.{set-up-first}
@@ -35,7 +35,7 @@ prints-by number s call p zero = refl
 prints-by number s call p (suc k) = refl
 
 settings-print : (number : ℕ) (s : Settings) (t : Option Tracker) → record-step number t (Set s) .prints ≡ settings-line number (bound-answer s)
-unfolding record-step set-up bound-answer
+unfolding record-step-to set-up-to bound-answer-to
 settings-print number s t =
     rw (cleared-first s) (prints-by number s _ (state-of s 0 0 empty .position) (first-failed (settings-tests s)))
 
@@ -46,13 +46,13 @@ refused-by number s call p (suc k) h = refl
 
 -- 'after an S line .. whose settings are refused no tracker stands'
 pub settings-refused : (number : ℕ) (s : Settings) (t : Option Tracker) → (first-failed (settings-tests s) ≡ 0 → ⊥) → record-step number t (Set s) .tracker ≡ none
-unfolding record-step set-up
+unfolding record-step-to set-up-to
 settings-refused number s t h =
     rw (cleared-first s) (refused-by number s _ (state-of s 0 0 empty .position) (first-failed (settings-tests s)) h)
 
 -- 'an accepted S sets up afresh'
 pub settings-stand : (number : ℕ) (s : Settings) (t : Option Tracker) (r : SetUp) (rows counts rows′ counts′ : List ℕ) → first-failed (settings-tests s) ≡ 0 → s .counters ≤ length rows → s .counters ≤ length counts → set-up-call r rows′ counts′ ≡ set-up s (take (s .counters) rows) (take (s .counters) counts) → record-step number t (Set s) .tracker ≡ tracker-in s rows′ counts′ (record { events = 0; activations = 0; tracked = 0; spillover = 0 })
-unfolding record-step set-up-step set-up set-up-call tested kept-unless tracker-in given or-later state-of empty
+unfolding record-step-to set-up-step set-up-to set-up-call tested kept-unless tracker-in given or-later state-of empty
 settings-stand number s t r rows counts rows′ counts′ e hr hc call =
     let c : ℕ = s .counters in
     let first = set-up-first s (take c rows) (take c counts) (length-take-le c rows hr) (length-take-le c counts hc) in

@@ -1,28 +1,28 @@
 -- `spelling::fault` meets its contract: by the answer and its record.
 use borrow.Author.Needs.{needs}
 use Rattle.trace.specs.Reading.{said}
-use Rattle.trace.specs.Writing.{fault}
+use Rattle.trace.specs.Writing.{fault-to, fault}
 use Rattle.spelling.proofs.fault.Statement.{statement}
 use Rattle.spelling.proofs.fault.Tie as tie
 
 returns : tie.Need-returns
-unfolding fault said
+unfolding fault-to said
 returns c = rw (c .before .before .before .before .before .answer .given .1, c .before .before .«record» .given .1) (c .settings-refusal .ensures)
 
 returns-2 : tie.Need-returns-2
-unfolding fault said
+unfolding fault-to said
 returns-2 c = rw (c .before .before .before .before .before .answer .given .1, c .before .before .record2 .given .1) (c .row-fault .ensures)
 
 returns-3 : tie.Need-returns-3
-unfolding fault said
+unfolding fault-to said
 returns-3 c = rw (c .before .before .before .before .answer .given .1, c .before .enum-told .given .1) (c .event-fault .ensures)
 
 returns-4 : tie.Need-returns-4
-unfolding fault said
+unfolding fault-to said
 returns-4 c = rw (c .before .before .before .answer .given .1, c .enum-told2 .given .1)
 
 returns-5 : tie.Need-returns-5
-unfolding fault said
+unfolding fault-to said
 returns-5 c = rw (c .enum-told3 .given .1)
 
 pub fault-spec : {M : Type 1} → statement M

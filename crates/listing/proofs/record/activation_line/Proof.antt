@@ -1,6 +1,6 @@
 -- `listing::record::activation_line` meets its contract.
 use borrow.Author.Needs.{needs}
-use Rattle.listing.specs.Steps.{record-step, refused-step}
+use Rattle.listing.specs.Steps.{record-step-to, refused-step}
 use Rattle.listing.specs.Memory.{memory, tracker-in}
 use Rattle.listing.proofs.Memory.Tracker.{tracker-active, tracker-inactive, reached-active, counters-le, leaves-moved, leaves-unmoved}
 use Rattle.listing.proofs.record.activation_line.Statement.{statement}
@@ -13,7 +13,7 @@ front-activation-requires c κs =
     (r, a .pre .1, counters-le (a .args .rows .now) r (a .pre .0 .rows-long), counters-le (a .args .counts .now) r (a .pre .0 .counts-long))
 
 returns : tie.Need-returns
-unfolding record-step tracker-in
+unfolding record-step-to tracker-in
 returns c =
     let a = c .before .before .before .before .before .before .before .before .before .before .before .before .before .before .before .before .before .before in
     let e = c .before .before .before .before .before .before .before .before .before .before .before .before .before .if1 .taken in
@@ -22,7 +22,7 @@ returns c =
     (leaves-moved (a .args .p) (c .at-line .result) (a .args .rows .now) (a .args .counts .now) (a .args .line) (f .last .1 .0) (f .last .1 .1 .0) (f .result .position) (c .at-line .ensures) e (f .ensures .0) (f .ensures .1))
 
 returns-2 : tie.Need-returns-2
-unfolding record-step refused-step
+unfolding record-step-to refused-step
 returns-2 c =
     let if1 = c .before .before .before .before .before .if1 in
     let a = c .before .before .before .before .before .before .before .before .before .before in

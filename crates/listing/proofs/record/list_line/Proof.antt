@@ -1,14 +1,14 @@
 -- `listing::record::list_line` meets its contract: by the reader's answer.
 use borrow.Author.Needs.{needs}
 use Rattle.trace.specs.Reading.{said}
-use Rattle.listing.specs.Steps.{line-step, refused-step}
+use Rattle.listing.specs.Steps.{line-step-to, refused-step}
 use Rattle.listing.specs.Chunks.{next-number, step-in}
 use Rattle.listing.proofs.Memory.Tracker.{leaves-unmoved}
 use Rattle.listing.proofs.record.list_line.Statement.{statement}
 use Rattle.listing.proofs.record.list_line.Tie as tie
 
 returns : tie.Need-returns
-unfolding said step-in line-step refused-step next-number
+unfolding said step-in line-step-to refused-step next-number
 returns c =
     let enum-told = c .before .before .before .before .before .before .enum-told in
     let a = c .before .before .before .before .before .before .before .before .before .before .before .before in
@@ -16,7 +16,7 @@ returns c =
     (leaves-unmoved (a .args .p) (c .at-line .result) (a .args .rows .now) (a .args .counts .now) _ _ (c .at-line .ensures) (c .before .before .before .print-refusal .ensures))
 
 returns-2 : tie.Need-returns-2
-unfolding said step-in line-step next-number
+unfolding said step-in line-step-to next-number
 returns-2 c =
     let answer = c .before .before .before .before .before .before .before .before .before .before .before .answer in
     let list-record = c .before .before .before .before .before .before .list-record in

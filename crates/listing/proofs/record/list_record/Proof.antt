@@ -1,14 +1,14 @@
 -- `listing::record::list_record` meets its contract: by the case of the record.
 use native.Mathlib.Omega.{arith}
 use borrow.Author.Needs.{needs}
-use Rattle.listing.specs.Steps.{record-step}
+use Rattle.listing.specs.Steps.{record-step-to}
 use Rattle.trace.proofs.Output.{prints-nothing}
 use Rattle.listing.proofs.Memory.Tracker.{leaves-unmoved}
 use Rattle.listing.proofs.record.list_record.Statement.{statement}
 use Rattle.listing.proofs.record.list_record.Tie as tie
 
 returns : tie.Need-returns
-unfolding record-step
+unfolding record-step-to
 returns c =
     let what = c .before .before .before .before .before .before .before .before .before .before .before .what in
     let list-settings = c .before .before .before .before .before .before .list-settings in
@@ -27,7 +27,7 @@ returns-3 c =
     rw (enum-told .given .1) (event-line .ensures)
 
 returns-4 : tie.Need-returns-4
-unfolding record-step
+unfolding record-step-to
 returns-4 c =
     let a = c .before .before .before .before .before .before .before in
     rw (c .before .enum-told2 .given .1)

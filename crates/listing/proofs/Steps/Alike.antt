@@ -1,0 +1,63 @@
+-- Lines of settings whose N is judged alike where it may be up to another most: each does the same there and here.
+use mathlib.Core.Path.{_≡_, refl, ap}
+use mathlib.Core.List.{List, [], _∷_, _++_, List·Memᴰ·head, List·Memᴰ·tail}
+use mathlib.Core.Option.{Option, none, some}
+use Prim.Native.Nat.{ℕ, suc}
+use lib.ListN.{replicate}
+use Rattle.device.specs.declared.Settings.{Settings}
+use Rattle.device.specs.Claims.{Alike}
+use Rattle.device.specs.Refusal.{Outcome, accepted, refused}
+use Rattle.tracker.specs.declared.Position.{Position}
+use Rattle.tracker.specs.Calls.{SetUp-call, Activation-call, Refresh-call}
+use Rattle.tracker.specs.Claims.{Calls-stay}
+use Rattle.tracker.proofs.Claims.{calls-stay}
+use Rattle.trace.specs.declared.Record.{Record}
+use Rattle.trace.specs.declared.Record.the-variants.{Set, Activate, Refresh, Blank}
+use Rattle.trace.specs.Claims.{All-alike}
+use Rattle.listing.specs.Steps.{Tracker, Progress, refused-step, set-up-step, activation-step, refresh-step, record-step-to, line-step-to, step-to, next-to, line-step, next}
+use Rattle.listing.specs.Texts.{listed-to, listed}
+
+-- the settings of a tracker that stands
+unfoldable pub Standing-alike : ℕ → Option Tracker → Type 0
+Standing-alike most none = Unit {0}
+Standing-alike most (some t) = Alike most (t .settings)
+
+line-same : (most number : ℕ) (t : Option Tracker) (o : Outcome Record) (os : List (Outcome Record)) → Standing-alike most t → All-alike most (o ∷ os) → line-step-to most number t o ≡ line-step number t o
+unfolding Standing-alike line-step-to record-step-to Calls-stay
+line-same most number t (refused k) os h all = refl
+line-same most number t (accepted (Set s)) os h all =
+    ap (λ (call : SetUp-call). set-up-step number s call (call .answer))
+    (calls-stay most s (all s (List·Memᴰ·head refl)) .same-set-up (replicate (s .counters) 0) (replicate (s .counters) 0))
+line-same most number none (accepted (Activate row)) os h all = refl
+line-same most number (some t) (accepted (Activate row)) os h all =
+    ap (λ (call : Activation-call). activation-step number (t .settings) call) (calls-stay most (t .settings) h .same-activation (t .state) row)
+line-same most number none (accepted Refresh) os h all = refl
+line-same most number (some t) (accepted Refresh) os h all =
+    ap (λ (call : Refresh-call). refresh-step number (t .settings) (t .state .position .events) call)
+    (calls-stay most (t .settings) h .same-refresh (t .state) (replicate (t .settings .volume) 0))
+line-same most number t (accepted Blank) os h all = refl
+
+set-up-alike : (most number : ℕ) (s : Settings) (call : SetUp-call) (answer : Outcome Position) → Alike most s → Standing-alike most (set-up-step number s call answer .tracker)
+unfolding Standing-alike set-up-step refused-step
+set-up-alike most number s call (accepted p) h = h
+set-up-alike most number s call (refused k) h = tt
+
+line-alike : (most number : ℕ) (t : Option Tracker) (o : Outcome Record) (os : List (Outcome Record)) → Standing-alike most t → All-alike most (o ∷ os) → Standing-alike most (line-step number t o .tracker)
+unfolding Standing-alike line-step-to record-step-to refused-step activation-step refresh-step
+line-alike most number t (refused k) os h all = h
+line-alike most number t (accepted (Set s)) os h all = set-up-alike most number s _ _ (all s (List·Memᴰ·head refl))
+line-alike most number none (accepted (Activate row)) os h all = tt
+line-alike most number (some t) (accepted (Activate row)) os h all = h
+line-alike most number none (accepted Refresh) os h all = tt
+line-alike most number (some t) (accepted Refresh) os h all = h
+line-alike most number t (accepted Blank) os h all = h
+
+pub listed-alike : (most : ℕ) (g : Progress) (os : List (Outcome Record)) → Standing-alike most (g .tracker) → All-alike most os → listed-to most g os ≡ listed g os
+unfolding listed-to step-to next-to
+listed-alike most g [] h all = refl
+listed-alike most g (o ∷ os) h all =
+    let number : ℕ = suc (g .count) in
+    rw (
+      line-same most number (g .tracker) o os h all,
+      listed-alike most (next g o) os (line-alike most number (g .tracker) o os h all) (λ s m. all s (List·Memᴰ·tail m)),
+    )
