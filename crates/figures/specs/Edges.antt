@@ -1,5 +1,5 @@
--- Edges of the tracker's calls, those of 'Edge figures' that bear no * among them and those of subarrays: what follows by hand, and what the
--- definitions give.
+-- Edges of the tracker's calls, those of 'Edge figures' that bear no * among them, those of subarrays and those of large banks: what follows by hand,
+-- and what the definitions give.
 use Prim.Native.Nat.{ℕ}
 use mathlib.Core.Bool.{Bool, cond}
 use mathlib.Core.List.{List, [], _∷_, _++_}
@@ -134,9 +134,9 @@ across = settings-of 1024 4 1 6 4 342 3
 unfoldable pub behind-all : Settings
 behind-all = settings-of 1024 4 1 4 4 66 16
 
--- one row tracked, with a count of 5, after 64 events
-unfoldable pub tracks-one : ℕ → State
-tracks-one row = state-of behind-all 64 0 (record { entries = record { row = row; count = 5 } ∷ []; spillover = 0 })
+-- one row tracked, with a count of 5, after so many events
+unfoldable pub tracks-one : Settings → ℕ → ℕ → State
+tracks-one s e row = state-of s e 0 (record { entries = record { row = row; count = 5 } ∷ []; spillover = 0 })
 
 -- 'disturbance does not cross': rows 511, 510, 512 and 513, of which bus rows 510 and 511 are the first two; 'banks of 512 rows or fewer see no
 -- difference'; a last subarray of 16 rows; a block across the edge; rows 511 and 512 picked
@@ -152,9 +152,39 @@ subarray-edges =
     wide-figure 528 4 512 (0 ∷ 513 ∷ 514 ∷ 0 ∷ 0 ∷ 1 ∷ 1 ∷ 0 ∷ 0 ∷ 0 ∷ 1 ∷ 2 ∷ 0 ∷ []) ∷
     wide-figure 528 4 526 (0 ∷ 525 ∷ 526 ∷ 0 ∷ 0 ∷ 1 ∷ 1 ∷ 0 ∷ 0 ∷ 0 ∷ 1 ∷ 2 ∷ 0 ∷ []) ∷
     event-figure across (fresh across 170) (0 ∷ 0 ∷ 7 ∷ 7 ∷ 508 ∷ 509 ∷ 510 ∷ 511 ∷ 513 ∷ 514 ∷ 1 ∷ 2 ∷ 1 ∷ 1 ∷ 1 ∷ 1 ∷ 171 ∷ 0 ∷ 6 ∷ 0 ∷ []) ∷
-    event-figure behind-all (tracks-one 511) (0 ∷ 1 ∷ 511 ∷ 7 ∷ 509 ∷ 510 ∷ 0 ∷ 0 ∷ 1 ∷ 1 ∷ 0 ∷ 0 ∷ 65 ∷ 0 ∷ 2 ∷ 0 ∷ []) ∷
-    event-figure behind-all (tracks-one 512) (0 ∷ 1 ∷ 512 ∷ 7 ∷ 513 ∷ 514 ∷ 0 ∷ 0 ∷ 1 ∷ 1 ∷ 0 ∷ 0 ∷ 65 ∷ 0 ∷ 2 ∷ 0 ∷ []) ∷ []
+    event-figure behind-all (tracks-one behind-all 64 511) (0 ∷ 1 ∷ 511 ∷ 7 ∷ 509 ∷ 510 ∷ 0 ∷ 0 ∷ 1 ∷ 1 ∷ 0 ∷ 0 ∷ 65 ∷ 0 ∷ 2 ∷ 0 ∷ []) ∷
+    event-figure behind-all (tracks-one behind-all 64 512) (0 ∷ 1 ∷ 512 ∷ 7 ∷ 513 ∷ 514 ∷ 0 ∷ 0 ∷ 1 ∷ 1 ∷ 0 ∷ 0 ∷ 65 ∷ 0 ∷ 2 ∷ 0 ∷ []) ∷ []
+
+-- the settings N B 1 C 4 n 64, for banks of more than 65,536 rows
+unfoldable pub large : ℕ → ℕ → ℕ → ℕ → Settings
+large rows b c n = settings-of rows b 1 c 4 n 64
+
+-- a first activation in such a bank
+unfoldable pub large-figure : ℕ → ℕ → List ℕ → Figure
+large-figure rows row given = activation-figure (large rows 4 4 4096) (fresh (large rows 4 4 4096) 0) row given
+
+-- 'any multiple of 16 up to 262,144', and P × n at N and below it; the last two rows and one more; the rows at an edge of subarrays that 16 bits end at; the
+-- last row and one more behind it; the last row picked where the block is empty
+unfoldable pub large-edges : List Figure
+large-edges =
+    set-up-figure (large 65552 2 2 4096) (0 ∷ 0 ∷ 0 ∷ 0 ∷ 0 ∷ []) ∷
+    set-up-figure (large 131072 2 2 4096) (0 ∷ 0 ∷ 0 ∷ 0 ∷ 0 ∷ []) ∷
+    set-up-figure (large 262128 2 2 4096) (0 ∷ 0 ∷ 0 ∷ 0 ∷ 0 ∷ []) ∷
+    set-up-figure (large 262144 2 2 4096) (0 ∷ 0 ∷ 0 ∷ 0 ∷ 0 ∷ []) ∷
+    set-up-figure (large 262144 2 2 4095) (7 ∷ 7 ∷ 7 ∷ 7 ∷ 7 ∷ []) ∷
+    set-up-figure (large 262145 2 2 8192) (1 ∷ 7 ∷ 7 ∷ 7 ∷ 7 ∷ []) ∷
+    set-up-figure (large 262160 2 2 8192) (1 ∷ 7 ∷ 7 ∷ 7 ∷ 7 ∷ []) ∷
+    large-figure 262144 262142 (0 ∷ 262141 ∷ 262142 ∷ 0 ∷ 0 ∷ 1 ∷ 1 ∷ 0 ∷ 0 ∷ 0 ∷ 1 ∷ 2 ∷ 0 ∷ []) ∷
+    large-figure 262144 262143 (0 ∷ 262140 ∷ 262141 ∷ 262143 ∷ 0 ∷ 1 ∷ 1 ∷ 1 ∷ 0 ∷ 0 ∷ 1 ∷ 3 ∷ 0 ∷ []) ∷
+    large-figure 262144 262144 (9 ∷ 0 ∷ 0 ∷ 0 ∷ 0 ∷ 0 ∷ 0 ∷ 0 ∷ 0 ∷ 0 ∷ 0 ∷ 0 ∷ 0 ∷ []) ∷
+    large-figure 65552 65534 (0 ∷ 65533 ∷ 65534 ∷ 0 ∷ 0 ∷ 1 ∷ 1 ∷ 0 ∷ 0 ∷ 0 ∷ 1 ∷ 2 ∷ 0 ∷ []) ∷
+    large-figure 65552 65535 (0 ∷ 65532 ∷ 65533 ∷ 65535 ∷ 0 ∷ 1 ∷ 1 ∷ 1 ∷ 0 ∷ 0 ∷ 1 ∷ 3 ∷ 0 ∷ []) ∷
+    large-figure 65552 65536 (0 ∷ 65537 ∷ 65538 ∷ 0 ∷ 0 ∷ 1 ∷ 1 ∷ 0 ∷ 0 ∷ 0 ∷ 1 ∷ 2 ∷ 0 ∷ []) ∷
+    large-figure 65552 65551 (0 ∷ 65548 ∷ 65549 ∷ 65551 ∷ 0 ∷ 1 ∷ 1 ∷ 1 ∷ 0 ∷ 0 ∷ 1 ∷ 3 ∷ 0 ∷ []) ∷
+    large-figure 65552 65552 (9 ∷ 0 ∷ 0 ∷ 0 ∷ 0 ∷ 0 ∷ 0 ∷ 0 ∷ 0 ∷ 0 ∷ 0 ∷ 0 ∷ 0 ∷ []) ∷
+    event-figure (large 262144 4 4 8192) (tracks-one (large 262144 4 4 8192) 4096 262143)
+    (0 ∷ 1 ∷ 262143 ∷ 7 ∷ 262141 ∷ 262142 ∷ 0 ∷ 0 ∷ 1 ∷ 1 ∷ 0 ∷ 0 ∷ 4097 ∷ 0 ∷ 2 ∷ 0 ∷ []) ∷ []
 
 -- all of them; tests/calls/edges.calls runs the same
 unfoldable pub edges : List Figure
-edges = set-up-edges ++ activation-edges ++ event-edges ++ agreement-edges ++ subarray-edges
+edges = set-up-edges ++ activation-edges ++ event-edges ++ agreement-edges ++ subarray-edges ++ large-edges
