@@ -23,7 +23,7 @@ enum { SETTINGS = 7 };
 static const char *refusal_text(int64_t answer)
 {
     switch (-answer) {
-    case 1: return "rows: a multiple of 16 from 16 to 65536 is allowed";
+    case 1: return "rows: a multiple of 16 from 16 to 262144 is allowed";
     case 2: return "blast diameter: 2 or 4 is allowed";
     case 3: return "volume: 1 to 16 is allowed";
     case 4: return "counters: volume to 2048 is allowed";

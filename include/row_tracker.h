@@ -5,7 +5,7 @@
  * Settings, in this order:
  *
  *   refusal  setting         meaning                                  allowed
- *   1        rows            rows in the bank                         multiple of 16, 16 to 65536
+ *   1        rows            rows in the bank                         multiple of 16, 16 to 262144
  *   2        blast_diameter  rows disturbed by one activation,        2 or 4
  *                            half of them on each side
  *   3        volume          rows picked at a refresh event           1 to 16

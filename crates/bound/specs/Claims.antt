@@ -42,7 +42,7 @@ Twelve-is-none = (s : Settings) (threshold : ℕ) → Twelve s threshold
 unfoldable pub Bound-is-small : Type 0
 Bound-is-small = (s : Settings) → first-failed (settings-tests s) ≡ 0 → bound-of s < 2 ^ 28
 
--- settings whose N is judged alike where it may be up to another most, as that of all which 'were valid' is (`Settings-stay`), get the same answers
+-- settings whose N is judged alike where it may be up to another most get the same answers: all 'that were valid' do (`Settings-stay`)
 unfoldable pub Answers-stay : Type 0
 Answers-stay =
     (most : ℕ) (s : Settings) → Alike most s →

@@ -9,11 +9,12 @@ use Rattle.device.specs.Acceptance.{most-rows, rows-allowed-to, rows-all
 use Rattle.device.specs.Remap.{physical}
 use Rattle.device.specs.Victims.{within-reach, subarray-rows, subarray, victims}
 
--- N is judged alike where it may be up to another most
+-- N is allowed, or not, as it is where it may be up to another most
 abbrev pub Alike : ℕ → Settings → Type 0
 Alike most s = rows-allowed-to most (s .rows) ≡ rows-allowed (s .rows)
 
--- beside N up to another most: which settings are judged alike, and that their tests are the same
+-- settings beside a rule with another most: those that it accepts are accepted, it judges every N up to its most and above 262,144 alike, and where N is
+-- judged alike all tests are the same
 pub record Stays (most : ℕ) (s : Settings) : Type 0 where
   pub accepted-stays : first-failed (settings-tests-to most s) ≡ 0 → (first-failed (settings-tests s) ≡ 0) × Alike most s
   pub accepted-but-counters-stays : first-failed (settings-tests-but-counters-to most s) ≡ 0 → (first-failed (settings-tests-but-counters s) ≡ 0) × Alike most s
@@ -22,7 +23,7 @@ pub record Stays (most : ℕ) (s : Settings) : Type 0 where
   pub same-tests : Alike most s → settings-tests-to most s ≡ settings-tests s
   pub same-tests-but-counters : Alike most s → settings-tests-but-counters-to most s ≡ settings-tests-but-counters s
 
--- 'settings that were valid' with a smaller most, 65,536 in document 01, are valid; and settings with N up to it, or above 262,144, are tested as they were
+-- 'settings that were valid' where N went up to less, to 65,536 in document 01, are valid, and nothing but N from there to 262,144 is judged otherwise
 unfoldable pub Settings-stay : Type 0
 Settings-stay = (most : ℕ) → most ≤ most-rows → (s : Settings) → Stays most s
 

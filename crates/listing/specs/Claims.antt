@@ -38,7 +38,7 @@ End-moves =
     (m : Memory) (g : Progress) (text : List ℕ) (room : ℕ) → Represents m g → ended text ≡ false → 18 ≤ room →
     Printed g text [] (last-line (next-number (m .place .lines)) text room)
 
--- 'settings that were valid give the listings they gave': so does a trace whose settings lines all have an N that is judged alike where N may be up to
--- another most, as every N up to a smaller most is, and every one above 262,144 (`Settings-stay`)
+-- 'settings that were valid give the listings they gave': a trace has the listing that it has where N may be up to another most, if that judges N of all
+-- its settings lines alike, as it does every N up to its most and above 262,144 (`Settings-stay`)
 unfoldable pub Listings-stay : Type 0
 Listings-stay = (most : ℕ) (text : List ℕ) → All-alike most (outcomes text) → listing-to most start text ≡ listing start text

@@ -88,8 +88,5 @@ first-fault standing os = first-fault-to most-rows standing os
 abbrev pub before-fault : Option ℕ → List (Outcome Record) → List (Outcome Record)
 before-fault standing os = before-fault-to most-rows standing os
 
-abbrev pub writing-fault : List (Outcome Record) → ℕ → ℕ
-writing-fault os room = writing-fault-to most-rows os room
-
 abbrev pub writing : List (Outcome Record) → List ℕ → Writing
 writing os text = writing-to most-rows os text

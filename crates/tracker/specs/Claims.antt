@@ -14,6 +14,6 @@ pub record Same-calls (most : ℕ) (s : Settings) : Type 0 where
   pub same-refresh : (st : State) (picks : List ℕ) → refresh-to most s st picks ≡ refresh-on s st picks
   pub same-agreement : (st : State) (s′ : Settings) (st′ : State) → Alike most s′ → agreement-to most s st s′ st′ ≡ agreement-of s st s′ st′
 
--- so it is on settings whose N is judged alike, as that of all which 'were valid' is (`Settings-stay`)
+-- so it is on settings whose N is judged alike: on all 'that were valid' (`Settings-stay`)
 unfoldable pub Calls-stay : Type 0
 Calls-stay = (most : ℕ) (s : Settings) → Alike most s → Same-calls most s
