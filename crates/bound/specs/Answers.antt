@@ -22,7 +22,7 @@ bound-answer-to most s = tested (first-failed (settings-tests-to most s)) (accep
 unfoldable pub least-answer-to : ℕ → Settings → ℕ → Outcome ℕ
 least-answer-to most s threshold = tested (first-failed (settings-tests-but-counters-to most s)) (least-of s threshold)
 
--- both with N up to 262,144
+-- both with N up to `most-rows`
 abbrev pub bound-answer : Settings → Outcome ℕ
 bound-answer s = bound-answer-to most-rows s
 

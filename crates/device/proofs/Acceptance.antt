@@ -122,7 +122,7 @@ settings-then s later =
       later-refuse (not (block-allowed (s .block) (s .window) (s .rows))) 6,
     )
 
--- N up to another most: judged alike up to a smaller one, and above 262,144; accepted settings have no N above their most
+-- N up to another most: judged alike up to a smaller one, and above `most-rows`; accepted settings have no N above their most
 pub rows-small-alike : (most n : ℕ) → most ≤ most-rows → n ≤ most → rows-allowed-to most n ≡ rows-allowed n
 unfolding rows-allowed-to within
 rows-small-alike most n h small = rw (le-leb n most small, le-leb n most-rows (omega arith))

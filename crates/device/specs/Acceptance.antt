@@ -49,7 +49,7 @@ settings-tests-to most s = settings-tests-with most (within (s .volume) most-cou
 unfoldable pub settings-tests-but-counters-to : ℕ → Settings → List Test
 settings-tests-but-counters-to most s = settings-tests-with most true s
 
--- the same with N up to 262,144
+-- the same with N up to `most-rows`
 abbrev pub rows-allowed : ℕ → Bool
 rows-allowed n = rows-allowed-to most-rows n
 

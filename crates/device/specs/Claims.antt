@@ -13,7 +13,7 @@ use Rattle.device.specs.Victims.{within-reach, subarray-rows, subarray, 
 abbrev pub Alike : ℕ → Settings → Type 0
 Alike most s = rows-allowed-to most (s .rows) ≡ rows-allowed (s .rows)
 
--- settings beside a rule with another most: those that it accepts are accepted, it judges every N up to its most and above 262,144 alike, and where N is
+-- settings beside a rule with another most: those that it accepts are accepted, it judges every N up to its most and above `most-rows` alike, and where N is
 -- judged alike all tests are the same
 pub record Stays (most : ℕ) (s : Settings) : Type 0 where
   pub accepted-stays : first-failed (settings-tests-to most s) ≡ 0 → (first-failed (settings-tests s) ≡ 0) × Alike most s
@@ -23,7 +23,7 @@ pub record Stays (most : ℕ) (s : Settings) : Type 0 where
   pub same-tests : Alike most s → settings-tests-to most s ≡ settings-tests s
   pub same-tests-but-counters : Alike most s → settings-tests-but-counters-to most s ≡ settings-tests-but-counters s
 
--- 'settings that were valid' where N went up to less, to 65,536 in document 01, are valid, and nothing but N from there to 262,144 is judged otherwise
+-- 'settings that were valid' where N went up to less, to 65,536 in document 01, are valid, and nothing but N from there to `most-rows` is judged otherwise
 unfoldable pub Settings-stay : Type 0
 Settings-stay = (most : ℕ) → most ≤ most-rows → (s : Settings) → Stays most s
 

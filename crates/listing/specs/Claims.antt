@@ -39,6 +39,6 @@ End-moves =
     Printed g text [] (last-line (next-number (m .place .lines)) text room)
 
 -- 'settings that were valid give the listings they gave': a trace has the listing that it has where N may be up to another most, if that judges N of all
--- its settings lines alike, as it does every N up to its most and above 262,144 (`Settings-stay`)
+-- its settings lines alike, as it does every N up to its most and above `most-rows` (`Settings-stay`)
 unfoldable pub Listings-stay : Type 0
 Listings-stay = (most : ℕ) (text : List ℕ) → All-alike most (outcomes text) → listing-to most start text ≡ listing start text

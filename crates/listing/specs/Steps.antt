@@ -95,7 +95,7 @@ step-to most g o = line-step-to most (suc (g .count)) (g .tracker) o
 unfoldable pub next-to : ℕ → Progress → Outcome Record → Progress
 next-to most g o = record { tracker = step-to most g o .tracker; count = suc (g .count) }
 
--- the same with N up to 262,144
+-- the same with N up to `most-rows`
 abbrev pub record-step : ℕ → Option Tracker → Record → Step
 record-step number t r = record-step-to most-rows number t r
 

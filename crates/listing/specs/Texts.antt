@@ -21,7 +21,7 @@ passed g (o ∷ os) = passed (next g o) os
 unfoldable pub listing-to : ℕ → Progress → List ℕ → List ℕ
 listing-to most g text = listed-to most g (outcomes text)
 
--- the same with N up to 262,144
+-- the same with N up to `most-rows`
 abbrev pub listed : Progress → List (Outcome Record) → List ℕ
 listed g os = listed-to most-rows g os
 

@@ -78,7 +78,7 @@ writing-by (suc k) bytes text = record { answer = refused (suc k); text = text }
 unfoldable pub writing-to : ℕ → List (Outcome Record) → List ℕ → Writing
 writing-to most os text = writing-by (writing-fault-to most os (length text)) (spelling os) text
 
--- the same with N up to 262,144
+-- the same with N up to `most-rows`
 abbrev pub fault : Option ℕ → Outcome Record → ℕ
 fault standing o = fault-to most-rows standing o
 

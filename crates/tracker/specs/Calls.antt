@@ -133,7 +133,7 @@ agreement-to most s st s′ st′ =
     tested (first-failed (agreement-tests-to most s st s′ st′))
     (accepted (eqb (s .rows) (s′ .rows) && same-estimates (s .rows) (summary-of st) (summary-of st′)))
 
--- the tests and the calls with N up to 262,144
+-- the tests and the calls with N up to `most-rows`
 abbrev pub set-up-tests : Settings → List ℕ → List ℕ → List Test
 set-up-tests s rows counts = set-up-tests-to most-rows s rows counts
 
