@@ -4,9 +4,10 @@
     python3 tests/listing/compare.py [--seed N] [--program COMMAND]
 
 Builds the model, then compares on document 01's example (example.*), on edges with a listing
-written by hand (edges.*, subarrays.*) and on random traces (traces.py), with one fixed and one fresh seed
-(--seed repeats a fresh one). Traces come from a file, through a pipe, or in small pieces through
-a pipe. What differs stays in target/listing/.
+written by hand (edges.*, subarrays.*), on traces with the listings that are kept (kept/),
+and on random traces (traces.py), with one fixed and one fresh seed (--seed repeats a fresh one).
+Traces come from a file, through a pipe, or in small pieces through a pipe. What differs stays in
+target/listing/.
 Exit status: 0 all equal; 1 a difference; 2 something is missing or cannot be built.
 """
 
@@ -34,7 +35,12 @@ HERE = "tests/listing"
 OUT = "target/listing"
 MODEL_LISTING = [MODEL, "listing"]
 
+WRITTEN = ("example", "edges", "subarrays")
+KEPT = ("smallest_bank", "bank_of_1040", "bank_of_65520", "bank_of_65536", "many_counters",
+        "refused_lines", "almost_good_lines", "long_lines_cut_off")
+
 TRICKLES = 15  # traces in small pieces for each seed
+MOST_BYTE_BY_BYTE = 5000  # bytes of a trace
 
 FAILURES = (output_full, reader_leaves, output_fills, input_unreadable, input_fails_after_lines)
 REFUSALS = (1, 2, 3, 4, 5, 6, 7, 9, 11, 22)  # those that a trace can earn
@@ -104,17 +110,34 @@ EXPECTED_KINDS = (
 )
 
 
-# What was written by hand
+# What was written by hand, and what is kept
+
+
+def check_both(tally, command, name, text, wanted):
+    """By the model and, in each way, by the program."""
+    check_listing(tally, MODEL_LISTING, from_file, f"{name} by the model", text, wanted)
+    feeds = [from_file, through_pipe]
+    if len(text) <= MOST_BYTE_BY_BYTE:
+        feeds.append(in_pieces([1] * len(text)))
+    for feed in feeds:
+        check_listing(tally, command, feed, f"{name} by the program", text, wanted)
+
+
+def check_files(tally, command, names):
+    for name in names:
+        text, wanted = (pathlib.Path(f"{HERE}/{name}.{suffix}").read_bytes()
+                        for suffix in ("trace", "listing"))
+        check_both(tally, command, name, text, wanted)
 
 
 def check_written(tally, command):
     tally.begin("document 01's example, and edges written by hand")
-    for name in ("example", "edges", "subarrays"):
-        text = pathlib.Path(f"{HERE}/{name}.trace").read_bytes()
-        wanted = pathlib.Path(f"{HERE}/{name}.listing").read_bytes()
-        check_listing(tally, MODEL_LISTING, from_file, f"{name} by the model", text, wanted)
-        for feed in (from_file, through_pipe, in_pieces([1] * len(text))):
-            check_listing(tally, command, feed, f"{name} by the program", text, wanted)
+    check_files(tally, command, WRITTEN)
+
+
+def check_kept(tally, command):
+    tally.begin("listings that are kept")
+    check_files(tally, command, [f"kept/{name}" for name in KEPT])
 
 
 def check_broken(tally, command):
@@ -140,6 +163,7 @@ def main():
     tally = Tally()
     kinds = collections.Counter()
     check_written(tally, command)
+    check_kept(tally, command)
     check_broken(tally, command)
     compare(tally, kinds, command, FIXED_SEED, "fixed")
     compare(tally, kinds, command, fresh_seed, "fresh")
