@@ -278,6 +278,9 @@ def check_examples(tally):
         ("16 2 1 2 4 4 4", 0, usual + "least counter count for threshold 61: 2\n"),
         ("16 2 1 2 4 4 4 60", 0, usual + "least counter count for threshold 60: 3\n"),
         ("16 2 1 2 4 4 4 56", 1, usual),
+        ("262144 2 1 1 4 4096 64 565248", 0, "bound H: 282624\n2 x H:   565248\n"
+         "least counter count for threshold 565248: 2\n"),
+        ("262160 2 1 1 4 4097 64", 1, ""),
         ("15 2 1 2 4 4 4", 1, ""),
         ("16 2 1 0 4 4 4", 1, ""),
         ("16 2 1 2 4 4", 2, ""),
