@@ -19,6 +19,7 @@ SHOWN = 10  # differences printed for one part
 
 # Settings are tuples of seven numbers in document 01's order.
 ROWS, DIAMETER, VOLUME, COUNTERS, INTERVAL, WINDOW, BLOCK = range(7)
+MAX_ROWS = 262_144
 MAX_COUNTERS = 2048
 MAX_WINDOW = 8192
 U32 = 2**32 - 1
@@ -168,8 +169,8 @@ def limit_values(settings, field):
     """Values of a field at and around its limits, and larger ones with the same low bits."""
     volume = settings[VOLUME]
     values = {
-        ROWS: [0, 1, 8, 15, 16, 17, 31, 32, 33, 65519, 65520, 65521, 65535, 65536, 65537, 65552,
-               2**32 - 16],
+        ROWS: [0, 1, 8, 15, 16, 17, 31, 32, 33, 65519, 65520, 65535, 65536, 65537, 65552, 131072,
+               262127, 262128, 262143, 262144, 262145, 262160, 2**32 - 16],
         DIAMETER: [0, 1, 2, 3, 4, 5, 6, 8],
         VOLUME: [0, 1, 2, 15, 16, 17],
         COUNTERS: [0, max(volume - 1, 0), volume, volume + 1, 2047, 2048, 2049],
@@ -178,8 +179,13 @@ def limit_values(settings, field):
         BLOCK: [0, 1, 2, 63, 64, 65],
     }[field]
     own = settings[field]
-    values += [own + 2**8, own + 2**16, own + 2**31, 2**31, U32]
+    values += [own + 2**8, own + 2**16, own + 2**18, own + 2**31, 2**31, U32]
     return [value for value in values if value <= U32]
+
+
+def alike(rows, row):
+    """The rows of the bank that differ by a multiple of 65,536 from this one, itself among them."""
+    return range(row % 65_536, rows, 65_536)
 
 
 def spread(rng, low, high):
@@ -190,7 +196,7 @@ def spread(rng, low, high):
 def accepted_settings(rng, window):
     """Settings that pass every test, at times with block x window just enough."""
     block = rng.randint(-(-16 // window), 64)
-    most = min(4096, block * window // 16)
+    most = min(MAX_ROWS, block * window) // 16
     rows = 16 * (most if rng.random() < 0.3 else rng.randint(1, most))
     volume = rng.randint(1, 16)
     reached = min(MAX_COUNTERS, volume * window + 1)
@@ -204,7 +210,7 @@ def faulty_settings(rng):
     for field in rng.sample(range(7), rng.choice((1, 1, 1, 2, 2, 3, 4, 7))):
         value = rng.choice((
             rng.choice(limit_values(settings, field)),
-            rng.randint(0, 100_000),
+            rng.randint(0, 400_000),
             rng.randint(0, U32),
         ))
         settings = changed(settings, (field, value))

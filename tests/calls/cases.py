@@ -6,10 +6,13 @@ A Case is a call with what it is lent, and the number that it has to answer wher
 
 import collections
 
-from comparison import BLOCK, COUNTERS, DIAMETER, INTERVAL, ROWS, U32, VOLUME, WINDOW, changed
+from comparison import (
+    BLOCK, COUNTERS, DIAMETER, INTERVAL, MAX_ROWS, ROWS, U32, VOLUME, WINDOW, alike, changed,
+)
 from states import (
     ACTIVATIONS, BROKEN_RULES, EVENTS, MAX_COUNT, PLACES, SPILLOVER, State, TRACKED, any_settings,
-    bad_value, edges, garbage, physical_row, random_logical_row, resize, state_of, valid_state,
+    bad_value, edges, garbage, large_settings, physical_row, random_logical_row, resize, state_of,
+    valid_state,
 )
 
 # The number that the model has to give is None where only the model knows it.
@@ -57,21 +60,32 @@ def sweep_cases():
     yield case("refresh", full, [9], 1, "counts at the most")
 
 
+# The rows of banks, and edges of subarrays and ends in them.
+CUT_BANKS = {
+    512: (512,), 528: (512, 528), 1040: (512, 1024, 1040), 65_552: (65_536, 65_552),
+    131_072: (65_536, 131_072), 262_128: (65_536, 131_072, 262_128),
+    262_144: (65_536, 131_072, 196_608, 262_144),
+}
+
+
 def subarray_cases():
     """Rows at the edges of subarrays and at the end of a shorter last one, activated, picked and
-    in a block; and a bank of one whole subarray."""
-    for rows in (512, 528, 1040):
-        ends = {row for edge in (512, 1024, rows) for row in range(edge - 4, edge + 4) if row < rows}
+    in a block; and a bank of one whole subarray. In large banks also with all rows tracked that
+    are alike."""
+    for rows, ends in CUT_BANKS.items():
+        near = [row for end in ends for row in range(end - 4, end + 4) if row < rows]
+        block = 3 if rows < 65_536 else 63
         for diameter in (2, 4):
-            settings = (rows, diameter, 2, 12, 4, -(-rows // 3), 3)
+            settings = (rows, diameter, 2, 12, 4, -(-rows // block), block)
             kind = f"edge of a subarray, N {rows}, B {diameter}"
-            for row in sorted(ends):
-                for tracked in ((), range(row - 2, row + 3), range(row - 12, row)):
+            for row in near:
+                like = [place for beside in (row - 1, row, row + 1) for place in alike(rows, beside)]
+                for tracked in ((), range(row - 2, row + 3), range(row - 12, row), like):
                     counts = {place: 5 for place in tracked if place < rows}
                     state = state_of(settings, counts, 2)
                     yield case("activate", state, physical_row(row), 0, kind)
                 yield case("refresh", state_of(settings, {row: 5}, 2), [U32] * 3, 1, kind)
-            for event in (*range(168, 173), *range(340, settings[WINDOW])):
+            for event in sorted({end // block + beside for end in ends for beside in range(-2, 3)}):
                 if event < settings[WINDOW]:
                     yield case("refresh", state_of(settings, {}, 2, event), [U32] * 3, 0, kind)
 
@@ -91,6 +105,8 @@ def run_cases(rng, model, steps):
     if edges(settings) and rng.random() < 0.7:
         edge = rng.choice(edges(settings))
         hot_rows = [edge + rng.randint(-4, 3) for _ in hot_rows]
+    elif settings[ROWS] > 65_536:
+        hot_rows = [row for hot in hot_rows for row in alike(settings[ROWS], hot)]
     for _ in range(steps):
         step = run_step(rng, state, earlier, hot_rows)
         yield step
@@ -175,7 +191,7 @@ def other_counters(rng, one, other):
 def other_rows(rng, one, other):
     """The same tables, another bank."""
     rows = one.settings[ROWS] + 16
-    if rows > one.settings[BLOCK] * one.settings[WINDOW] or rows > 65_536:
+    if rows > min(one.settings[BLOCK] * one.settings[WINDOW], MAX_ROWS):
         return None
     other.settings = changed(one.settings, (ROWS, rows))
     return in_any_order(rng, one, other, 0, "disagree: other number of rows")
@@ -191,6 +207,20 @@ def other_count(rng, one, other):
     return in_any_order(rng, one, other, 0, "disagree: one count")
 
 
+def row_alike(rng, one, other):
+    """A row tracked on one side and a row alike, with the same count, on the other."""
+    one = valid_state(rng, large_settings(rng), rng.randint(1, 20), rng.choice((0, 3)))
+    rows, spillover, tracked = one.settings[ROWS], one.position[SPILLOVER], one.tracked()
+    pairs = [(row, like) for row, count in tracked.items() if count > spillover
+             for like in alike(rows, row) if like not in tracked]
+    if not pairs:
+        return None
+    row, like = rng.choice(pairs)
+    tracked[like] = tracked.pop(row)
+    other = state_of(one.settings, tracked, spillover)
+    return in_any_order(rng, one, other, 0, "disagree: another row, alike in 16 bits")
+
+
 def other_spillover(rng, one, other):
     least = min(one.tracked().values(), default=MAX_COUNT)
     if one.position[SPILLOVER] >= least or one.position[TRACKED] == one.settings[ROWS]:
@@ -200,7 +230,7 @@ def other_spillover(rng, one, other):
 
 
 AGREEMENTS = (equal_to_untracked, all_rows_tracked, other_counters, other_rows, other_count,
-              other_spillover, lambda rng, one, other: None)
+              row_alike, other_spillover, lambda rng, one, other: None)
 
 
 def in_any_order(rng, one, other, number, kind):
@@ -243,7 +273,8 @@ def faulty_case(rng, several):
     numbers = []
     row = random_row(rng, state)
     if 9 in chosen:
-        row = rng.choice((state.settings[ROWS], state.settings[ROWS] + 1, 65_536, U32))
+        rows = state.settings[ROWS]
+        row = rng.choice((rows, rows + 1, MAX_ROWS, MAX_ROWS + rng.randrange(rows), U32))
         numbers.append(9)
     length = state.settings[VOLUME]
     if 10 in chosen:

@@ -23,9 +23,9 @@ import sys
 
 sys.dont_write_bytecode = True
 sys.path.insert(0, str(pathlib.Path(__file__).resolve().parents[1]))
-from cases import case, random_cases, sweep_cases
+from cases import CUT_BANKS, case, random_cases, sweep_cases
 from comparison import (
-    BLOCK, BUILD_MODEL, COUNTERS, DIAMETER, FIXED_SEED, MODEL, ROOT, Run, Tally, TIME_LIMIT,
+    BLOCK, BUILD_MODEL, COUNTERS, DIAMETER, FIXED_SEED, MODEL, ROOT, ROWS, Run, Tally, TIME_LIMIT,
     VOLUME, WINDOW, arguments_with_seeds, build, give_up, read_figures,
 )
 from states import (
@@ -198,6 +198,8 @@ def kinds_of(case, answer):
         yield f"{case.call} refused with {-number}"
         return
     yield f"{case.call} accepted"
+    if case.state.settings[ROWS] > 65_536:
+        yield f"{case.call} accepted, large bank"
     if case.call == "activate":
         yield from activation_kinds(case, after)
     if case.call == "refresh":
@@ -216,6 +218,9 @@ def activation_kinds(case, after):
             yield f"activation: remapped row cut at {end}"
     if any(now.get(victim, 0) > count for victim, count in before.items()):
         yield "activation: a count rises"
+    for bits in (16, 17):
+        if any(abs(row - one) < 3 and one - other in (2**bits, -2**bits) for one in now for other in now):
+            yield f"activation: a victim and a row tracked that differ by 2^{bits}"
     if len(now) > len(before):
         yield "activation: a row is entered in a free slot"
     if len(now) == settings[COUNTERS] and before.keys() - now.keys():
@@ -244,6 +249,10 @@ def event_kinds(case):
     counts = sorted(tracked.values(), reverse=True)
     if len(counts) > volume and counts[volume - 1] == counts[volume]:
         yield "event: equal counts at the cut between picked and not"
+    if block and block[-1] > 65_535:
+        yield "event: block above row 65,535"
+    if any(row > 65_535 for row in picked):
+        yield "event: picked row above 65,535"
     if any(row in block for row in tracked):
         yield "event: tracked row in the block"
     if len(case.argument) > volume:
@@ -252,7 +261,8 @@ def event_kinds(case):
 
 ENDS = ("row 0", "the last row", "a subarray's first row", "a subarray's last row")
 EXPECTED_KINDS = (
-    *(f"{call} accepted" for call in ("set_up", "activate", "refresh", "agree")),
+    *(f"{call} accepted{bank}" for call in ("set_up", "activate", "refresh", "agree")
+      for bank in ("", ", large bank")),
     *(f"set_up refused with {k}" for k in (1, 2, 3, 4, 5, 6, 7, 8)),
     *(f"activate refused with {k}" for k in (1, 2, 3, 4, 5, 6, 7, 8, 9, 21, 22)),
     *(f"refresh refused with {k}" for k in (1, 2, 3, 4, 5, 6, 7, 8, 10, 21)),
@@ -265,14 +275,13 @@ EXPECTED_KINDS = (
     "several faults: agree, both settings",
     "agree: same tables", "agree: tracked at the spillover on one side", "agree: other settings",
     "agree: all rows tracked, other spillover", "disagree: other number of rows",
-    "disagree: one count", "disagree: spillover",
+    "disagree: one count", "disagree: spillover", "disagree: another row, alike in 16 bits",
     "set up of a run", "activation of a run", "event of a run", "agreement in a run",
     "fault in a run", "valid state",
     *(f"activation {number} of an interval of 4" for number in (1, 4, 5)),
     "event in a full interval", "events of a whole window", "window of one event",
     "counts at the most", *(f"end of the bank, B {diameter}" for diameter in (2, 4)),
-    *(f"edge of a subarray, N {rows}, B {diameter}" for rows in (512, 528, 1040)
-      for diameter in (2, 4)),
+    *(f"edge of a subarray, N {rows}, B {diameter}" for rows in CUT_BANKS for diameter in (2, 4)),
     *(f"activation: cut at {end}, B {diameter}" for end in ENDS for diameter in (2, 4)),
     # the remap leaves remainders 0 and 1 where they are, so no remapped row is cut at a lower end
     *(f"activation: remapped row cut at {end}" for end in ENDS if "last" in end),
@@ -281,6 +290,8 @@ EXPECTED_KINDS = (
     "activation: the row itself was tracked", "activation: a count rises",
     "activation: a row is entered in a free slot", "activation: a row takes another's place",
     "activation: the spillover rises",
+    *(f"activation: a victim and a row tracked that differ by 2^{bits}" for bits in (16, 17)),
+    "event: block above row 65,535", "event: picked row above 65,535",
     "event: the only one of its window", "event: the last of its window", "event: block cut",
     "event: block empty", "event: fewer rows tracked than the volume", "event: no row tracked",
     "event: equal counts at the cut between picked and not", "event: tracked row in the block",

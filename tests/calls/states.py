@@ -8,8 +8,8 @@ import copy
 import dataclasses
 
 from comparison import (
-    BLOCK, COUNTERS, DIAMETER, INTERVAL, MAX_COUNTERS, ROWS, U32, VOLUME, WINDOW,
-    accepted_settings, changed, spread,
+    BLOCK, COUNTERS, DIAMETER, INTERVAL, MAX_COUNTERS, MAX_ROWS, MAX_WINDOW, ROWS, U32, VOLUME,
+    WINDOW, accepted_settings, alike, changed, spread,
 )
 
 EVENTS, ACTIVATIONS, TRACKED, SPILLOVER = range(4)
@@ -96,10 +96,21 @@ def small_settings(rng):
             rng.choice((1, 2, 4, 4, 8, 100, 4096)), shortest + rng.choice((0, 0, 1, 3, 10)), block)
 
 
+def large_settings(rng):
+    """Accepted settings of a bank of more than 65,536 rows."""
+    rows = rng.choice((65_552, 131_072, 262_128, MAX_ROWS, 16 * rng.randint(4097, 16_384)))
+    block = rng.randint(-(-rows // MAX_WINDOW), 64)
+    window = rng.choice((-(-rows // block), MAX_WINDOW))
+    return changed(small_settings(rng), (ROWS, rows), (WINDOW, window), (BLOCK, block))
+
+
 def any_settings(rng):
     """Mostly small; now and then of any size but the counters'."""
-    if rng.random() < 0.97:
+    chance = rng.random()
+    if chance < 0.87:
         return small_settings(rng)
+    if chance < 0.97:
+        return large_settings(rng)
     settings = accepted_settings(rng, spread(rng, 1, 8192))
     return changed(settings, (COUNTERS, rng.randint(settings[VOLUME], PLACES)))
 
@@ -126,13 +137,7 @@ def valid_state(rng, settings=None, tracked=None, spillover=None):
     if spillover is None:
         spillover = random_spillover(rng)
     tracked = min(tracked, most)
-    if rng.random() < 0.5:
-        chosen = rng.sample(range(rows), tracked)
-    else:
-        middle = rng.choice([tracked, *edges(settings)]) - tracked // 2
-        first = rng.choice((0, middle, rows - tracked, rng.randint(0, rows - tracked)))
-        first = min(max(0, first), rows - tracked)
-        chosen = range(first, first + tracked)
+    chosen = rng.choice((any_rows, rows_in_line, rows_in_line, rows_alike))(rng, settings, tracked)
     least = max(1, spillover)
     at_edges = [edge // settings[BLOCK] for edge in edges(settings)]
     return state_of(
@@ -144,16 +149,37 @@ def valid_state(rng, settings=None, tracked=None, spillover=None):
     )
 
 
+def any_rows(rng, settings, count):
+    return rng.sample(range(settings[ROWS]), count)
+
+
+def rows_in_line(rng, settings, count):
+    """Rows side by side, often at an end or around an edge of subarrays."""
+    rows = settings[ROWS]
+    middle = rng.choice([count, *edges(settings)]) - count // 2
+    first = rng.choice((0, middle, rows - count, rng.randint(0, rows - count)))
+    first = min(max(0, first), rows - count)
+    return range(first, first + count)
+
+
+def rows_alike(rng, settings, count):
+    """Rows of which each has others that differ from it by a multiple of 65,536, in a large bank."""
+    rows = settings[ROWS]
+    firsts = rng.sample(range(min(rows, 65_536)), count)
+    return [row for first in firsts for row in alike(rows, first)][:count]
+
+
 def random_logical_row(rng, state):
     """A row of the bank: any one, one at an end or at an edge of a subarray, or one at or beside a
-    tracked row."""
+    tracked row, or beside one that is alike."""
     rows = state.settings[ROWS]
     tracked = list(state.tracked())
     row = rng.choice((rng.randrange(rows), rng.randrange(4), rows - 1 - rng.randrange(4)))
     if edges(state.settings) and rng.random() < 0.5:
         row = rng.choice(edges(state.settings)) + rng.randint(-4, 3)
     elif tracked and rng.random() < 0.6:
-        row = min(rows - 1, max(0, rng.choice(tracked) + rng.randint(-2, 2)))
+        row = rng.choice(alike(rows, rng.choice(tracked))) + rng.randint(-2, 2)
+        row = min(rows - 1, max(0, row))
     return physical_row(row)
 
 
@@ -178,9 +204,9 @@ def above(rng, limit):
 def narrow_settings(rng):
     """Settings with at most as many counters as rows and at least three, so that a state can be
     full and have neighbours in the tables."""
-    settings = small_settings(rng)
+    settings = any_settings(rng)
     while not 3 <= settings[COUNTERS] <= settings[ROWS]:
-        settings = small_settings(rng)
+        settings = any_settings(rng)
     return settings
 
 
@@ -220,7 +246,9 @@ def spillover_above_most(rng):
 
 def row_outside_bank(rng):
     state, _ = well_tracked(rng)
-    state.rows[state.position[TRACKED] - 1] = above(rng, state.settings[ROWS] - 1)
+    rows = state.settings[ROWS]
+    row = rng.choice((above(rng, rows - 1), MAX_ROWS + rng.randrange(rows)))
+    state.rows[state.position[TRACKED] - 1] = row
     return state
 
 
@@ -241,7 +269,7 @@ def descending_rows(rng):
 def row_behind_tracked(rng):
     state = partly_tracked(rng)
     slot = rng.choice((state.position[TRACKED], len(state.rows) - 1))
-    state.rows[slot] = rng.choice((1, state.settings[ROWS] - 1, U32))
+    state.rows[slot] = rng.choice((1, 2**16, 2**17, 2**18, state.settings[ROWS] - 1, U32))
     return state
 
 
@@ -294,7 +322,7 @@ def bad_value(rng, settings, field):
     rows, volume, window = settings[ROWS], settings[VOLUME], settings[WINDOW]
     small_blocks = [block for block in range(1, 65) if block * window < rows]
     values = {
-        ROWS: (0, 8, 15, 17, rows + 1, 65_552, U32 - 15),
+        ROWS: (0, 8, 15, 17, rows + 1, 65_537, 262_145, 262_160, MAX_ROWS + rows, U32 - 15),
         DIAMETER: (0, 1, 3, 5, 6, U32),
         VOLUME: (0, 17, 2**16 + volume, U32),
         COUNTERS: (0, volume - 1, MAX_COUNTERS + 1, 2**16 + volume, U32),

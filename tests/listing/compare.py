@@ -4,9 +4,10 @@
     python3 tests/listing/compare.py [--seed N] [--program COMMAND]
 
 Builds the model, then compares on document 01's example (example.*), on edges with a listing
-written by hand (edges.*, subarrays.*) and on random traces (traces.py), with one fixed and one fresh seed
-(--seed repeats a fresh one). Traces come from a file, through a pipe, or in small pieces through
-a pipe. What differs stays in target/listing/.
+written by hand (edges.*, subarrays.*, large.*), on traces with the listings that are kept (kept/),
+and on random traces (traces.py), with one fixed and one fresh seed (--seed repeats a fresh one).
+Traces come from a file, through a pipe, or in small pieces through a pipe. What differs stays in
+target/listing/.
 Exit status: 0 all equal; 1 a difference; 2 something is missing or cannot be built.
 """
 
@@ -28,13 +29,18 @@ from failures import (
     check_failures, input_fails_after_lines, input_unreadable, output_fills, output_full, reader_leaves,
 )
 from programs import difference, from_file, in_pieces, random_pieces, through_pipe
-from traces import KINDS, long_lines, plain_trace, random_traces
+from traces import KINDS, long_lines, long_trace, plain_trace, random_traces
 
 HERE = "tests/listing"
 OUT = "target/listing"
 MODEL_LISTING = [MODEL, "listing"]
 
+WRITTEN = ("example", "edges", "subarrays", "large")
+KEPT = ("smallest_bank", "bank_of_1040", "bank_of_65520", "bank_of_65536", "many_counters",
+        "refused_lines", "almost_good_lines", "long_lines_cut_off")
+
 TRICKLES = 15  # traces in small pieces for each seed
+MOST_BYTE_BY_BYTE = 5000  # bytes of a trace
 
 FAILURES = (output_full, reader_leaves, output_fills, input_unreadable, input_fails_after_lines)
 REFUSALS = (1, 2, 3, 4, 5, 6, 7, 9, 11, 22)  # those that a trace can earn
@@ -77,7 +83,9 @@ def compare(tally, kinds, command, seed, name):
         feed = in_pieces(random_pieces(rng, len(text)))
         count += 1
         compare_one(tally, kinds, command, feed, f"{name} {count} (in pieces)", text, "in pieces")
-    print(f"  {count} traces")
+    text = long_trace(rng)
+    compare_one(tally, kinds, command, from_file, f"{name} (long)", text, "long trace of a large bank")
+    print(f"  {count + 1} traces, the long one of {len(text.splitlines())} lines")
 
 
 def compare_one(tally, kinds, command, feed, name, text, kind):
@@ -98,23 +106,62 @@ def line_kinds(listing):
 
 
 EXPECTED_KINDS = (
-    *KINDS, "in pieces", "bound",
+    *KINDS, "in pieces", "long trace of a large bank", "bound",
     *(f"event with {picked} picked rows" for picked in range(17)),
     *(f"line refused with {number}" for number in REFUSALS),
 )
 
 
-# What was written by hand
+# What was written by hand, and what is kept
+
+
+def check_both(tally, command, name, text, wanted):
+    """By the model and, in each way, by the program."""
+    check_listing(tally, MODEL_LISTING, from_file, f"{name} by the model", text, wanted)
+    feeds = [from_file, through_pipe]
+    if len(text) <= MOST_BYTE_BY_BYTE:
+        feeds.append(in_pieces([1] * len(text)))
+    for feed in feeds:
+        check_listing(tally, command, feed, f"{name} by the program", text, wanted)
+
+
+def check_files(tally, command, names):
+    for name in names:
+        text, wanted = (pathlib.Path(f"{HERE}/{name}.{suffix}").read_bytes()
+                        for suffix in ("trace", "listing"))
+        check_both(tally, command, name, text, wanted)
 
 
 def check_written(tally, command):
     tally.begin("document 01's example, and edges written by hand")
-    for name in ("example", "edges", "subarrays"):
-        text = pathlib.Path(f"{HERE}/{name}.trace").read_bytes()
-        wanted = pathlib.Path(f"{HERE}/{name}.listing").read_bytes()
-        check_listing(tally, MODEL_LISTING, from_file, f"{name} by the model", text, wanted)
-        for feed in (from_file, through_pipe, in_pieces([1] * len(text))):
-            check_listing(tally, command, feed, f"{name} by the program", text, wanted)
+    check_files(tally, command, WRITTEN)
+    for rows, window, left in ((65_552, 1025, 65_551), (262_144, 4096, 262_142)):
+        text, wanted = events_alone(rows, window, left)
+        check_both(tally, command, f"events alone, {rows} rows", text, wanted)
+
+
+def events_alone(rows, window, left):
+    """A window of events without activations and the next event, and their listing, which follows
+    by hand.
+
+    With B 2, one counter and P 64, H is 69 x n. Every block leaves one row tracked. The rows of a
+    block that begins a subarray give the counter to the row above them, one after another, so that
+    the next block's first row is left. Once that is picked, they give it to the row below, up to
+    the end of the subarray, and each block leaves its last row but one. `left` is the row that the
+    block at the bank's end leaves.
+    """
+    picks = [64 * event if event % 8 == 1 else 64 * event - 2 for event in range(1, window)]
+    listing = f"B{69 * window:10}{138 * window:10}\nR{0:6}{0:6}\n"
+    listing += "".join(f"R{event:6}{1:6}{row:6}\n" for event, row in enumerate(picks, 1))
+    listing += f"R{0:6}{1:6}{left:6}\n"
+    settings = (rows, 2, 1, 1, 4, window, 64)
+    text = "S" + "".join(f"{number:6}" for number in settings) + "\n" + "R\n" * (window + 1)
+    return text.encode(), listing.encode()
+
+
+def check_kept(tally, command):
+    tally.begin("listings that are kept")
+    check_files(tally, command, [f"kept/{name}" for name in KEPT])
 
 
 def check_broken(tally, command):
@@ -140,6 +187,7 @@ def main():
     tally = Tally()
     kinds = collections.Counter()
     check_written(tally, command)
+    check_kept(tally, command)
     check_broken(tally, command)
     compare(tally, kinds, command, FIXED_SEED, "fixed")
     compare(tally, kinds, command, fresh_seed, "fresh")

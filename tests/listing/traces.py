@@ -1,7 +1,8 @@
 """Random traces for the comparison of listings; each is a kind and the bytes of an input."""
 
 from comparison import (
-    INTERVAL, ROWS, accepted_settings, changed, faulty_settings, limit_values, spread,
+    INTERVAL, MAX_ROWS, MAX_WINDOW, ROWS, WINDOW, accepted_settings, alike, changed,
+    faulty_settings, limit_values, spread,
 )
 
 MOST = 999_999  # in six columns
@@ -45,10 +46,10 @@ def any_settings(rng):
     return accepted_settings(rng, spread(rng, 1, 8192))
 
 
-def body(rng, settings, count):
+def body(rng, settings, count, hot_rows=None):
     """Lines for a tracker with these settings, few of them refused."""
     rows = settings[ROWS]
-    hot_rows = [rng.randrange(rows) for _ in range(rng.choice((1, 2, 4, 12)))]
+    hot_rows = hot_rows or [rng.randrange(rows) for _ in range(rng.choice((1, 2, 4, 12)))]
     lines, activations = [], 0
     for _ in range(count):
         chance = rng.random()
@@ -97,24 +98,65 @@ def limit_settings(rng):
             values = [value for value in limit_values(settings, place) if value <= MOST]
             settings = changed(settings, (place, rng.choice((*values, MOST))))
         text += settings_line(rng, settings) + b"A     0\nR\nA    15\nA    16\n"
+        for row in (settings[ROWS] - 1, settings[ROWS]):
+            text += activation_line(rng, min(MOST, max(0, row)))
     return text
 
 
 def subarray_edges(rng):
     """Rows hammered around the edges of subarrays and the bank's end; blocks of 3, 48 and 63 rows
     straddle an edge, at the events that are run up to it."""
-    rows = rng.choice((512, 528, 1024, 1040, 1536, 65_536))
+    rows = rng.choice((512, 528, 1024, 1040, 1536, 65_536, 65_552, 131_072, 262_128, MAX_ROWS))
     block = rng.choice((3, 16, 48, 63)) if rows < 65_536 else 63
     volume = rng.choice((1, 2, 16))
     settings = (rows, rng.choice((2, 4)), volume, volume + rng.choice((0, 1, 5, 30)),
                 rng.choice((4, 9, 30)), -(-rows // block) + rng.choice((0, 2)), block)
-    edge = rng.choice([edge for edge in (512, 1024, rows) if edge <= rows])
+    possible = (512, 1024, rows) if rows <= 65_536 else (65_536, 131_072, rows, rows)
+    edge = rng.choice([edge for edge in possible if edge <= rows])
     near = [row for row in range(edge - 4, edge + 4) if row < rows]
     text = settings_line(rng, settings) + b"R\n" * (edge // block - rng.randint(1, 3))
     for _ in range(rng.randint(4, 12)):
         hammered = rng.choices(near, k=rng.randint(1, settings[INTERVAL]))
         text += b"".join(activation_line(rng, row) for row in hammered) + b"R\n"
     return text
+
+
+def near_edges(rows):
+    """The rows around each multiple of 65,536 and at the bank's end."""
+    edges = (*range(65_536, rows, 65_536), rows)
+    return [row for edge in edges for row in range(edge - 4, edge + 4) if row < rows]
+
+
+def large_banks(rng):
+    """Hot rows in banks of more than 65,536, and rows of the whole bank between them."""
+    rows = rng.choice((65_552, 131_072, 131_088, 262_128, MAX_ROWS, 16 * rng.randint(4097, 16_384)))
+    block = rng.randint(-(-rows // MAX_WINDOW), 64)
+    volume = rng.choice((1, 2, 4, 16))
+    settings = (rows, rng.choice((2, 4)), volume, volume + rng.choice((0, 5, 30, 100)),
+                rng.choice((9, 30, 200)), -(-rows // block), block)
+    hot_rows = rng.choice((
+        rng.choices(near_edges(rows), k=rng.choice((1, 2, 6))),
+        alike(rows, rng.randrange(rows)),
+        [row + rng.randint(0, 3) for row in alike(rows - 3, rng.randrange(rows - 3))],
+    ))
+    return settings_line(rng, settings) + body(rng, settings, rng.randint(100, 600), hot_rows)
+
+
+def long_trace(rng):
+    """A whole window of the largest bank and the start of the next: in each interval a few hot
+    rows, and rows of the whole bank. With 40 and 64 rows a block, the last ones are empty."""
+    rows, edges = MAX_ROWS, near_edges(MAX_ROWS)
+    settings = (rows, rng.choice((2, 4)), 4, 64, 40, MAX_WINDOW, rng.choice((32, 40, 64)))
+    lines = [settings_line(rng, settings)]
+    for _ in range(settings[WINDOW] + 200):
+        hot_rows = rng.choice((rng.choices(edges, k=2), alike(rows, rng.randrange(rows))))
+        chosen = rng.choices(hot_rows, k=20) + rng.choices(range(rows), k=rng.randint(10, 21))
+        lines += [activation_line(rng, row) for row in chosen]
+        if rng.random() < 0.05:
+            lines.append(rng.choice((activation_line(rng, rows), activation_line(rng, rows + 1),
+                                     b"A 65536 \n", b"A0262143\n", b"R 1\n", b"\n")))
+        lines.append(b"R\n")
+    return b"".join(lines)
 
 
 def bad_field(rng):
@@ -277,7 +319,8 @@ PLANS = (  # how a trace is made, its kind, and how many
     (plain_trace, "plain", 100),
     (many_settings, "several S", 40),
     (limit_settings, "settings at their limits", 30),
-    (subarray_edges, "edges of subarrays", 60),
+    (subarray_edges, "edges of subarrays", 80),
+    (large_banks, "large banks", 60),
     (no_settings, "no S", 10),
     (near_misses, "almost good lines", 40),
     (damaged, "damaged", 100),

@@ -14,7 +14,8 @@ from records import (
     settings_that_count, spelled, unfinished,
 )
 from traces import (
-    cut_off, damaged, limit_settings, many_settings, near_misses, noise, plain_trace, special_bytes,
+    cut_off, damaged, large_banks, limit_settings, many_settings, near_misses, noise, plain_trace,
+    special_bytes,
 )
 
 MOST_LINES = 64
@@ -122,8 +123,8 @@ def with_fault(kind, make):
 
 def any_text(rng):
     """A text of which only the model knows the answer."""
-    make = rng.choice((plain_trace, many_settings, limit_settings, near_misses, damaged,
-                       special_bytes, cut_off, noise))
+    make = rng.choice((plain_trace, many_settings, limit_settings, large_banks, near_misses,
+                       damaged, special_bytes, cut_off, noise))
     text = make(rng)[:rng.randint(1, TRACE_PLACES)]
     first = text.split(b"\n")[:MOST_LINES]
     text = b"\n".join(first) + (b"\n" if len(first) == MOST_LINES else b"")

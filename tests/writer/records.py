@@ -8,7 +8,7 @@ import functools
 import itertools
 
 from comparison import (
-    BLOCK, COUNTERS, DIAMETER, INTERVAL, ROWS, VOLUME, WINDOW, changed, spread,
+    BLOCK, COUNTERS, DIAMETER, INTERVAL, MAX_ROWS, ROWS, VOLUME, WINDOW, changed, spread,
 )
 from traces import BOUNDARIES, MOST, any_settings, bad_line, long_line, random_traces, small_settings
 
@@ -17,7 +17,8 @@ from traces import BOUNDARIES, MOST, any_settings, bad_line, long_line, random_t
 Case = collections.namedtuple("Case", "kind text spelling fault")
 
 EXTREMES = (
-    (16, 2, 1, 1, 1, 1, 16), (65_536, 4, 16, 2048, 4096, 8192, 64), (65_536, 2, 1, 1, 1, 1024, 64),
+    (16, 2, 1, 1, 1, 1, 16), (MAX_ROWS, 4, 16, 2048, 4096, 8192, 64),
+    (MAX_ROWS, 2, 1, 1, 1, 4096, 64),
 )
 STYLES = ((0, 0), (0.1, 0.1), (1, 0), (0, 0.5), (1, 1))  # how many leading zeros and blank lines
 LONG_SIZES = (44, 45, 63, 64, 65, 4095, 4096, 4097, 65_535, 65_536, 65_537, 131_072, 200_000)
@@ -115,7 +116,8 @@ def good_cases(rng, kind, count):
 def every_width():
     """Each number of digits under each number of leading zeros."""
     records, text = [("S", EXTREMES[1])], spelled([("S", EXTREMES[1])])
-    for number in (0, 1, 9, 10, 99, 100, 101, 999, 1000, 9999, 10_000, 60_000, 65_535):
+    for number in (0, 1, 9, 10, 99, 100, 101, 999, 1000, 9999, 10_000, 60_000, 65_535, 65_536,
+                   99_999, 100_000, 131_072, 200_000, 262_143):
         for width in range(len(str(number)), 7):
             records.append(("A", (number,)))
             text += b"A" + str(number).zfill(width).rjust(6).encode() + b"\n"
@@ -145,7 +147,8 @@ def bad_value(rng, settings, field):
     rows, volume, window = settings[ROWS], settings[VOLUME], settings[WINDOW]
     small_blocks = [block for block in range(1, 65) if block * window < rows]
     values = {
-        ROWS: (0, 1, 8, 15, 17, rows + 1, 65_535, 65_537, 65_552, 131_072),
+        ROWS: (0, 1, 8, 15, 17, rows + 1, 65_535, 65_537, 262_143, 262_145, 262_160,
+               MAX_ROWS + rows),
         DIAMETER: (0, 1, 3, 5, 6, 258, 65_538),
         VOLUME: (0, 17, 257, 65_537),
         COUNTERS: (0, volume - 1, 2049, 65_536 + volume),
@@ -164,7 +167,7 @@ def settings_fault(number):
 
 def row_fault(rng, settings):
     rows = settings[ROWS]
-    row = rng.choice((rows, rows + 1, rng.randint(rows, MOST), 65_536 + rng.randrange(rows), MOST))
+    row = rng.choice((rows, rows + 1, rng.randint(rows, MOST), MAX_ROWS + rng.randrange(rows), MOST))
     return respelled(rng, [("A", (row,))], (0.2, 0)), 9
 
 
@@ -198,8 +201,8 @@ def faulty_case(rng, kind, make, count):
 
 def settings_that_count(rng):
     """A row that a bank before, or behind, would have, and the last one has not."""
-    large = changed(rng.choice(EXTREMES[1:]), (ROWS, rng.choice((1024, 65_536))))
-    small = changed(large, (ROWS, rng.choice((16, 512))))
+    large = changed(rng.choice(EXTREMES[1:]), (ROWS, rng.choice((1024, 65_536, 131_072, MAX_ROWS))))
+    small = changed(large, (ROWS, rng.choice((16, 512, large[ROWS] // 2))))
     row = rng.randint(small[ROWS], large[ROWS] - 1)
     before = [("S", large), ("A", (row,))] if rng.random() < 0.7 else []
     records = before + [("S", small), ("A", (0,)), ("R", ())]

@@ -35,7 +35,7 @@ impl Settings {
     /// The error is the number of the first refusal.
     pub fn check(&self) -> Result<(), u32> {
         let tests = [
-            self.rows % 16 == 0 && (16..=65_536).contains(&self.rows),
+            self.rows % 16 == 0 && (16..=262_144).contains(&self.rows),
             self.blast_diameter == 2 || self.blast_diameter == 4,
             (1..=16).contains(&self.volume),
             (self.volume..=2_048).contains(&self.counters),

@@ -84,7 +84,7 @@ fn take(
 fn check(settings: [u32; 7]) -> Result<(), u32> {
     let [rows, blast_diameter, volume, counters, interval, window, block] = settings;
     let tests = [
-        rows % 16 == 0 && (16..=65_536).contains(&rows),
+        rows % 16 == 0 && (16..=262_144).contains(&rows),
         blast_diameter == 2 || blast_diameter == 4,
         (1..=16).contains(&volume),
         (volume..=2_048).contains(&counters),

@@ -14,6 +14,8 @@ pub struct Disturbance {
     counts: Vec<u64>,
     /// 'f': refresh events since the set up.
     events: u64,
+    /// The physical rows that the last call disturbed.
+    disturbed: Vec<u32>,
 }
 
 impl Disturbance {
@@ -22,11 +24,13 @@ impl Disturbance {
             settings: *settings,
             counts: vec![0; settings.rows as usize],
             events: 0,
+            disturbed: Vec::new(),
         }
     }
 
     pub fn activate(&mut self, logical_row: u32) {
         let row = physical_row(logical_row);
+        self.disturbed.clear();
         self.counts[row as usize] = 0;
         self.disturb_victims(row);
     }
@@ -36,6 +40,7 @@ impl Disturbance {
         let event = self.events % u64::from(self.settings.window);
         let mut refreshed = BTreeSet::from_iter(regular_block(&self.settings, event as u32));
         refreshed.extend(picked);
+        self.disturbed.clear();
         for row in &refreshed {
             self.counts[*row as usize] = 0;
         }
@@ -53,8 +58,13 @@ impl Disturbance {
         &self.counts
     }
 
+    pub fn disturbed(&self) -> &[u32] {
+        &self.disturbed
+    }
+
     fn disturb_victims(&mut self, row: u32) {
         for victim in victims(&self.settings, row) {
+            self.disturbed.push(victim);
             self.counts[victim as usize] += 1;
         }
     }

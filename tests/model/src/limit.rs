@@ -7,7 +7,7 @@ use crate::disturbance::Disturbance;
 use crate::random::Random;
 use crate::refusal::Refusal;
 use crate::remap::physical_row;
-use crate::settings::Settings;
+use crate::settings::{Settings, MAX_ROWS};
 use crate::tracker::{activate, refresh, set_up, Position};
 use crate::victims::{victims, SUBARRAY_ROWS};
 
@@ -38,11 +38,20 @@ enum Plan {
 /// Plays the run of this seed from its set up; an error says what did not hold.
 pub fn play(seed: u64) -> Result<Report, String> {
     let mut random = Random::new(seed);
-    let settings = random_settings(&mut random);
+    let settings = if random.once_in(200) {
+        large_bank(&mut random)
+    } else {
+        random_settings(&mut random)
+    };
     let plan = random_plan(&mut random, &settings);
     let early = random.choose(&[HARDLY_EVER, HARDLY_EVER, 20, 3]);
     let faults = random.choose(&[HARDLY_EVER, 20]);
-    let windows = random.choose(&[1, 1, 2, 3, 5]);
+    let windows: &[u32] = if is_large(&settings) {
+        &[1, 2]
+    } else {
+        &[1, 1, 2, 3, 5]
+    };
+    let windows = random.choose(windows);
     let describe = |what: &str| format!("seed {seed}, {settings:?}: {what}");
 
     let mut run = Run::set_up(settings, &mut random).map_err(|what| describe(&what))?;
@@ -158,8 +167,17 @@ impl Run {
         }
     }
 
+    /// Looks at every row, or in a large bank at those that the last call disturbed, since the
+    /// others stand no higher than before.
     fn check(&mut self) -> Result<(), String> {
-        let highest = *self.disturbance.counts().iter().max().unwrap_or(&0);
+        let counts = self.disturbance.counts();
+        let highest = if is_large(&self.settings) {
+            let disturbed = self.disturbance.disturbed().iter();
+            disturbed.map(|row| counts[*row as usize]).max()
+        } else {
+            counts.iter().copied().max()
+        };
+        let highest = highest.unwrap_or(0);
         let (limit, percent) = if self.disturbance.in_first_window() {
             (self.bound, &mut self.report.first_window_percent)
         } else {
@@ -232,8 +250,32 @@ fn random_settings(random: &mut Random) -> Settings {
     }
 }
 
+/// More than 65,536 rows: too many to look at each of them after each call.
+fn is_large(settings: &Settings) -> bool {
+    settings.rows > 65_536
+}
+
+/// With so many counters and so long an interval, a row that is hammered and never refreshed
+/// passes the limit.
+fn large_bank(random: &mut Random) -> Settings {
+    let rows = random.choose(&[65_552, 65_600, 131_072, 262_128, MAX_ROWS]);
+    let block = random.choose(&[63, 64]);
+    let volume = random.choose(&[1, 2, 4]);
+    Settings {
+        rows,
+        blast_diameter: random.choose(&[2, 4]),
+        volume,
+        counters: volume + random.between(20, 40),
+        interval: random.between(30, 40),
+        window: rows.div_ceil(block) + random.choose(&[0, 1]),
+        block,
+    }
+}
+
 fn random_plan(random: &mut Random, settings: &Settings) -> Plan {
-    match random.between(1, 8) {
+    // Those behind the fourth sort all rows.
+    let plans = if is_large(settings) { 4 } else { 8 };
+    match random.between(1, plans) {
         1 => Plan::Uniform,
         2..=4 => {
             let spread = random.choose(&[1, 2, 4, 8]);
