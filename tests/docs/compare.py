@@ -5,7 +5,8 @@
 
 Each page has a block marked rust that begins with the page's comment, below, and every block marked rust has to
 stand in crates/example/src/main.rt, line for line. README.md also says what the program prints, shows the example
-traces with what comes of them, and has the lines of the trace of subarrays and of its listing in its table.
+traces with what comes of them, has the lines of the trace of subarrays and of its listing in its table, and has a line of
+the trace of large banks and one of its listing whose columns are full.
 Exit status: 0 all equal; 1 a difference.
 """
 
@@ -29,6 +30,10 @@ SHOWN = (
     "tests/writer/example.trace", "tests/writer/example.spelling", "tests/writer/example.fault",
 )
 SUBARRAYS = ("tests/listing/subarrays.trace", "tests/listing/subarrays.listing")
+COLUMNS = {
+    "tests/listing/large.trace": "A262143",
+    "tests/listing/large.listing": "R     0     3262141262140262143",
+}
 
 
 def indented(text):
@@ -61,6 +66,9 @@ def main():
     in_table = [line for line in lines[0] if line[0] in "SA"] + [line for line in lines[1] if line[0] == "R"]
     for line in in_table:
         tally.check(f"`{line}`" in readme, f"README.md does not have '{line}' of {SUBARRAYS[0]} or its listing")
+    for file, line in COLUMNS.items():
+        tally.check(line in (ROOT / file).read_text().splitlines(), f"{file} has no line '{line}'")
+        tally.check(f"`{line}`" in readme, f"README.md does not have '{line}' of {file}")
     return tally.close("docs")
 
 

@@ -159,32 +159,33 @@ subarray-edges =
 unfoldable pub large : ℕ → ℕ → ℕ → ℕ → Settings
 large rows b c n = settings-of rows b 1 c 4 n 64
 
--- a first activation in such a bank
-unfoldable pub large-figure : ℕ → ℕ → List ℕ → Figure
-large-figure rows row given = activation-figure (large rows 4 4 4096) (fresh (large rows 4 4 4096) 0) row given
+-- a first activation in a bank of 65,552, with B = 4
+unfoldable pub large-figure : ℕ → List ℕ → Figure
+large-figure row given = activation-figure (large 65552 4 4 1025) (fresh (large 65552 4 4 1025) 0) row given
 
--- 'any multiple of 16 up to 262,144', and P × n at N and below it; the last two rows and one more; the rows at an edge of subarrays that 16 bits end at; the
--- last row and one more behind it; the last row picked where the block is empty
+-- 'any multiple of 16 up to 262,144', and P × n below N; the last two rows of a bank and one more; rows 65,535, 65,534, 65,536 and 65,537, of
+-- which the first two end a subarray and the others begin one; the last row picked where the block is empty
 unfoldable pub large-edges : List Figure
 large-edges =
-    set-up-figure (large 65552 2 2 4096) (0 ∷ 0 ∷ 0 ∷ 0 ∷ 0 ∷ []) ∷
-    set-up-figure (large 131072 2 2 4096) (0 ∷ 0 ∷ 0 ∷ 0 ∷ 0 ∷ []) ∷
+    set-up-figure (large 65552 2 2 1025) (0 ∷ 0 ∷ 0 ∷ 0 ∷ 0 ∷ []) ∷
+    set-up-figure (large 131072 2 2 2048) (0 ∷ 0 ∷ 0 ∷ 0 ∷ 0 ∷ []) ∷
     set-up-figure (large 262128 2 2 4096) (0 ∷ 0 ∷ 0 ∷ 0 ∷ 0 ∷ []) ∷
     set-up-figure (large 262144 2 2 4096) (0 ∷ 0 ∷ 0 ∷ 0 ∷ 0 ∷ []) ∷
-    set-up-figure (large 262144 2 2 4095) (7 ∷ 7 ∷ 7 ∷ 7 ∷ 7 ∷ []) ∷
     set-up-figure (large 262145 2 2 8192) (1 ∷ 7 ∷ 7 ∷ 7 ∷ 7 ∷ []) ∷
     set-up-figure (large 262160 2 2 8192) (1 ∷ 7 ∷ 7 ∷ 7 ∷ 7 ∷ []) ∷
-    large-figure 262144 262142 (0 ∷ 262141 ∷ 262142 ∷ 0 ∷ 0 ∷ 1 ∷ 1 ∷ 0 ∷ 0 ∷ 0 ∷ 1 ∷ 2 ∷ 0 ∷ []) ∷
-    large-figure 262144 262143 (0 ∷ 262140 ∷ 262141 ∷ 262143 ∷ 0 ∷ 1 ∷ 1 ∷ 1 ∷ 0 ∷ 0 ∷ 1 ∷ 3 ∷ 0 ∷ []) ∷
-    large-figure 262144 262144 (9 ∷ 0 ∷ 0 ∷ 0 ∷ 0 ∷ 0 ∷ 0 ∷ 0 ∷ 0 ∷ 0 ∷ 0 ∷ 0 ∷ 0 ∷ []) ∷
-    large-figure 65552 65534 (0 ∷ 65533 ∷ 65534 ∷ 0 ∷ 0 ∷ 1 ∷ 1 ∷ 0 ∷ 0 ∷ 0 ∷ 1 ∷ 2 ∷ 0 ∷ []) ∷
-    large-figure 65552 65535 (0 ∷ 65532 ∷ 65533 ∷ 65535 ∷ 0 ∷ 1 ∷ 1 ∷ 1 ∷ 0 ∷ 0 ∷ 1 ∷ 3 ∷ 0 ∷ []) ∷
-    large-figure 65552 65536 (0 ∷ 65537 ∷ 65538 ∷ 0 ∷ 0 ∷ 1 ∷ 1 ∷ 0 ∷ 0 ∷ 0 ∷ 1 ∷ 2 ∷ 0 ∷ []) ∷
-    large-figure 65552 65551 (0 ∷ 65548 ∷ 65549 ∷ 65551 ∷ 0 ∷ 1 ∷ 1 ∷ 1 ∷ 0 ∷ 0 ∷ 1 ∷ 3 ∷ 0 ∷ []) ∷
-    large-figure 65552 65552 (9 ∷ 0 ∷ 0 ∷ 0 ∷ 0 ∷ 0 ∷ 0 ∷ 0 ∷ 0 ∷ 0 ∷ 0 ∷ 0 ∷ 0 ∷ []) ∷
+    set-up-figure (large 262144 2 2 4095) (7 ∷ 7 ∷ 7 ∷ 7 ∷ 7 ∷ []) ∷
+    activation-figure (large 65552 2 2 1025) (untracked 0 0) 65551 (0 ∷ 65549 ∷ 65551 ∷ 1 ∷ 1 ∷ 0 ∷ 1 ∷ 2 ∷ 0 ∷ []) ∷
+    activation-figure (large 65552 2 2 1025) (untracked 0 0) 65552 (9 ∷ 0 ∷ 0 ∷ 0 ∷ 0 ∷ 0 ∷ 0 ∷ 0 ∷ 0 ∷ []) ∷
+    activation-figure (large 262144 2 2 4096) (untracked 0 0) 262143 (0 ∷ 262141 ∷ 262143 ∷ 1 ∷ 1 ∷ 0 ∷ 1 ∷ 2 ∷ 0 ∷ []) ∷
+    activation-figure (large 262144 2 2 4096) (untracked 0 0) 262142 (0 ∷ 262142 ∷ 0 ∷ 1 ∷ 0 ∷ 0 ∷ 1 ∷ 1 ∷ 0 ∷ []) ∷
+    activation-figure (large 262144 2 2 4096) (untracked 0 0) 262144 (9 ∷ 0 ∷ 0 ∷ 0 ∷ 0 ∷ 0 ∷ 0 ∷ 0 ∷ 0 ∷ []) ∷
+    large-figure 65534 (0 ∷ 65533 ∷ 65534 ∷ 0 ∷ 0 ∷ 1 ∷ 1 ∷ 0 ∷ 0 ∷ 0 ∷ 1 ∷ 2 ∷ 0 ∷ []) ∷
+    large-figure 65535 (0 ∷ 65532 ∷ 65533 ∷ 65535 ∷ 0 ∷ 1 ∷ 1 ∷ 1 ∷ 0 ∷ 0 ∷ 1 ∷ 3 ∷ 0 ∷ []) ∷
+    large-figure 65536 (0 ∷ 65537 ∷ 65538 ∷ 0 ∷ 0 ∷ 1 ∷ 1 ∷ 0 ∷ 0 ∷ 0 ∷ 1 ∷ 2 ∷ 0 ∷ []) ∷
+    large-figure 65537 (0 ∷ 65536 ∷ 65538 ∷ 65539 ∷ 0 ∷ 1 ∷ 1 ∷ 1 ∷ 0 ∷ 0 ∷ 1 ∷ 3 ∷ 0 ∷ []) ∷
     event-figure (large 262144 4 4 8192) (tracks-one (large 262144 4 4 8192) 4096 262143)
     (0 ∷ 1 ∷ 262143 ∷ 7 ∷ 262141 ∷ 262142 ∷ 0 ∷ 0 ∷ 1 ∷ 1 ∷ 0 ∷ 0 ∷ 4097 ∷ 0 ∷ 2 ∷ 0 ∷ []) ∷ []
 
--- all of them; tests/calls/edges.calls runs the same
+-- all of them; tests/calls/edges.calls runs the same, and more
 unfoldable pub edges : List Figure
 edges = set-up-edges ++ activation-edges ++ event-edges ++ agreement-edges ++ subarray-edges ++ large-edges
