@@ -1,4 +1,5 @@
--- 'Settings, in this order': what is allowed of each, and the tests with their numbers.
+-- 'Settings, in this order': what is allowed of each, and the tests with their numbers. The most that N may be is an argument of what rests on it, so that
+-- Claims.antt can say of settings of a smaller range that they get what they got.
 use Prim.Native.Nat.{ℕ, _*_, _%_}
 use mathlib.Core.Bool.{Bool, true, _&&_, _||_}
 use mathlib.Core.List.{List, [], _∷_}

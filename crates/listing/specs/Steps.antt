@@ -5,10 +5,10 @@ use mathlib.Core.Option.{Option, none, some}
 use lib.ListN.{take, replicate}
 use Rattle.device.specs.declared.Settings.{Settings}
 use Rattle.device.specs.Refusal.{Outcome, accepted, refused}
+use Rattle.device.specs.Acceptance.{most-rows}
 use Rattle.bound.specs.Totals.{bound-of}
 use Rattle.tracker.specs.declared.Position.{Position}
 use Rattle.tracker.specs.State.{State}
-use Rattle.device.specs.Acceptance.{most-rows}
 use Rattle.tracker.specs.Calls.{SetUp-call, Activation-call, Refresh-call, set-up-to, activation-to, refresh-to}
 use Rattle.trace.specs.declared.Record.{Record}
 use Rattle.trace.specs.declared.Record.the-variants.{Set, Activate, Refresh, Blank}

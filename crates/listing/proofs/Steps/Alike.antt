@@ -1,6 +1,6 @@
 -- Lines of settings whose N is judged alike where it may be up to another most: each does the same there and here.
 use mathlib.Core.Path.{_≡_, refl, ap}
-use mathlib.Core.List.{List, [], _∷_, _++_, List·Memᴰ·head, List·Memᴰ·tail}
+use mathlib.Core.List.{List, [], _∷_, List·Memᴰ·head, List·Memᴰ·tail}
 use mathlib.Core.Option.{Option, none, some}
 use Prim.Native.Nat.{ℕ, suc}
 use lib.ListN.{replicate}
@@ -42,15 +42,15 @@ unfolding Standing-alike set-up-step refused-step
 set-up-alike most number s call (accepted p) h = h
 set-up-alike most number s call (refused k) h = tt
 
-line-alike : (most number : ℕ) (t : Option Tracker) (o : Outcome Record) (os : List (Outcome Record)) → Standing-alike most t → All-alike most (o ∷ os) → Standing-alike most (line-step number t o .tracker)
+line-stands-alike : (most number : ℕ) (t : Option Tracker) (o : Outcome Record) (os : List (Outcome Record)) → Standing-alike most t → All-alike most (o ∷ os) → Standing-alike most (line-step number t o .tracker)
 unfolding Standing-alike line-step-to record-step-to refused-step activation-step refresh-step
-line-alike most number t (refused k) os h all = h
-line-alike most number t (accepted (Set s)) os h all = set-up-alike most number s _ _ (all s (List·Memᴰ·head refl))
-line-alike most number none (accepted (Activate row)) os h all = tt
-line-alike most number (some t) (accepted (Activate row)) os h all = h
-line-alike most number none (accepted Refresh) os h all = tt
-line-alike most number (some t) (accepted Refresh) os h all = h
-line-alike most number t (accepted Blank) os h all = h
+line-stands-alike most number t (refused k) os h all = h
+line-stands-alike most number t (accepted (Set s)) os h all = set-up-alike most number s _ _ (all s (List·Memᴰ·head refl))
+line-stands-alike most number none (accepted (Activate row)) os h all = tt
+line-stands-alike most number (some t) (accepted (Activate row)) os h all = h
+line-stands-alike most number none (accepted Refresh) os h all = tt
+line-stands-alike most number (some t) (accepted Refresh) os h all = h
+line-stands-alike most number t (accepted Blank) os h all = h
 
 pub listed-alike : (most : ℕ) (g : Progress) (os : List (Outcome Record)) → Standing-alike most (g .tracker) → All-alike most os → listed-to most g os ≡ listed g os
 unfolding listed-to step-to next-to
@@ -59,5 +59,5 @@ listed-alike most g (o ∷ os) h all =
     let number : ℕ = suc (g .count) in
     rw (
       line-same most number (g .tracker) o os h all,
-      listed-alike most (next g o) os (line-alike most number (g .tracker) o os h all) (λ s m. all s (List·Memᴰ·tail m)),
+      listed-alike most (next g o) os (line-stands-alike most number (g .tracker) o os h all) (λ s m. all s (List·Memᴰ·tail m)),
     )
