@@ -105,7 +105,7 @@ def large_settings(rng):
 
 
 def any_settings(rng):
-    """Mostly small; now and then of any size but the counters'."""
+    """Mostly small, one in ten large; now and then of any size but the counters'."""
     chance = rng.random()
     if chance < 0.87:
         return small_settings(rng)

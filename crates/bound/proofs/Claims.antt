@@ -1,7 +1,8 @@
 -- The claims of specs/Claims.antt, each under its own name.
 use Prim.Native.Nat.{_-_}
 use native.Mathlib.Omega.{arith}
-use Rattle.device.proofs.Acceptance.{accepted-skipping, accepted-but-counters, settings-alike, but-counters-alike}
+use Rattle.device.specs.Refusal.{tested}
+use Rattle.device.proofs.Acceptance.{accepted-skipping, accepted-but-counters, settings-alike, but-counters-alike, settings-above, but-counters-above}
 use Rattle.bound.specs.Least.{meets, least-of}
 use Rattle.bound.specs.Answers.{bound-answer-to, least-answer-to}
 use Rattle.bound.specs.Claims.{Bound-grows-with-window, Bound-falls-with-counters, Least-is-least, Twelve-is-none, Bound-is-small, Answers-stay}
@@ -35,5 +36,8 @@ unfolding Bound-is-small
 bound-is-small s e = bound-lt s (accepted-but-counters s (accepted-skipping s e))
 
 pub answers-stay : Answers-stay
-unfolding Answers-stay bound-answer-to least-answer-to
-answers-stay most s alike = (rw (settings-alike most s alike), λ threshold. rw (but-counters-alike most s alike))
+unfolding Answers-stay bound-answer-to least-answer-to tested
+answers-stay most s threshold = (
+  λ alike. (rw (settings-alike most s alike), rw (but-counters-alike most s alike)),
+  λ h. (rw (settings-above most s h), rw (but-counters-above most s h)),
+)

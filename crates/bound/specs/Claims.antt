@@ -42,8 +42,10 @@ Twelve-is-none = (s : Settings) (threshold : ℕ) → Twelve s threshold
 unfoldable pub Bound-is-small : Type 0
 Bound-is-small = (s : Settings) → first-failed (settings-tests s) ≡ 0 → bound-of s < 2 ^ 28
 
--- settings whose N is judged alike where it may be up to another most get the same answers: all 'that were valid' do (`Settings-stay`)
+-- the answers where N may be up to another most: as they are for settings whose N is judged alike, so for all 'that were valid' (`Settings-stay`), and
+-- refused with 1 where N is above it
 unfoldable pub Answers-stay : Type 0
 Answers-stay =
-    (most : ℕ) (s : Settings) → Alike most s →
-    (bound-answer-to most s ≡ bound-answer s) × ((threshold : ℕ) → least-answer-to most s threshold ≡ least-answer s threshold)
+    (most : ℕ) (s : Settings) (threshold : ℕ) →
+    (Alike most s → (bound-answer-to most s ≡ bound-answer s) × (least-answer-to most s threshold ≡ least-answer s threshold)) ×
+    (most < s .rows → (bound-answer-to most s ≡ refused 1) × (least-answer-to most s threshold ≡ refused 1))

@@ -1,17 +1,18 @@
 -- What it says of the settings that they are accepted, as facts about numbers; their refusals are 1 to 7.
-use mathlib.Core.Path.{_≡_, refl}
-use mathlib.Core.Bool.{Bool, true, false, _||_, not}
-use mathlib.Core.Logic.{_⊎_, inl, inr, ⊎-map}
+use mathlib.Core.Path.{_≡_, refl, sym, ap, _∙_}
+use mathlib.Core.Bool.{Bool, true, false, _&&_, _||_, not, and-false}
+use mathlib.Core.Logic.{_⊎_, inl, inr, ⊎-map, ⊎-elim}
 use mathlib.Core.List.{List, _++_}
 use Prim.Native.Nat.{ℕ, _*_, _%_, _≤_, _<_}
 use native.Mathlib.Omega.{arith}
 use borrow.Author.Tests.{leb-true, eqb-true, le-leb, lt-leb}
 use lib.Dec.{leb, eqb, lit≤}
-use Rattle.laws.proofs.Cases.{and-both}
+use Rattle.laws.proofs.Cases.{and-both, le-or-lt, zero-one}
 use Rattle.device.specs.declared.Settings.{Settings}
 use Rattle.device.specs.Refusal.{Test, first-failed, unless}
 use Rattle.device.specs.Acceptance.{most-rows, most-counters, within, rows-allowed-to, rows-allowed, diameter-allowed, block-allowed, settings-tests-with, settings-tests-to, settings-tests-but-counters-to, settings-tests, settings-tests-but-counters}
-use Rattle.device.proofs.Refusal.{refuse-passed, refuse-le, or-later, later-refuse}
+use Rattle.device.specs.Claims.{Alike}
+use Rattle.device.proofs.Refusal.{refuse-passed, refuse-failed, refuse-le, or-later, later-refuse}
 
 -- a number from low to high
 pub record Between (low high x : ℕ) : Type 0 where
@@ -122,30 +123,58 @@ settings-then s later =
       later-refuse (not (block-allowed (s .block) (s .window) (s .rows))) 6,
     )
 
--- N up to another most: judged alike up to a smaller one, and above `most-rows`; accepted settings have no N above their most
+-- N up to another most: not above it, judged alike up to a smaller one and above `most-rows`
+within-above : (low high x : ℕ) → high < x → within low high x ≡ false
+unfolding within
+within-above low high x h = rw (lt-leb x high h) (and-false (leb low x))
+
+rows-above : (most n : ℕ) → most < n → rows-allowed-to most n ≡ false
+unfolding rows-allowed-to
+rows-above most n h = ap (λ (b : Bool). b && eqb (n % 16) 0) (within-above _ most n h)
+
 pub rows-small-alike : (most n : ℕ) → most ≤ most-rows → n ≤ most → rows-allowed-to most n ≡ rows-allowed n
 unfolding rows-allowed-to within
 rows-small-alike most n h small = rw (le-leb n most small, le-leb n most-rows (omega arith))
 
 pub rows-large-alike : (most n : ℕ) → most ≤ most-rows → most-rows < n → rows-allowed-to most n ≡ rows-allowed n
-unfolding rows-allowed-to within
-rows-large-alike most n h large = rw (lt-leb n most (omega arith), lt-leb n most-rows large)
+rows-large-alike most n h large = rows-above most n (omega arith) ∙ sym (rows-above most-rows n large)
 
-pub accepted-rows-le : (most : ℕ) (counters-allowed : Bool) (s : Settings) → first-failed (settings-tests-with most counters-allowed s) ≡ 0 → s .rows ≤ most
-unfolding first-failed unless settings-tests-with rows-allowed-to
+-- N above the most is refused with 1, whatever is tested behind it; so accepted settings have none
+above-refused : (most : ℕ) (counters-allowed : Bool) (s : Settings) → most < s .rows → first-failed (settings-tests-with most counters-allowed s) ≡ 1
+unfolding first-failed unless settings-tests-with
+above-refused most counters-allowed s h = refuse-failed (rows-allowed-to most (s .rows)) 1 _ (rows-above most (s .rows) h)
+
+pub above-then : (most : ℕ) (s : Settings) → most < s .rows → (later : List Test) → first-failed (settings-tests-to most s ++ later) ≡ 1
+unfolding first-failed unless settings-tests-to settings-tests-with
+above-then most s h later = refuse-failed (rows-allowed-to most (s .rows)) 1 _ (rows-above most (s .rows) h)
+
+pub settings-above : (most : ℕ) (s : Settings) → most < s .rows → first-failed (settings-tests-to most s) ≡ 1
+unfolding settings-tests-to
+settings-above most s h = above-refused most (within (s .volume) most-counters (s .counters)) s h
+
+pub but-counters-above : (most : ℕ) (s : Settings) → most < s .rows → first-failed (settings-tests-but-counters-to most s) ≡ 1
+unfolding settings-tests-but-counters-to
+but-counters-above most s h = above-refused most true s h
+
+accepted-rows-le : (most : ℕ) (counters-allowed : Bool) (s : Settings) → first-failed (settings-tests-with most counters-allowed s) ≡ 0 → s .rows ≤ most
 accepted-rows-le most counters-allowed s e =
-    let allowed = refuse-passed (rows-allowed-to most (s .rows)) 0 _ e .0 in
-    within-between 16 most (s .rows) (and-both (within 16 most (s .rows)) (eqb (s .rows % 16) 0) allowed .0) .most
+    ⊎-elim (λ l. l) (λ h. zero-one (sym e ∙ above-refused most counters-allowed s h)) (le-or-lt (s .rows) most)
 
 -- where N is judged alike, the tests are the same
-pub tests-alike : (most : ℕ) (counters-allowed : Bool) (s : Settings) → rows-allowed-to most (s .rows) ≡ rows-allowed (s .rows) → settings-tests-with most counters-allowed s ≡ settings-tests-with most-rows counters-allowed s
+pub tests-alike : (most : ℕ) (counters-allowed : Bool) (s : Settings) → Alike most s → settings-tests-with most counters-allowed s ≡ settings-tests-with most-rows counters-allowed s
 unfolding settings-tests-with
 tests-alike most counters-allowed s alike = rw alike
 
-pub settings-alike : (most : ℕ) (s : Settings) → rows-allowed-to most (s .rows) ≡ rows-allowed (s .rows) → settings-tests-to most s ≡ settings-tests s
+pub settings-alike : (most : ℕ) (s : Settings) → Alike most s → settings-tests-to most s ≡ settings-tests s
 unfolding settings-tests-to
 settings-alike most s alike = tests-alike most (within (s .volume) most-counters (s .counters)) s alike
 
-pub but-counters-alike : (most : ℕ) (s : Settings) → rows-allowed-to most (s .rows) ≡ rows-allowed (s .rows) → settings-tests-but-counters-to most s ≡ settings-tests-but-counters s
+pub but-counters-alike : (most : ℕ) (s : Settings) → Alike most s → settings-tests-but-counters-to most s ≡ settings-tests-but-counters s
 unfolding settings-tests-but-counters-to
 but-counters-alike most s alike = tests-alike most true s alike
+
+-- accepted settings stay accepted, whether a C is given or not
+pub accepted-stays : (most : ℕ) → most ≤ most-rows → (counters-allowed : Bool) (s : Settings) → first-failed (settings-tests-with most counters-allowed s) ≡ 0 → (first-failed (settings-tests-with most-rows counters-allowed s) ≡ 0) × Alike most s
+accepted-stays most h counters-allowed s e =
+    let alike = rows-small-alike most (s .rows) h (accepted-rows-le most counters-allowed s e) in
+    (sym (ap first-failed (tests-alike most counters-allowed s alike)) ∙ e, alike)

@@ -1,32 +1,28 @@
 -- The claims of specs/Claims.antt, each under its own name.
-use mathlib.Core.Path.{_≡_, sym, ap, _∙_}
-use mathlib.Core.Bool.{Bool, true}
-use Prim.Native.Nat.{ℕ, _≤_}
-use Rattle.device.specs.declared.Settings.{Settings}
-use Rattle.device.specs.Refusal.{first-failed}
-use Rattle.device.specs.Acceptance.{most-rows, most-counters, within, settings-tests-with, settings-tests-to, settings-tests-but-counters-to}
-use Rattle.device.specs.Claims.{Alike, Settings-stay, Victims-are-neighbours, Small-banks-uncut, Remap-is-permutation}
-use Rattle.device.proofs.Acceptance.{rows-small-alike, rows-large-alike, accepted-rows-le, tests-alike, settings-alike, but-counters-alike}
+use mathlib.Core.Bool.{true}
+use Rattle.device.specs.Acceptance.{most-counters, within, settings-tests-to, settings-tests-but-counters-to}
+use Rattle.device.specs.Claims.{Settings-stay, Victims-are-neighbours, Small-banks-uncut, Remap-is-permutation}
+use Rattle.device.proofs.Acceptance.{rows-small-alike, rows-large-alike, settings-above, but-counters-above, settings-alike, but-counters-alike, accepted-stays}
 use Rattle.device.proofs.Victims.{victim-near, near-victim, victims-ascend, ascends-at, length-victims-le, victims-uncut}
 use Rattle.device.proofs.Remap.{physical-below, physical-distinct}
-
--- accepted settings, whether a C is given or not
-with-stays : (most : ℕ) → most ≤ most-rows → (counters-allowed : Bool) (s : Settings) → first-failed (settings-tests-with most counters-allowed s) ≡ 0 → (first-failed (settings-tests-with most-rows counters-allowed s) ≡ 0) × Alike most s
-with-stays most h counters-allowed s e =
-    let alike = rows-small-alike most (s .rows) h (accepted-rows-le most counters-allowed s e) in
-    (sym (ap first-failed (tests-alike most counters-allowed s alike)) ∙ e, alike)
 
 pub settings-stay : Settings-stay
 unfolding Settings-stay settings-tests-to settings-tests-but-counters-to
 settings-stay most h s =
-    record {
-      accepted-stays = with-stays most h (within (s .volume) most-counters (s .counters)) s;
-      accepted-but-counters-stays = with-stays most h true s;
-      small-alike = rows-small-alike most (s .rows) h;
-      large-alike = rows-large-alike most (s .rows) h;
-      same-tests = settings-alike most s;
-      same-tests-but-counters = but-counters-alike most s;
-    }
+    let counters = within (s .volume) most-counters (s .counters) in (
+      record {
+        accepted-stays = accepted-stays most h counters s;
+        same-tests = settings-alike most s;
+        above-refused = settings-above most s;
+      },
+      record {
+        accepted-stays = accepted-stays most h true s;
+        same-tests = but-counters-alike most s;
+        above-refused = but-counters-above most s;
+      },
+      rows-small-alike most (s .rows) h,
+      rows-large-alike most (s .rows) h,
+    )
 
 pub victims-are-neighbours : Victims-are-neighbours
 unfolding Victims-are-neighbours

@@ -20,6 +20,11 @@ unfolding refuse
 refuse-passed true k later e = (refl, e)
 refuse-passed false k later e = absurd (omega arith)
 
+-- a test that failed decides
+pub refuse-failed : (allowed : Bool) (k later : ℕ) → allowed ≡ false → refuse (not allowed) k later ≡ k
+unfolding refuse
+refuse-failed allowed k later e = rw e
+
 pub refuse-le : (failed : Bool) (k : ℕ) {later most : ℕ} → k ≤ most → later ≤ most → refuse failed k later ≤ most
 unfolding refuse
 refuse-le true k h later = h

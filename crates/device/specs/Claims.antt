@@ -4,8 +4,8 @@ use mathlib.Core.Path.{_≡_}
 use mathlib.Core.List.{List, List·Memᴰ}
 use lib.ListN.{length, getD}
 use Rattle.device.specs.declared.Settings.{Settings}
-use Rattle.device.specs.Refusal.{first-failed}
-use Rattle.device.specs.Acceptance.{most-rows, rows-allowed-to, rows-allowed, settings-tests-to, settings-tests-but-counters-to, settings-tests, settings-tests-but-counters}
+use Rattle.device.specs.Refusal.{Test, first-failed}
+use Rattle.device.specs.Acceptance.{most-rows, rows-allowed-to, rows-allowed, settings-tests-to, settings-tests-but-counters-to}
 use Rattle.device.specs.Remap.{physical}
 use Rattle.device.specs.Victims.{within-reach, subarray-rows, subarray, victims}
 
@@ -13,19 +13,20 @@ use Rattle.device.specs.Victims.{within-reach, subarray-rows, subarray, 
 abbrev pub Alike : ℕ → Settings → Type 0
 Alike most s = rows-allowed-to most (s .rows) ≡ rows-allowed (s .rows)
 
--- settings beside a rule with another most: those that it accepts are accepted, it judges every N up to its most and above `most-rows` alike, and where N is
--- judged alike all tests are the same
-pub record Stays (most : ℕ) (s : Settings) : Type 0 where
-  pub accepted-stays : first-failed (settings-tests-to most s) ≡ 0 → (first-failed (settings-tests s) ≡ 0) × Alike most s
-  pub accepted-but-counters-stays : first-failed (settings-tests-but-counters-to most s) ≡ 0 → (first-failed (settings-tests-but-counters s) ≡ 0) × Alike most s
-  pub small-alike : s .rows ≤ most → Alike most s
-  pub large-alike : most-rows < s .rows → Alike most s
-  pub same-tests : Alike most s → settings-tests-to most s ≡ settings-tests s
-  pub same-tests-but-counters : Alike most s → settings-tests-but-counters-to most s ≡ settings-tests-but-counters s
+-- tests of settings beside the same with another most: what that accepts is accepted, and N judged alike; where N is judged alike the tests are the same; N above
+-- that most is refused with 1
+pub record Stays (tests : ℕ → Settings → List Test) (most : ℕ) (s : Settings) : Type 0 where
+  pub accepted-stays : first-failed (tests most s) ≡ 0 → (first-failed (tests most-rows s) ≡ 0) × Alike most s
+  pub same-tests : Alike most s → tests most s ≡ tests most-rows s
+  pub above-refused : most < s .rows → first-failed (tests most s) ≡ 1
 
--- 'settings that were valid' where N went up to less, to 65,536 in document 01, are valid, and nothing but N from there to `most-rows` is judged otherwise
+-- 'settings that were valid' where N went up to less, to 65,536 in document 01, are valid, with a C and where none is given; and nothing but N from there to
+-- `most-rows` is judged otherwise
 unfoldable pub Settings-stay : Type 0
-Settings-stay = (most : ℕ) → most ≤ most-rows → (s : Settings) → Stays most s
+Settings-stay =
+    (most : ℕ) → most ≤ most-rows → (s : Settings) →
+    Stays settings-tests-to most s × Stays settings-tests-but-counters-to most s ×
+    (s .rows ≤ most → Alike most s) × (most-rows < s .rows → Alike most s)
 
 -- the distance of two rows
 abbrev pub distance : ℕ → ℕ → ℕ

@@ -10,7 +10,7 @@ use Rattle.listing.specs.Chunks.{part, chunk}
 use Rattle.listing.specs.Parts.{comes, lists, keeps, ends}
 use Rattle.listing.specs.Steps.{start}
 use Rattle.listing.specs.Claims.{Parts-joined, Part-moves, Chunk-moves, End-moves, Listings-stay}
-use Rattle.listing.proofs.Steps.Alike.{Standing-alike, listed-alike}
+use Rattle.listing.proofs.Steps.Alike.{Standing-alike, listed-alike, step-above}
 use Rattle.listing.proofs.Texts.{listing-cut, listing-kept}
 use Rattle.listing.proofs.Chunks.Lines.{done-part}
 use Rattle.listing.proofs.Chunks.LastLine.{last-line-listing}
@@ -58,4 +58,4 @@ chunk-moves m g text len buffer r h room =
 
 pub listings-stay : Listings-stay
 unfolding Listings-stay listing-to start Standing-alike
-listings-stay most text all = listed-alike most start (outcomes text) tt all
+listings-stay most = (λ text all. listed-alike most start (outcomes text) tt all, step-above most)

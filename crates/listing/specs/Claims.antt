@@ -1,12 +1,16 @@
 -- What is claimed of the listing, besides the calls' contracts. proofs/Claims.antt proves each under the same name.
-use Prim.Native.Nat.{ℕ, _+_, _*_, _≤_}
+use Prim.Native.Nat.{ℕ, suc, _+_, _*_, _≤_, _<_}
 use mathlib.Core.Path.{_≡_}
 use mathlib.Core.Bool.{false}
 use mathlib.Core.List.{List, [], _++_}
+use mathlib.Core.Option.{none}
 use lib.ListN.{length, take, drop}
 use Rattle.trace.specs.Lines.{ended}
+use Rattle.device.specs.declared.Settings.{Settings}
+use Rattle.device.specs.Refusal.{accepted}
+use Rattle.trace.specs.declared.Record.the-variants.{Set}
 use Rattle.trace.specs.Claims.{All-alike}
-use Rattle.listing.specs.Steps.{Progress, start}
+use Rattle.listing.specs.Steps.{Progress, start, refused-step, step-to}
 use Rattle.listing.specs.Texts.{listing-to, listing}
 use Rattle.listing.specs.Memory.{Memory, Represents}
 use Rattle.listing.specs.Chunks.{next-number, line-room, part, chunk, last-line}
@@ -39,6 +43,9 @@ End-moves =
     Printed g text [] (last-line (next-number (m .place .lines)) text room)
 
 -- 'settings that were valid give the listings they gave': a trace has the listing that it has where N may be up to another most, if that judges N of all
--- its settings lines alike, as it does every N up to its most and above `most-rows` (`Settings-stay`)
+-- its settings lines alike, as it does every N up to its most and above `most-rows` (`Settings-stay`); a settings line with N above that most is refused with 1 there
 unfoldable pub Listings-stay : Type 0
-Listings-stay = (most : ℕ) (text : List ℕ) → All-alike most (outcomes text) → listing-to most start text ≡ listing start text
+Listings-stay =
+    (most : ℕ) →
+    ((text : List ℕ) → All-alike most (outcomes text) → listing-to most start text ≡ listing start text) ×
+    ((g : Progress) (s : Settings) → most < s .rows → step-to most g (accepted (Set s)) ≡ refused-step (suc (g .count)) 1 none)

@@ -2,6 +2,8 @@
 use mathlib.Core.Path.{sym, ap, _∙_}
 use mathlib.Core.Option.{none}
 use lib.ListN.{drop-of-length-le}
+use Rattle.device.proofs.Acceptance.{settings-above}
+use Rattle.trace.specs.Writing.{fault-to}
 use Rattle.trace.specs.Claims.{Read-in-turn, Round-trip, Read-back, One-spelling, Rewritten-stays, Writer-spells, Written-stays, Before-sound, Writing-stays}
 use Rattle.trace.specs.Spelling.{spelling, unblank}
 use Rattle.trace.specs.Texts.{outcomes}
@@ -62,9 +64,8 @@ before-sound os = (
 )
 
 pub writing-stays : Writing-stays
-unfolding Writing-stays
-writing-stays most os all = (
-  λ text. writing-alike most os text all,
-  first-fault-alike most none os all,
-  before-fault-alike most none os all,
+unfolding Writing-stays fault-to
+writing-stays most os = (
+  λ all. (λ text. writing-alike most os text all, first-fault-alike most none os all, before-fault-alike most none os all),
+  λ standing s h. settings-above most s h,
 )

@@ -3,7 +3,7 @@ use Prim.Native.Nat.{ℕ, _≤_, _<_}
 use mathlib.Core.Path.{_≡_}
 use mathlib.Core.Bool.{true}
 use mathlib.Core.List.{List, [], _∷_, _++_, List·Memᴰ}
-use mathlib.Core.Option.{none}
+use mathlib.Core.Option.{Option, none}
 use lib.ListN.{length, take, drop}
 use Rattle.device.specs.declared.Settings.{Settings}
 use Rattle.device.specs.Refusal.{Outcome, accepted}
@@ -13,7 +13,7 @@ use Rattle.trace.specs.declared.Record.the-variants.{Set}
 use Rattle.trace.specs.Reading.{reading}
 use Rattle.trace.specs.Texts.{outcomes}
 use Rattle.trace.specs.Spelling.{spelling, unblank, unrefused}
-use Rattle.trace.specs.Writing.{first-fault-to, before-fault-to, writing-to, standing-after, fault, first-fault, before-fault, writing}
+use Rattle.trace.specs.Writing.{fault-to, first-fault-to, before-fault-to, writing-to, standing-after, fault, first-fault, before-fault, writing}
 
 -- 'read line by line': what the reader says at a place, then what it says from the place behind that line on, until no byte is left
 unfoldable pub Read-in-turn : Type 0
@@ -79,9 +79,11 @@ Before-sound =
 abbrev pub All-alike : ℕ → List (Outcome Record) → Type 0
 All-alike most os = (s : Settings) → List·Memᴰ (accepted (Set s)) os → Alike most s
 
--- such answers are written as they would be there, and the same one is the first faulty
+-- such answers are written as they would be there, and the same one is the first faulty; settings with N above that most have fault 1 there
 unfoldable pub Writing-stays : Type 0
 Writing-stays =
-    (most : ℕ) (os : List (Outcome Record)) → All-alike most os →
+    (most : ℕ) (os : List (Outcome Record)) →
+    (All-alike most os →
     ((text : List ℕ) → writing-to most os text ≡ writing os text) × (first-fault-to most none os ≡ first-fault none os) ×
-    (before-fault-to most none os ≡ before-fault none os)
+    (before-fault-to most none os ≡ before-fault none os)) ×
+    ((standing : Option ℕ) (s : Settings) → most < s .rows → fault-to most standing (accepted (Set s)) ≡ 1)

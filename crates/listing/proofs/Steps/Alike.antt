@@ -1,8 +1,8 @@
--- Lines of settings whose N is judged alike where it may be up to another most: each does the same there and here.
+-- Lines of settings whose N is judged alike where it may be up to another most: each does the same there and here. And such a line with N above it.
 use mathlib.Core.Path.{_≡_, refl, ap}
 use mathlib.Core.List.{List, [], _∷_, List·Memᴰ·head, List·Memᴰ·tail}
 use mathlib.Core.Option.{Option, none, some}
-use Prim.Native.Nat.{ℕ, suc}
+use Prim.Native.Nat.{ℕ, suc, _<_}
 use lib.ListN.{replicate}
 use Rattle.device.specs.declared.Settings.{Settings}
 use Rattle.device.specs.Claims.{Alike}
@@ -27,14 +27,14 @@ unfolding Standing-alike line-step-to record-step-to Calls-stay
 line-same most number t (refused k) os h all = refl
 line-same most number t (accepted (Set s)) os h all =
     ap (λ (call : SetUp-call). set-up-step number s call (call .answer))
-    (calls-stay most s (all s (List·Memᴰ·head refl)) .same-set-up (replicate (s .counters) 0) (replicate (s .counters) 0))
+    (calls-stay most s .0 (all s (List·Memᴰ·head refl)) .same-set-up (replicate (s .counters) 0) (replicate (s .counters) 0))
 line-same most number none (accepted (Activate row)) os h all = refl
 line-same most number (some t) (accepted (Activate row)) os h all =
-    ap (λ (call : Activation-call). activation-step number (t .settings) call) (calls-stay most (t .settings) h .same-activation (t .state) row)
+    ap (λ (call : Activation-call). activation-step number (t .settings) call) (calls-stay most (t .settings) .0 h .same-activation (t .state) row)
 line-same most number none (accepted Refresh) os h all = refl
 line-same most number (some t) (accepted Refresh) os h all =
     ap (λ (call : Refresh-call). refresh-step number (t .settings) (t .state .position .events) call)
-    (calls-stay most (t .settings) h .same-refresh (t .state) (replicate (t .settings .volume) 0))
+    (calls-stay most (t .settings) .0 h .same-refresh (t .state) (replicate (t .settings .volume) 0))
 line-same most number t (accepted Blank) os h all = refl
 
 set-up-alike : (most number : ℕ) (s : Settings) (call : SetUp-call) (answer : Outcome Position) → Alike most s → Standing-alike most (set-up-step number s call answer .tracker)
@@ -61,3 +61,10 @@ listed-alike most g (o ∷ os) h all =
       line-same most number (g .tracker) o os h all,
       listed-alike most (next g o) os (line-stands-alike most number (g .tracker) o os h all) (λ s m. all s (List·Memᴰ·tail m)),
     )
+
+-- a settings line with N above the most
+pub step-above : (most : ℕ) (g : Progress) (s : Settings) → most < s .rows → step-to most g (accepted (Set s)) ≡ refused-step (suc (g .count)) 1 none
+unfolding step-to line-step-to record-step-to set-up-step Calls-stay
+step-above most g s h =
+    ap (λ (call : SetUp-call). set-up-step (suc (g .count)) s call (call .answer))
+    (calls-stay most s .1 h .refused-set-up (replicate (s .counters) 0) (replicate (s .counters) 0))
