@@ -1,10 +1,10 @@
 -- The claims of specs/Claims.antt, each under its own name.
 use mathlib.Core.Bool.{true}
 use Rattle.device.specs.Acceptance.{most-counters, within, settings-tests-to, settings-tests-but-counters-to}
-use Rattle.device.specs.Claims.{Settings-stay, Victims-are-neighbours, Small-banks-uncut, Remap-is-permutation}
+use Rattle.device.specs.Claims.{Settings-stay, Victims-are-neighbours, Small-banks-uncut, Remap-is-permutation, Own-remap-allowed}
 use Rattle.device.proofs.Acceptance.{rows-small-alike, rows-large-alike, settings-above, but-counters-above, settings-alike, but-counters-alike, accepted-stays}
 use Rattle.device.proofs.Victims.{victim-near, near-victim, victims-ascend, ascends-at, length-victims-le, victims-uncut}
-use Rattle.device.proofs.Remap.{physical-below, physical-distinct}
+use Rattle.device.proofs.Remap.{physical-below, physical-distinct, own-allowed}
 
 pub settings-stay : Settings-stay
 unfolding Settings-stay settings-tests-to settings-tests-but-counters-to
@@ -40,5 +40,9 @@ small-banks-uncut rows diameter row small h = victims-uncut rows diameter row sm
 
 pub remap-is-permutation : Remap-is-permutation
 unfolding Remap-is-permutation
-remap-is-permutation rows whole =
-    record { stays = λ row h. physical-below rows row whole h; differs = physical-distinct }
+remap-is-permutation remap ok rows whole =
+    record { stays = λ row h. physical-below remap ok rows row whole h; differs = physical-distinct remap ok }
+
+pub own-remap-allowed : Own-remap-allowed
+unfolding Own-remap-allowed
+own-remap-allowed = own-allowed

@@ -1,12 +1,13 @@
 -- What is claimed of the device, besides the functions' contracts. proofs/Claims.antt proves each under the same name.
 use Prim.Native.Nat.{ℕ, _+_, _-_, _/_, _%_, _≤_, _<_}
 use mathlib.Core.Path.{_≡_}
+use mathlib.Core.Bool.{true}
 use mathlib.Core.List.{List, List·Memᴰ}
 use lib.ListN.{length, getD}
 use Rattle.device.specs.declared.Settings.{Settings}
 use Rattle.device.specs.Refusal.{Test, first-failed}
 use Rattle.device.specs.Acceptance.{most-rows, rows-allowed-to, rows-allowed, settings-tests-to, settings-tests-but-counters-to}
-use Rattle.device.specs.Remap.{physical}
+use Rattle.device.specs.Remap.{own-remap, remap-allowed, physical}
 use Rattle.device.specs.Victims.{within-reach, subarray-rows, subarray, victims}
 
 -- N is allowed, or not, as it is where it may be up to another most
@@ -50,10 +51,14 @@ Small-banks-uncut =
     (rows diameter row : ℕ) → rows ≤ subarray-rows → row < rows → victims rows diameter row ≡ within-reach 0 rows (diameter / 2) row
 
 -- a permutation of the bank's rows: rows of the bank stay in the bank, and different rows stay different
-pub record Permutation (rows : ℕ) : Type 0 where
-  pub stays : (row : ℕ) → row < rows → physical row < rows
-  pub differs : (row other : ℕ) → physical row ≡ physical other → row ≡ other
+pub record Permutation (remap : List ℕ) (rows : ℕ) : Type 0 where
+  pub stays : (row : ℕ) → row < rows → physical remap row < rows
+  pub differs : (row other : ℕ) → physical remap row ≡ physical remap other → row ≡ other
 
--- the remap is a permutation of the bank
+-- every remap that is accepted is a permutation of the bank
 unfoldable pub Remap-is-permutation : Type 0
-Remap-is-permutation = (rows : ℕ) → rows % 16 ≡ 0 → Permutation rows
+Remap-is-permutation = (remap : List ℕ) → remap-allowed remap ≡ true → (rows : ℕ) → rows % 16 ≡ 0 → Permutation remap rows
+
+-- our own is accepted
+unfoldable pub Own-remap-allowed : Type 0
+Own-remap-allowed = remap-allowed own-remap ≡ true

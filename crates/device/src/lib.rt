@@ -1,12 +1,11 @@
 // A device: its settings with their tests, where a logical row lies on the die, and how far a row reaches in its subarray.
 ghost use mathlib.Core.Path.{_≡_};
 ghost use Prim.Native.Nat.{_<_, _+_, _-_, _*_, min, max};
-ghost use mathlib.Core.Bool.{not};
+ghost use mathlib.Core.Bool.{not, true};
 ghost use lib.Dec.{leb};
-ghost use lib.ListN.{getD};
 ghost use Rattle.device.specs.Refusal.{refuse, first-failed};
 ghost use Rattle.device.specs.Acceptance.{most-rows, within, rows-allowed, diameter-allowed, block-allowed, settings-tests, settings-tests-with, settings-tests-but-counters};
-ghost use Rattle.device.specs.Remap.{remap-table, physical};
+ghost use Rattle.device.specs.Remap.{occurs-in, remap-allowed, physical};
 ghost use Rattle.device.specs.Victims.{subarray-rows, subarray-start};
 
 // The most rows of a bank and the most counters that settings may name.
@@ -115,20 +114,43 @@ pub fn settings_refusal_but_counters(s: Settings) -> u32
     refusal_with(s, true)
 }
 
-const REMAP: [u32; 16] = [0, 1, 3, 2, 4, 5, 7, 6, 8, 9, 11, 10, 12, 13, 15, 14];
+// Our own remap, in force until another is loaded.
+pub const OWN_REMAP: [u32; 16] = [0, 1, 3, 2, 4, 5, 7, 6, 8, 9, 11, 10, 12, 13, 15, 14];
 
-fn remapped(remainder: u32) -> u32
-    requires { ⌜ remainder < 16 ⌝ }
-    ensures { λ r. ⌜ r ≡ getD remap-table remainder 0 ⌝ }
+// Whether a number occurs in a remap.
+fn occurs(remap: [u32; 16], k: u32) -> bool
+    ensures { λ r. ⌜ r ≡ occurs-in 16 remap k ⌝ }
 {
-    REMAP[remainder as usize]
+    let mut i: usize = 16;
+    while 0 < i {
+        i -= 1;
+        if remap[i] == k {
+            return true;
+        }
+    }
+    false
 }
 
-// The physical row of a logical row.
-pub fn physical_row(row: u32) -> u32
-    ensures { λ r. ⌜ r ≡ physical row ⌝ }
+// Whether a remap is accepted: each of 0 to 15 occurs in it.
+pub fn remap_allowed(remap: [u32; 16]) -> bool
+    ensures { λ r. ⌜ r ≡ remap-allowed remap ⌝ }
 {
-    row / 16 * 16 + remapped(row % 16)
+    let mut k: u32 = 16;
+    while 0 < k {
+        k -= 1;
+        if !occurs(remap, k) {
+            return false;
+        }
+    }
+    true
+}
+
+// The physical row of a logical row, by a remap that is accepted.
+pub fn physical_row(remap: [u32; 16], row: u32) -> u32
+    requires { ⌜ remap-allowed remap ≡ true ⌝ }
+    ensures { λ r. ⌜ r ≡ physical remap row ⌝ }
+{
+    row / 16 * 16 + remap[(row % 16) as usize]
 }
 
 // The smaller of two numbers.

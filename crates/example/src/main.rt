@@ -14,8 +14,15 @@ fn print(word: &[u8], number: u32) {
 }
 
 // Activates a row. The answer holds the position for the next call, also when it refuses.
-fn activate(s: Settings, rows: &mut [u32], counts: &mut [u32], p: Position, row: u32) -> Position {
-    match tracker::activate(s, rows, counts, p, row) {
+fn activate(
+    s: Settings,
+    remap: [u32; 16],
+    rows: &mut [u32],
+    counts: &mut [u32],
+    p: Position,
+    row: u32,
+) -> Position {
+    match tracker::activate(s, remap, rows, counts, p, row) {
         Activation::Accepted(next) => next,
         Activation::Refused(k, same) => {
             print(b"refused ", k);
@@ -24,7 +31,7 @@ fn activate(s: Settings, rows: &mut [u32], counts: &mut [u32], p: Position, row:
     }
 }
 
-// Sets up on lent tables, activates logical rows 5, 5 and 2, then runs a refresh event with a lent list.
+// Sets up on lent tables with our own remap, activates logical rows 5, 5 and 2, then runs a refresh event with a lent list.
 fn main() {
     let s = Settings {
         rows: 16,
@@ -35,15 +42,16 @@ fn main() {
         window: 4,
         block: 4,
     };
+    let remap = device::OWN_REMAP;
     let mut rows = [0u32; 2];
     let mut counts = [0u32; 2];
     let mut list = [0u32; 1];
-    let SetUp::Ready(p) = tracker::set_up(s, &mut rows, &mut counts) else {
+    let SetUp::Ready(p) = tracker::set_up(s, remap, &mut rows, &mut counts) else {
         return;
     };
-    let p = activate(s, &mut rows, &mut counts, p, 5);
-    let p = activate(s, &mut rows, &mut counts, p, 5);
-    let p = activate(s, &mut rows, &mut counts, p, 2);
+    let p = activate(s, remap, &mut rows, &mut counts, p, 5);
+    let p = activate(s, remap, &mut rows, &mut counts, p, 5);
+    let p = activate(s, remap, &mut rows, &mut counts, p, 2);
     match tracker::refresh(s, &mut rows, &mut counts, p, &mut list) {
         Refreshed::Accepted(count, next) => {
             if count == 1 {

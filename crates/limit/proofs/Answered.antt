@@ -33,10 +33,11 @@ run-of-call {s} c k st′ h left tells =
 
 pub answered-run : {s : Settings} {st : State} {told : List Happened} → Answered s st told → Run-of s st told
 unfolding set-up-call activation-call refresh-call given state-after happened left-by told-by
-answered-run (set-up-answered r p rows₀ counts₀ rows counts meets ready) =
+answered-run (set-up-answered r p remap rows₀ counts₀ rows counts meets ready) =
     record {
       begun = given rows counts p;
       starts = record {
+        remap = remap;
         rows = rows₀;
         counts = counts₀;
         accepts = sym (ap (λ (c : SetUp-call). c .answer) meets) ∙ ready;
@@ -47,10 +48,10 @@ answered-run (set-up-answered r p rows₀ counts₀ rows counts meets ready) =
       leads = refl;
       tells = refl;
     }
-answered-run (activation-answered a row r rows counts meets) =
-    run-of-call (activation-of row) (answered-run a) _ _
+answered-run (activation-answered a remap row r rows counts meets) =
+    run-of-call (activation-of remap row) (answered-run a) _ _
     (ap (λ (c : Activation-call). c .state) meets)
-    (ap (λ (c : Activation-call). activated row (c .accepts)) meets)
+    (ap (λ (c : Activation-call). activated remap row (c .accepts)) meets)
 answered-run (refresh-answered a list₀ r rows counts list meets) =
     run-of-call (refresh-into list₀) (answered-run a) _ _
     (ap (λ (c : Refresh-call). c .state) meets)

@@ -5,6 +5,7 @@ use native.Mathlib.Omega.{arith}
 use lib.Dec.{ltb, leb}
 use lib.ListN.{length}
 use Rattle.device.specs.Refusal.{refuse}
+use Rattle.device.specs.Remap.{remap-allowed}
 use Rattle.device.proofs.Acceptance.{accepted-settings}
 use Rattle.bound.specs.Totals.{bound-of}
 use Rattle.tracker.specs.State.{state-of}
@@ -29,11 +30,12 @@ demand-3-of-answers s st told a row inside =
     let k = answered-run a in
     rw (k .tells) (demand-3 s (k .begun) (k .starts) (k .calls) row inside)
 
-not-21 : (outside full : Bool) → refuse outside 9 (refuse full 22 0) ≡ 21 → ⊥
+not-21 : (outside other full : Bool) → refuse outside 9 (refuse other 14 (refuse full 22 0)) ≡ 21 → ⊥
 unfolding refuse
-not-21 true full e = omega arith
-not-21 false true e = omega arith
-not-21 false false e = omega arith
+not-21 true other full e = omega arith
+not-21 false true full e = omega arith
+not-21 false false true e = omega arith
+not-21 false false false e = omega arith
 
 pub never-21 : Never-21
 unfolding Never-21 activation-to refresh-to refuse
@@ -41,9 +43,9 @@ never-21 s st b calls =
     let k = state-inv-run b calls in
     let ok = begun-accepted b in
     let sound = plain-held s ok (k .inv) in (
-      (λ row e.
-          not-21 (not (ltb row (s .rows))) (not (ltb (k .activations) (s .interval)))
-          (rw (k .stored, activation-refusals s (k .events) (k .activations) (k .sum) ok sound row) at e)),
+      (λ remap row e.
+          not-21 (not (ltb row (s .rows))) (not (remap-allowed remap)) (not (ltb (k .activations) (s .interval)))
+          (rw (k .stored, activation-refusals s (k .events) (k .activations) (k .sum) ok sound remap row) at e)),
       (λ picks e.
           short-21 (not (leb (s .volume) (length picks)))
           (rw (k .stored, refresh-refusals s (k .events) (k .activations) (k .sum) ok sound picks) at e)),

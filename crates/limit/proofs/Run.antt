@@ -12,7 +12,7 @@ use lib.Seq.{take-at}
 use Rattle.device.specs.declared.Settings.{Settings}
 use Rattle.device.specs.Refusal.{first-failed, refuse, accepted, tested}
 use Rattle.device.specs.Acceptance.{settings-tests}
-use Rattle.device.specs.Remap.{physical}
+use Rattle.device.specs.Remap.{remap-allowed, physical}
 use Rattle.laws.proofs.Cases.{split, zero-one}
 use Rattle.device.proofs.Remap.{physical-below}
 use Rattle.device.proofs.Acceptance.{Accepted, accepted-settings as accepted-facts}
@@ -21,7 +21,7 @@ use Rattle.tracker.specs.declared.Position.{Position}
 use Rattle.tracker.specs.State.{State, state-of}
 use Rattle.tracker.specs.Calls.{kept-unless, set-up-tests, set-up-to, activation-to, refresh-to, block-rows, ends-window, next-event, victims-in}
 use Rattle.tracker.proofs.States.StateOf.{read-back}
-use Rattle.tracker.proofs.Calls.Ready.{open-tables}
+use Rattle.tracker.proofs.Calls.Ready.{set-up-ready}
 use Rattle.tracker.proofs.Calls.SoundTests.{Held, activation-refusals, refresh-refusals}
 use Rattle.limit.specs.Exact.{Happened, Exact, at-rest, after, after-all, exact}
 use Rattle.limit.specs.Present.{cleared, next-window, present-after-all, present}
@@ -67,24 +67,27 @@ module _ (s : Settings) (ok : first-failed (settings-tests s) ≡ 0) where
   state-inv-refused : {e a : ℕ} {sum : Summary} {x y : Exact} → Plain-inv s e a sum x y → State-inv s (state-of s e a sum) x y
   state-inv-refused {e} {a} {sum} i = record { events = e; activations = a; sum = sum; stored = refl; inv = i }
 
-  state-inv-activation : (row e a : ℕ) (sum : Summary) (x y : Exact) → Plain-inv s e a sum x y → Call-inv s (activation-of row) (state-of s e a sum) x y
+  state-inv-activation : (remap : List ℕ) (row e a : ℕ) (sum : Summary) (x y : Exact) → Plain-inv s e a sum x y → Call-inv s (activation-of remap row) (state-of s e a sum) x y
   unfolding left-by told-by activation-to kept-unless refuse after next-window state-of
-  state-inv-activation row e a sum x y i =
-      let refusals = activation-refusals s e a sum ok (plain-held i) row in
+  state-inv-activation remap row e a sum x y i =
+      let refusals = activation-refusals s e a sum ok (plain-held i) remap row in
       split (ltb row (s .rows))
       (λ inside.
-      let below = physical-below (s .rows) row (facts .others .rows-whole) (ltb-true row (s .rows) inside) in
+      split (remap-allowed remap)
+      (λ allowed.
+      let below = physical-below remap allowed (s .rows) row (facts .others .rows-whole) (ltb-true row (s .rows) inside) in
       split (ltb a (s .interval))
       (λ free.
-      rw (refusals, inside, free, read-back s e a sum)
+      rw (refusals, inside, allowed, free, read-back s e a sum)
       (record {
         events = e;
         activations = a + 1;
-        sum = activation (s .counters) (victims-in s) (physical row) sum;
+        sum = activation (s .counters) (victims-in s) (physical remap row) sum;
         stored = refl;
-        inv = inv-activated s facts i (physical row) below (ltb-true a (s .interval) free);
+        inv = inv-activated s facts i (physical remap row) below (ltb-true a (s .interval) free);
       }))
-      (λ full. rw (refusals, inside, full) (state-inv-refused i)))
+      (λ full. rw (refusals, inside, allowed, full) (state-inv-refused i)))
+      (λ other. rw (refusals, inside, other) (state-inv-refused i)))
       (λ outside. rw (refusals, outside) (state-inv-refused i))
 
   state-inv-refresh : (picks : List ℕ) (e a : ℕ) (sum : Summary) (x y : Exact) → Plain-inv s e a sum x y → Call-inv s (refresh-into picks) (state-of s e a sum) x y
@@ -119,7 +122,7 @@ module _ (s : Settings) (ok : first-failed (settings-tests s) ≡ 0) where
 
   -- any call, and any list of calls
   state-inv-call : (c : Command) {st : State} {x y : Exact} → State-inv s st x y → Call-inv s c st x y
-  state-inv-call (activation-of row) {st} {x} {y} k = rw (k .stored) (state-inv-activation row (k .events) (k .activations) (k .sum) x y (k .inv))
+  state-inv-call (activation-of remap row) {st} {x} {y} k = rw (k .stored) (state-inv-activation remap row (k .events) (k .activations) (k .sum) x y (k .inv))
   state-inv-call (refresh-into picks) {st} {x} {y} k = rw (k .stored) (state-inv-refresh picks (k .events) (k .activations) (k .sum) x y (k .inv))
 
   state-inv-calls : (calls : List Command) {st : State} {x y : Exact} → State-inv s st x y → State-inv s (state-after s calls st) (after-all s (happened s calls st) x) (present-after-all s (happened s calls st) y)
@@ -134,13 +137,13 @@ tested-accepted zero p q e = (refl, cc)
 tested-accepted (suc k) p q e = zero-one (cc)
 
 module _ {s : Settings} {st : State} (b : Begun s st) where
-  set-up-tests-passed : (first-failed (set-up-tests s (b .rows) (b .counts)) ≡ 0) × (state-of s 0 0 empty .position ≡ st .position)
+  set-up-tests-passed : (first-failed (set-up-tests s (b .remap) (b .rows) (b .counts)) ≡ 0) × (state-of s 0 0 empty .position ≡ st .position)
   unfolding set-up-to
   set-up-tests-passed =
-      tested-accepted (first-failed (set-up-tests s (b .rows) (b .counts))) (state-of s 0 0 empty .position) (st .position) (b .accepts)
+      tested-accepted (first-failed (set-up-tests s (b .remap) (b .rows) (b .counts))) (state-of s 0 0 empty .position) (st .position) (b .accepts)
 
   pub begun-accepted : first-failed (settings-tests s) ≡ 0
-  begun-accepted = open-tables s (b .rows) (b .counts) (set-up-tests-passed .0) .settled
+  begun-accepted = set-up-ready s (b .remap) (b .rows) (b .counts) (set-up-tests-passed .0) .0 .settled
 
   begun-state : st ≡ state-of s 0 0 empty
   unfolding set-up-to kept-unless

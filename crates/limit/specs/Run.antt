@@ -9,20 +9,20 @@ use Rattle.tracker.specs.State.{State}
 use Rattle.tracker.specs.Calls.{set-up, activation-on, refresh-on}
 use Rattle.limit.specs.Exact.{Happened, activated, refreshed}
 
--- a call of the list: an activation with any logical row ('bus row'), or an event with any lent list
+-- a call of the list: an activation with any remap ('each call may bring any fold') and any logical row ('bus row'), or an event with any lent list
 pub data Command : Type 0 where
-  activation-of : ℕ → Command
+  activation-of : List ℕ → ℕ → Command
   refresh-into : List ℕ → Command
 
 -- the state that a call leaves
 unfoldable pub left-by : Settings → Command → State → State
-left-by s (activation-of row) st = activation-on s st row .state
+left-by s (activation-of remap row) st = activation-on s remap st row .state
 left-by s (refresh-into picks) st = refresh-on s st picks .state
 
--- what the counter 'is fed' of a call: its row, 'whether the call was accepted, and the rows that an accepted event named: from the lent list's front,
+-- what the counter 'is fed' of a call: its remap and row, 'whether the call was accepted, and the rows that an accepted event named: from the lent list's front,
 -- as many as its answer says'
 unfoldable pub told-by : Settings → Command → State → Happened
-told-by s (activation-of row) st = activated row (activation-on s st row .accepts)
+told-by s (activation-of remap row) st = activated remap row (activation-on s remap st row .accepts)
 told-by s (refresh-into picks) st =
     let call = refresh-on s st picks in
     refreshed (call .accepts) (take (call .count) (call .picks))
@@ -37,10 +37,11 @@ unfoldable pub happened : Settings → List Command → State → List Happened
 happened s [] st = []
 happened s (c ∷ cs) st = told-by s c st ∷ happened s cs (left-by s c st)
 
--- 'an accepted setting up', whatever the lent tables held, and the state that it left
+-- 'an accepted setting up', whatever remap it brought and the lent tables held, and the state that it left
 pub record Begun (s : Settings) (st : State) : Type 0 where
+  pub remap : List ℕ
   pub rows : List ℕ
   pub counts : List ℕ
-  pub accepts : set-up s rows counts .answer ≡ accepted (st .position)
-  pub rows-left : st .rows ≡ set-up s rows counts .rows
-  pub counts-left : st .counts ≡ set-up s rows counts .counts
+  pub accepts : set-up s remap rows counts .answer ≡ accepted (st .position)
+  pub rows-left : st .rows ≡ set-up s remap rows counts .rows
+  pub counts-left : st .counts ≡ set-up s remap rows counts .counts

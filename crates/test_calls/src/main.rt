@@ -96,6 +96,13 @@ fn settings_at(buf: &[u8], at: usize) -> Settings {
     }
 }
 
+// The remap from a word on.
+fn remap_at(buf: &[u8], at: usize) -> [u32; 16] {
+    let mut remap = [0u32; 16];
+    words_in(buf, at, &mut remap);
+    remap
+}
+
 // The position from a word on.
 fn position_at(buf: &[u8], at: usize) -> Position {
     Position {
@@ -126,7 +133,12 @@ fn no_position() -> Position {
 }
 
 fn call_set_up(request: &[u8], rows: &mut [u32], counts: &mut [u32], answer: &mut [u8]) {
-    let r = tracker::set_up(settings_at(request, 1), rows, counts);
+    let r = tracker::set_up(
+        settings_at(request, 1),
+        remap_at(request, 317),
+        rows,
+        counts,
+    );
     match r {
         SetUp::Ready(p) => put_head(answer, 0, 0, p),
         SetUp::Refused(k) => put_head(answer, k, 0, no_position()),
@@ -136,7 +148,8 @@ fn call_set_up(request: &[u8], rows: &mut [u32], counts: &mut [u32], answer: &mu
 fn call_activate(request: &[u8], rows: &mut [u32], counts: &mut [u32], answer: &mut [u8]) {
     let s = settings_at(request, 1);
     let p = position_at(request, 8);
-    let r = tracker::activate(s, rows, counts, p, word(request, 12, 0));
+    let remap = remap_at(request, 317);
+    let r = tracker::activate(s, remap, rows, counts, p, word(request, 12, 0));
     match r {
         Activation::Accepted(q) => put_head(answer, 0, 0, q),
         Activation::Refused(k, q) => put_head(answer, k, 0, q),
@@ -245,10 +258,10 @@ fn serve(request: &[u8], answer: &mut [u8]) {
 
 // Reads one request and writes its answer; whether there was a whole one.
 fn serve_next() -> bool {
-    let mut request = [0u8; 1268];
+    let mut request = [0u8; 1332];
     let mut answer = [0u8; 664];
     let got = io::read_full(STDIN_FILENO, &mut request);
-    if got < 1268 {
+    if got < 1332 {
         return false;
     }
     serve(&request, &mut answer);

@@ -14,8 +14,8 @@ same-calls : (most : ℕ) (s : Settings) → Alike most s → Same-calls most s
 unfolding set-up-tests-to activation-tests-to refresh-tests-to agreement-tests-to set-up-to activation-to refresh-to agreement-to
 same-calls most s alike =
     record {
-      same-set-up = λ rows counts. rw (settings-alike most s alike);
-      same-activation = λ st row. rw (settings-alike most s alike);
+      same-set-up = λ remap rows counts. rw (settings-alike most s alike);
+      same-activation = λ remap st row. rw (settings-alike most s alike);
       same-refresh = λ st picks. rw (settings-alike most s alike);
       same-agreement = λ st s′ st′ alike′. rw (settings-alike most s alike, settings-alike most s′ alike′);
     }
@@ -24,8 +24,8 @@ refused-calls : (most : ℕ) (s : Settings) → most < s .rows → Refused-calls
 unfolding set-up-tests-to activation-tests-to refresh-tests-to agreement-tests-to set-up-to activation-to refresh-to agreement-to kept-unless tested
 refused-calls most s h =
     record {
-      refused-set-up = λ rows counts. rw (above-then most s h);
-      refused-activation = λ st row. rw (above-then most s h);
+      refused-set-up = λ remap rows counts. rw (above-then most s h);
+      refused-activation = λ remap st row. rw (above-then most s h);
       refused-refresh = λ st picks. rw (above-then most s h);
       refused-agreement = λ st s′ st′. rw (append-assoc (settings-tests-to most s) (settings-tests-to most s′), above-then most s h);
     }

@@ -7,7 +7,7 @@ use lib.ListN.{length, drop}
 use Rattle.device.specs.declared.Settings.{Settings}
 use Rattle.device.specs.Refusal.{Test, unless, first-failed, Outcome, accepted, tested}
 use Rattle.device.specs.Acceptance.{most-rows, settings-tests-to}
-use Rattle.device.specs.Remap.{physical}
+use Rattle.device.specs.Remap.{remap-allowed, physical}
 use Rattle.device.specs.Victims.{rows-between, victims}
 use Rattle.summary.specs.Steps.{Summary, empty, estimate, picked, activation, event}
 use Rattle.tracker.specs.declared.Position.{Position}
@@ -33,15 +33,19 @@ next-event s e = cond (ends-window s e) 0 (e + 1)
 unfoldable pub tables-long : Settings → List ℕ → List ℕ → Bool
 tables-long s rows counts = eqb (length rows) (s .counters) && eqb (length counts) (s .counters)
 
--- the tests of each call, in their order, where N may be up to the most
-unfoldable pub set-up-tests-to : ℕ → Settings → List ℕ → List ℕ → List Test
-set-up-tests-to most s rows counts = settings-tests-to most s ++ unless (tables-long s rows counts) 8 ∷ []
+-- the tests of each call, in their order, where N may be up to the most; 'setting up and each activation bring a fold'
+unfoldable pub set-up-tests-to : ℕ → Settings → List ℕ → List ℕ → List ℕ → List Test
+set-up-tests-to most s remap rows counts =
+    settings-tests-to most s ++
+    unless (tables-long s rows counts) 8 ∷
+    unless (remap-allowed remap) 14 ∷ []
 
-unfoldable pub activation-tests-to : ℕ → Settings → State → ℕ → List Test
-activation-tests-to most s st row =
+unfoldable pub activation-tests-to : ℕ → Settings → List ℕ → State → ℕ → List Test
+activation-tests-to most s remap st row =
     settings-tests-to most s ++
     unless (tables-long s (st .rows) (st .counts)) 8 ∷
     unless (ltb row (s .rows)) 9 ∷
+    unless (remap-allowed remap) 14 ∷
     unless (valid s st) 21 ∷
     unless (ltb (st .position .activations) (s .interval)) 22 ∷ []
 
@@ -70,9 +74,9 @@ pub record SetUp-call : Type 0 where
   pub rows : List ℕ
   pub counts : List ℕ
 
-unfoldable pub set-up-to : ℕ → Settings → List ℕ → List ℕ → SetUp-call
-set-up-to most s rows counts =
-    let k = first-failed (set-up-tests-to most s rows counts) in
+unfoldable pub set-up-to : ℕ → Settings → List ℕ → List ℕ → List ℕ → SetUp-call
+set-up-to most s remap rows counts =
+    let k = first-failed (set-up-tests-to most s remap rows counts) in
     let begun = state-of s 0 0 empty in
     record {
       answer = tested k (accepted (begun .position));
@@ -86,16 +90,16 @@ pub record Activation-call : Type 0 where
   pub refusal : ℕ
   pub state : State
 
-unfoldable pub activation-to : ℕ → Settings → State → ℕ → Activation-call
-activation-to most s st row =
-    let k = first-failed (activation-tests-to most s st row) in
+unfoldable pub activation-to : ℕ → Settings → List ℕ → State → ℕ → Activation-call
+activation-to most s remap st row =
+    let k = first-failed (activation-tests-to most s remap st row) in
     record {
       accepts = eqb k 0;
       refusal = k;
       state =
           kept-unless k st
           (state-of s (st .position .events) (st .position .activations + 1)
-          (activation (s .counters) (victims-in s) (physical row) (summary-of st)));
+          (activation (s .counters) (victims-in s) (physical remap row) (summary-of st)));
     }
 
 -- an event: whether it is accepted, the refusal, the number picked, the state and the list that it leaves
@@ -134,11 +138,11 @@ agreement-to most s st s′ st′ =
     (accepted (eqb (s .rows) (s′ .rows) && same-estimates (s .rows) (summary-of st) (summary-of st′)))
 
 -- the tests and the calls with N up to `most-rows`
-abbrev pub set-up-tests : Settings → List ℕ → List ℕ → List Test
-set-up-tests s rows counts = set-up-tests-to most-rows s rows counts
+abbrev pub set-up-tests : Settings → List ℕ → List ℕ → List ℕ → List Test
+set-up-tests s remap rows counts = set-up-tests-to most-rows s remap rows counts
 
-abbrev pub activation-tests : Settings → State → ℕ → List Test
-activation-tests s st row = activation-tests-to most-rows s st row
+abbrev pub activation-tests : Settings → List ℕ → State → ℕ → List Test
+activation-tests s remap st row = activation-tests-to most-rows s remap st row
 
 abbrev pub refresh-tests : Settings → State → List ℕ → List Test
 refresh-tests s st picks = refresh-tests-to most-rows s st picks
@@ -146,11 +150,11 @@ refresh-tests s st picks = refresh-tests-to most-rows s st picks
 abbrev pub agreement-tests : Settings → State → Settings → State → List Test
 agreement-tests s st s′ st′ = agreement-tests-to most-rows s st s′ st′
 
-abbrev pub set-up : Settings → List ℕ → List ℕ → SetUp-call
-set-up s rows counts = set-up-to most-rows s rows counts
+abbrev pub set-up : Settings → List ℕ → List ℕ → List ℕ → SetUp-call
+set-up s remap rows counts = set-up-to most-rows s remap rows counts
 
-abbrev pub activation-on : Settings → State → ℕ → Activation-call
-activation-on s st row = activation-to most-rows s st row
+abbrev pub activation-on : Settings → List ℕ → State → ℕ → Activation-call
+activation-on s remap st row = activation-to most-rows s remap st row
 
 abbrev pub refresh-on : Settings → State → List ℕ → Refresh-call
 refresh-on s st picks = refresh-to most-rows s st picks

@@ -11,15 +11,15 @@ use Rattle.tracker.specs.Calls.{set-up-to, activation-to, refresh-to, ag
 
 -- every call answers and leaves what it would where N may be up to another most
 pub record Same-calls (most : ℕ) (s : Settings) : Type 0 where
-  pub same-set-up : (rows counts : List ℕ) → set-up-to most s rows counts ≡ set-up s rows counts
-  pub same-activation : (st : State) (row : ℕ) → activation-to most s st row ≡ activation-on s st row
+  pub same-set-up : (remap rows counts : List ℕ) → set-up-to most s remap rows counts ≡ set-up s remap rows counts
+  pub same-activation : (remap : List ℕ) (st : State) (row : ℕ) → activation-to most s remap st row ≡ activation-on s remap st row
   pub same-refresh : (st : State) (picks : List ℕ) → refresh-to most s st picks ≡ refresh-on s st picks
   pub same-agreement : (st : State) (s′ : Settings) (st′ : State) → Alike most s′ → agreement-to most s st s′ st′ ≡ agreement-of s st s′ st′
 
 -- every call is refused with 1, and leaves what it was lent
 pub record Refused-calls (most : ℕ) (s : Settings) : Type 0 where
-  pub refused-set-up : (rows counts : List ℕ) → set-up-to most s rows counts ≡ record { answer = refused 1; rows = rows; counts = counts }
-  pub refused-activation : (st : State) (row : ℕ) → activation-to most s st row ≡ record { accepts = false; refusal = 1; state = st }
+  pub refused-set-up : (remap rows counts : List ℕ) → set-up-to most s remap rows counts ≡ record { answer = refused 1; rows = rows; counts = counts }
+  pub refused-activation : (remap : List ℕ) (st : State) (row : ℕ) → activation-to most s remap st row ≡ record { accepts = false; refusal = 1; state = st }
   pub refused-refresh : (st : State) (picks : List ℕ) → refresh-to most s st picks ≡ record { accepts = false; refusal = 1; count = 0; state = st; picks = picks }
   pub refused-agreement : (st : State) (s′ : Settings) (st′ : State) → agreement-to most s st s′ st′ ≡ refused 1
 

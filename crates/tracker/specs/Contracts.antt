@@ -2,17 +2,23 @@
 -- a walk over a summary's two tables, in the order of rows, finds at a place i of them.
 use Prim.Native.Nat.{ℕ, _+_, _≤_}
 use mathlib.Core.Bool.{Bool, _&&_, cond}
-use mathlib.Core.List.{List}
+use mathlib.Core.List.{List, [], _∷_, _++_}
 use denote.Ref.{now}
 use lib.Dec.{leb, ltb, eqb}
 use lib.ListN.{length, getD}
 use Rattle.laws.specs.Lent.{Slice}
-use Rattle.device.specs.Acceptance.{most-rows}
+use Rattle.device.specs.Acceptance.{most-rows, settings-tests}
+use Rattle.device.specs.Refusal.{Test, unless}
 use Rattle.device.specs.declared.Settings.{Settings}
 use Rattle.summary.specs.Contracts.{Holds, summary}
 use Rattle.summary.specs.declared.Tally.{Tally}
 use Rattle.tracker.specs.declared.Position.{Position}
 use Rattle.tracker.specs.State.{most-count}
+use Rattle.tracker.specs.Calls.{tables-long}
+
+-- the tests that calls on lent tables begin with: the settings', then 8
+unfoldable pub tables-tests : Settings → List ℕ → List ℕ → List Test
+tables-tests s rows counts = settings-tests s ++ unless (tables-long s rows counts) 8 ∷ []
 
 -- an accepted event: its settings, its place in the window and the places of the list for its picks
 abbrev pub Ranges : Settings → ℕ → ℕ → Type 0

@@ -12,6 +12,7 @@ ghost use mathlib.Core.Bool.{_&&_};
 ghost use Prim.Native.Nat.{_≤_};
 ghost use Rattle.device.specs.Refusal.{first-failed};
 ghost use Rattle.tracker.specs.Calls.{next-event, tables-long, set-up-tests, activation-tests, refresh-tests, agreement-tests, set-up, activation-on, refresh-on, agreement-of};
+ghost use Rattle.tracker.specs.Contracts.{tables-tests};
 ghost use Rattle.tracker.specs.Answers.{lent, set-up-left, activation-left, refresh-left, event-left, agreement-outcome};
 
 // Where a tracker stands: events so far in this window, activations since the last event, tracked rows, spillover.
@@ -59,9 +60,9 @@ fn are_long(s: Settings, rows: &[u32], counts: &[u32]) -> bool
     rows.len() == s.counters as usize && counts.len() == s.counters as usize
 }
 
-// The refusal of setting up, or 0.
-fn set_up_refusal(s: Settings, rows: &[u32], counts: &[u32]) -> u32
-    ensures { λ r. ⌜ r ≡ first-failed (set-up-tests s (now (rows .entry)) (now (counts .entry))) ⌝ }
+// The refusal of settings and lent tables, or 0.
+fn tables_refusal(s: Settings, rows: &[u32], counts: &[u32]) -> u32
+    ensures { λ r. ⌜ r ≡ first-failed (tables-tests s (now (rows .entry)) (now (counts .entry))) ⌝ }
 {
     let k = device::settings_refusal(s);
     if k != 0 {
@@ -70,16 +71,37 @@ fn set_up_refusal(s: Settings, rows: &[u32], counts: &[u32]) -> u32
     device::refuse_unless(are_long(s, rows, counts), 8, 0)
 }
 
-// The refusal of an activation, or 0.
-fn activation_refusal(s: Settings, rows: &[u32], counts: &[u32], p: Position, row: u32) -> u32
-    ensures { λ r. ⌜ r ≡ first-failed (activation-tests s (lent (rows .entry) (counts .entry) p) row) ⌝ }
+// The refusal of setting up, or 0.
+fn set_up_refusal(s: Settings, remap: [u32; 16], rows: &[u32], counts: &[u32]) -> u32
+    ensures { λ r. ⌜ r ≡ first-failed (set-up-tests s remap (now (rows .entry)) (now (counts .entry))) ⌝ }
 {
-    let k = set_up_refusal(s, rows, counts);
+    let k = tables_refusal(s, rows, counts);
+    if k != 0 {
+        return k;
+    }
+    device::refuse_unless(device::remap_allowed(remap), 14, 0)
+}
+
+// The refusal of an activation, or 0.
+fn activation_refusal(
+    s: Settings,
+    remap: [u32; 16],
+    rows: &[u32],
+    counts: &[u32],
+    p: Position,
+    row: u32,
+) -> u32
+    ensures { λ r. ⌜ r ≡ first-failed (activation-tests s remap (lent (rows .entry) (counts .entry) p) row) ⌝ }
+{
+    let k = tables_refusal(s, rows, counts);
     if k != 0 {
         return k;
     }
     if s.rows <= row {
         return 9;
+    }
+    if !device::remap_allowed(remap) {
+        return 14;
     }
     device::refuse_unless(
         state::valid_state(s, rows, counts, p),
@@ -92,7 +114,7 @@ fn activation_refusal(s: Settings, rows: &[u32], counts: &[u32], p: Position, ro
 fn refresh_refusal(s: Settings, rows: &[u32], counts: &[u32], p: Position, picks: &[u32]) -> u32
     ensures { λ r. ⌜ r ≡ first-failed (refresh-tests s (lent (rows .entry) (counts .entry) p) (now (picks .entry))) ⌝ }
 {
-    let k = set_up_refusal(s, rows, counts);
+    let k = tables_refusal(s, rows, counts);
     if k != 0 {
         return k;
     }
@@ -103,10 +125,10 @@ fn refresh_refusal(s: Settings, rows: &[u32], counts: &[u32], p: Position, picks
 }
 
 // Sets up: 0 everywhere in both tables, and the position to begin with.
-pub fn set_up(s: Settings, rows: &mut [u32], counts: &mut [u32]) -> SetUp
-    ensures { λ r. ⌜ set-up-left r rows counts ≡ set-up s (now (rows .entry)) (now (counts .entry)) ⌝ }
+pub fn set_up(s: Settings, remap: [u32; 16], rows: &mut [u32], counts: &mut [u32]) -> SetUp
+    ensures { λ r. ⌜ set-up-left r rows counts ≡ set-up s remap (now (rows .entry)) (now (counts .entry)) ⌝ }
 {
-    let k = set_up_refusal(s, rows, counts);
+    let k = set_up_refusal(s, remap, rows, counts);
     if k != 0 {
         return SetUp::Refused(k);
     }
@@ -123,19 +145,20 @@ pub fn set_up(s: Settings, rows: &mut [u32], counts: &mut [u32]) -> SetUp
 // An activation that no test refuses.
 pub fn activate_accepted(
     s: Settings,
+    remap: [u32; 16],
     rows: &mut [u32],
     counts: &mut [u32],
     p: Position,
     row: u32,
 ) -> Position
-    requires { ⌜ first-failed (activation-tests s (lent rows counts p) row) ≡ 0 ⌝ }
-    ensures { λ r. ⌜ lent (rows .exit) (counts .exit) r ≡ activation-on s (lent (rows .entry) (counts .entry) p) row .state ⌝ }
+    requires { ⌜ first-failed (activation-tests s remap (lent rows counts p) row) ≡ 0 ⌝ }
+    ensures { λ r. ⌜ lent (rows .exit) (counts .exit) r ≡ activation-on s remap (lent (rows .entry) (counts .entry) p) row .state ⌝ }
 {
     let t = Tally {
         tracked: p.tracked as usize,
         spillover: p.spillover,
     };
-    let physical = device::physical_row(row);
+    let physical = device::physical_row(remap, row);
     let after = victims::activate_row(s, rows, counts, t, physical);
     Position {
         events: p.events,
@@ -145,21 +168,22 @@ pub fn activate_accepted(
     }
 }
 
-// An activation of a logical row.
+// An activation of a logical row, which the remap gives its physical row.
 pub fn activate(
     s: Settings,
+    remap: [u32; 16],
     rows: &mut [u32],
     counts: &mut [u32],
     p: Position,
     row: u32,
 ) -> Activation
-    ensures { λ r. ⌜ activation-left r rows counts ≡ activation-on s (lent (rows .entry) (counts .entry) p) row ⌝ }
+    ensures { λ r. ⌜ activation-left r rows counts ≡ activation-on s remap (lent (rows .entry) (counts .entry) p) row ⌝ }
 {
-    let k = activation_refusal(s, rows, counts, p, row);
+    let k = activation_refusal(s, remap, rows, counts, p, row);
     if k != 0 {
         return Activation::Refused(k, p);
     }
-    Activation::Accepted(activate_accepted(s, rows, counts, p, row))
+    Activation::Accepted(activate_accepted(s, remap, rows, counts, p, row))
 }
 
 // The events in the window after one more.

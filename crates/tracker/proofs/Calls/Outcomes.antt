@@ -18,28 +18,28 @@ use Rattle.tracker.specs.State.{State, summary-of, state-of}
 use Rattle.tracker.specs.Calls.{set-up-tests, activation-tests, refresh-tests, kept-unless, set-up-to, set-up, activation-to, activation-on, refresh-to, refresh-on, victims-in, block-rows, ends-window, next-event, agreement-tests, agreement-to, agreement-of, same-estimates}
 use Rattle.tracker.specs.Answers.{given}
 use Rattle.tracker.proofs.States.StateOf.{state-of-holds}
-use Rattle.tracker.proofs.Calls.Ready.{open-tables, refresh-ready}
+use Rattle.tracker.proofs.Calls.Ready.{set-up-ready, refresh-ready}
 
 -- each call refused, and accepted-settings
-pub set-up-refused : (s : Settings) (rows counts : List ℕ) (k : ℕ) → k ≡ first-failed (set-up-tests s rows counts) → (k ≡ 0 → ⊥) → record { answer = refused k; rows = rows; counts = counts } ≡ set-up s rows counts
+pub set-up-refused : (s : Settings) (remap rows counts : List ℕ) (k : ℕ) → k ≡ first-failed (set-up-tests s remap rows counts) → (k ≡ 0 → ⊥) → record { answer = refused k; rows = rows; counts = counts } ≡ set-up s remap rows counts
 unfolding set-up-to kept-unless tested
-set-up-refused s rows counts zero e h = absurd (h refl)
-set-up-refused s rows counts (suc k) e h = rw (← e)
+set-up-refused s remap rows counts zero e h = absurd (h refl)
+set-up-refused s remap rows counts (suc k) e h = rw (← e)
 
-pub set-up-done : (s : Settings) (rows counts : List ℕ) {rows′ counts′ : List ℕ} → first-failed (set-up-tests s rows counts) ≡ 0 → rows′ ≡ replicate (length rows) 0 → counts′ ≡ replicate (length counts) 0 → record { answer = accepted-with (record { events = 0; activations = 0; tracked = 0; spillover = 0 }); rows = rows′; counts = counts′ } ≡ set-up s rows counts
+pub set-up-done : (s : Settings) (remap rows counts : List ℕ) {rows′ counts′ : List ℕ} → first-failed (set-up-tests s remap rows counts) ≡ 0 → rows′ ≡ replicate (length rows) 0 → counts′ ≡ replicate (length counts) 0 → record { answer = accepted-with (record { events = 0; activations = 0; tracked = 0; spillover = 0 }); rows = rows′; counts = counts′ } ≡ set-up s remap rows counts
 unfolding set-up-to kept-unless tested state-of empty table rows-of counts-of
-set-up-done s rows counts e er ec =
-    let o = open-tables s rows counts e in
+set-up-done s remap rows counts e er ec =
+    let o = set-up-ready s remap rows counts e .0 in
     rw (e, er, ec, o .rows-long, o .counts-long, sub-zero (s .counters))
 
-pub activation-refused : (s : Settings) (st : State) (row k : ℕ) → k ≡ first-failed (activation-tests s st row) → (k ≡ 0 → ⊥) → record { accepts = false; refusal = k; state = st } ≡ activation-on s st row
+pub activation-refused : (s : Settings) (remap : List ℕ) (st : State) (row k : ℕ) → k ≡ first-failed (activation-tests s remap st row) → (k ≡ 0 → ⊥) → record { accepts = false; refusal = k; state = st } ≡ activation-on s remap st row
 unfolding activation-to kept-unless
-activation-refused s st row zero e h = absurd (h refl)
-activation-refused s st row (suc k) e h = rw (← e, ne-eqb (suc k) 0 h)
+activation-refused s remap st row zero e h = absurd (h refl)
+activation-refused s remap st row (suc k) e h = rw (← e, ne-eqb (suc k) 0 h)
 
-pub activation-done : (s : Settings) (st : State) (row : ℕ) {st′ : State} → first-failed (activation-tests s st row) ≡ 0 → st′ ≡ activation-on s st row .state → record { accepts = true; refusal = 0; state = st′ } ≡ activation-on s st row
+pub activation-done : (s : Settings) (remap : List ℕ) (st : State) (row : ℕ) {st′ : State} → first-failed (activation-tests s remap st row) ≡ 0 → st′ ≡ activation-on s remap st row .state → record { accepts = true; refusal = 0; state = st′ } ≡ activation-on s remap st row
 unfolding activation-to
-activation-done s st row e same = λ i. record { accepts = eqb (sym e i) 0; refusal = sym e i; state = same i }
+activation-done s remap st row e same = λ i. record { accepts = eqb (sym e i) 0; refusal = sym e i; state = same i }
 
 pub refresh-refused : (s : Settings) (st : State) (picks : List ℕ) (k : ℕ) → k ≡ first-failed (refresh-tests s st picks) → (k ≡ 0 → ⊥) → record { accepts = false; refusal = k; count = 0; state = st; picks = picks } ≡ refresh-on s st picks
 unfolding refresh-to kept-unless

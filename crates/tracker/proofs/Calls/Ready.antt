@@ -12,6 +12,7 @@ use Rattle.laws.proofs.Cases.{and-both}
 use Rattle.device.specs.declared.Settings.{Settings}
 use Rattle.device.specs.Refusal.{refuse, first-failed}
 use Rattle.device.specs.Acceptance.{settings-tests}
+use Rattle.device.specs.Remap.{remap-allowed}
 use Rattle.device.proofs.Acceptance.{Accepted, accepted-settings}
 use Rattle.summary.specs.Entries.{Entry}
 use Rattle.summary.specs.Rules.{Ordered, ordered-none, ordered-more}
@@ -20,8 +21,9 @@ use Rattle.summary.specs.Tables.{read}
 use Rattle.summary.proofs.Contracts.Holds.{held-again, long-rows}
 use Rattle.tracker.specs.State.{State, summary-of, valid}
 use Rattle.tracker.specs.Calls.{tables-long, set-up-tests, activation-tests, refresh-tests, agreement-tests}
+use Rattle.tracker.specs.Contracts.{tables-tests}
 use Rattle.tracker.proofs.States.Valid.{Facts, valid-facts}
-use Rattle.tracker.proofs.Calls.Tests.{or-later-none, passed-test, set-up-tested, activation-tested, refresh-tested, agreement-tested}
+use Rattle.tracker.proofs.Calls.Tests.{or-later-none, passed-test, tables-tested, set-up-tested, activation-tested, refresh-tested, agreement-tested}
 
 pub tables-long-fit : (s : Settings) (rows counts : List ℕ) → tables-long s rows counts ≡ true → (length rows ≡ s .counters) × (length counts ≡ s .counters)
 unfolding tables-long
@@ -29,19 +31,25 @@ tables-long-fit s rows counts long =
     let each = and-both (eqb (length rows) (s .counters)) (eqb (length counts) (s .counters)) long in
     (eqb-true (length rows) (s .counters) (each .0), eqb-true (length counts) (s .counters) (each .1))
 
--- no refusal of setting up
+-- no refusal of settings and tables
 pub record Open (s : Settings) (rows counts : List ℕ) : Type 0 where
   pub settled : first-failed (settings-tests s) ≡ 0
   pub long : tables-long s rows counts ≡ true
   pub rows-long : length rows ≡ s .counters
   pub counts-long : length counts ≡ s .counters
 
-pub open-tables : (s : Settings) (rows counts : List ℕ) → first-failed (set-up-tests s rows counts) ≡ 0 → Open s rows counts
+pub open-tables : (s : Settings) (rows counts : List ℕ) → first-failed (tables-tests s rows counts) ≡ 0 → Open s rows counts
 open-tables s rows counts e =
-    let parts = or-later-none (first-failed (settings-tests s)) (refuse (not (tables-long s rows counts)) 8 0) (sym (set-up-tested s rows counts) ∙ e) in
+    let parts = or-later-none (first-failed (settings-tests s)) (refuse (not (tables-long s rows counts)) 8 0) (sym (tables-tested s rows counts) ∙ e) in
     let long = passed-test (tables-long s rows counts) 7 0 (parts .1) .0 in
     let fit = tables-long-fit s rows counts long in
     record { settled = parts .0; long = long; rows-long = fit .0; counts-long = fit .1 }
+
+-- no refusal of setting up
+pub set-up-ready : (s : Settings) (remap rows counts : List ℕ) → first-failed (set-up-tests s remap rows counts) ≡ 0 → Open s rows counts × (remap-allowed remap ≡ true)
+set-up-ready s remap rows counts e =
+    let parts = or-later-none (first-failed (tables-tests s rows counts)) (refuse (not (remap-allowed remap)) 14 0) (sym (set-up-tested s remap rows counts) ∙ e) in
+    (open-tables s rows counts (parts .0), passed-test (remap-allowed remap) 13 0 (parts .1) .0)
 
 -- no refusal of an activation, or of an event
 pub record Ready (s : Settings) (st : State) : Type 0 where
@@ -49,22 +57,24 @@ pub record Ready (s : Settings) (st : State) : Type 0 where
   pub settings : Accepted s
   pub facts : Facts s st
 
-ready : (s : Settings) (st : State) → first-failed (set-up-tests s (st .rows) (st .counts)) ≡ 0 → valid s st ≡ true → Ready s st
+ready : (s : Settings) (st : State) → first-failed (tables-tests s (st .rows) (st .counts)) ≡ 0 → valid s st ≡ true → Ready s st
 ready s st e v =
     let o = open-tables s (st .rows) (st .counts) e in
     record { fitting = o; settings = accepted-settings s (o .settled); facts = valid-facts s st (o .long) v }
 
-pub activation-ready : (s : Settings) (st : State) (row : ℕ) → first-failed (activation-tests s st row) ≡ 0 → Ready s st × (row < s .rows) × (st .position .activations < s .interval)
-activation-ready s st row e =
-    let parts = or-later-none (first-failed (set-up-tests s (st .rows) (st .counts))) _ (sym (activation-tested s st row) ∙ e) in
-    let nine = passed-test (ltb row (s .rows)) 8 (refuse (not (valid s st)) 21 (refuse (not (ltb (st .position .activations) (s .interval))) 22 0)) (parts .1) in
-    let state = passed-test (valid s st) 20 (refuse (not (ltb (st .position .activations) (s .interval))) 22 0) (nine .1) in
+pub activation-ready : (s : Settings) (remap : List ℕ) (st : State) (row : ℕ) → first-failed (activation-tests s remap st row) ≡ 0 → Ready s st × (row < s .rows) × (st .position .activations < s .interval) × (remap-allowed remap ≡ true)
+activation-ready s remap st row e =
+    let parts = or-later-none (first-failed (tables-tests s (st .rows) (st .counts))) _ (sym (activation-tested s remap st row) ∙ e) in
+    let last = refuse (not (ltb (st .position .activations) (s .interval))) 22 0 in
+    let nine = passed-test (ltb row (s .rows)) 8 (refuse (not (remap-allowed remap)) 14 (refuse (not (valid s st)) 21 last)) (parts .1) in
+    let allowed = passed-test (remap-allowed remap) 13 (refuse (not (valid s st)) 21 last) (nine .1) in
+    let state = passed-test (valid s st) 20 last (allowed .1) in
     let full = passed-test (ltb (st .position .activations) (s .interval)) 21 0 (state .1) in
-    (ready s st (parts .0) (state .0), ltb-true row (s .rows) (nine .0), ltb-true (st .position .activations) (s .interval) (full .0))
+    (ready s st (parts .0) (state .0), ltb-true row (s .rows) (nine .0), ltb-true (st .position .activations) (s .interval) (full .0), allowed .0)
 
 pub refresh-ready : (s : Settings) (st : State) (picks : List ℕ) → first-failed (refresh-tests s st picks) ≡ 0 → Ready s st × (s .volume ≤ length picks)
 refresh-ready s st picks e =
-    let parts = or-later-none (first-failed (set-up-tests s (st .rows) (st .counts))) _ (sym (refresh-tested s st picks) ∙ e) in
+    let parts = or-later-none (first-failed (tables-tests s (st .rows) (st .counts))) _ (sym (refresh-tested s st picks) ∙ e) in
     let ten = passed-test (leb (s .volume) (length picks)) 9 (refuse (not (valid s st)) 21 0) (parts .1) in
     let state = passed-test (valid s st) 20 0 (ten .1) in
     (ready s st (parts .0) (state .0), leb-true (s .volume) (length picks) (ten .0))

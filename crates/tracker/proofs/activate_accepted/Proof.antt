@@ -19,13 +19,19 @@ use Rattle.tracker.proofs.Calls.Ready.{activation-ready, ready-held, di
 use Rattle.tracker.proofs.activate_accepted.Statement.{statement}
 use Rattle.tracker.proofs.activate_accepted.Tie as tie
 
+physical-row-requires : tie.Need-physical-row-requires
+unfolding given
+physical-row-requires c κs =
+    let a = c .before .before .before in
+    activation-ready (a .args .s) (a .args .remap) (given (a .args .rows .now) (a .args .counts .now) (a .args .p)) (a .args .row) (a .pre) .3
+
 activate-row-requires : tie.Need-activate-row-requires
 unfolding given summary-of
 activate-row-requires c κs =
     let a = c .before .before .before .before .before .before in
     let st = given (a .args .rows .now) (a .args .counts .now) (a .args .p) in
-    let r = activation-ready (a .args .s) st (a .args .row) (a .pre) in
-    let below = physical-below (a .args .s .rows) (a .args .row) (r .0 .settings .others .rows-whole) (r .1) in (
+    let r = activation-ready (a .args .s) (a .args .remap) st (a .args .row) (a .pre) in
+    let below = physical-below (a .args .remap) (r .3) (a .args .s .rows) (a .args .row) (r .0 .settings .others .rows-whole) (r .1) in (
       ready-held (r .0),
       (
         (diameter-four (r .0 .settings), omega (arith, c .before .before .physical-row .ensures, below, r .0 .settings .others .rows .most)),
@@ -33,24 +39,24 @@ activate-row-requires c κs =
       ),
     )
 
-add-t14 : tie.Need-add-t14
+add-t15 : tie.Need-add-t15
 unfolding given
-add-t14 c =
+add-t15 c =
     let a = c .before .before .before .before .before .before .before .before .before .before .before .before in
-    let r = activation-ready (a .args .s) (given (a .args .rows .now) (a .args .counts .now) (a .args .p)) (a .args .row) (a .pre) in
+    let r = activation-ready (a .args .s) (a .args .remap) (given (a .args .rows .now) (a .args .counts .now) (a .args .p)) (a .args .row) (a .pre) in
     omega (arith, r .2, r .0 .settings .others .interval .most)
 
-cast-t15 : tie.Need-cast-t15
+cast-t16 : tie.Need-cast-t16
 unfolding given
-cast-t15 c =
+cast-t16 c =
     let activate-row = c .before .before .before .before .before .before .activate-row in
     let a = c .before .before .before .before .before .before .before .before .before .before .before .before .before in
-    let r = activation-ready (a .args .s) (given (a .args .rows .now) (a .args .counts .now) (a .args .p)) (a .args .row) (a .pre) in
+    let r = activation-ready (a .args .s) (a .args .remap) (given (a .args .rows .now) (a .args .counts .now) (a .args .p)) (a .args .row) (a .pre) in
     omega (arith, tracked-le (activate-row .ensures), r .0 .fitting .rows-long, r .0 .settings .counters .most)
 
 -- the state that an activation leaves, by a row that is the physical one
-made-by : (s : Settings) (e a : ℕ) (sum : Summary) (at row : ℕ) {rows counts : List ℕ} {k spill : ℕ} → at ≡ physical row → Holds (s .counters) 4294967296 (activation (s .counters) (victims-in s) at sum) rows counts k spill → given rows counts (record { events = e; activations = a; tracked = k; spillover = spill }) ≡ state-of s e a (activation (s .counters) (victims-in s) (physical row) sum)
-made-by s e a sum at row same h = state-of-holds s e a h ∙ ap (λ x. state-of s e a (activation (s .counters) (victims-in s) x sum)) same
+made-by : (s : Settings) (e a : ℕ) (sum : Summary) (at : ℕ) (remap : List ℕ) (row : ℕ) {rows counts : List ℕ} {k spill : ℕ} → at ≡ physical remap row → Holds (s .counters) 4294967296 (activation (s .counters) (victims-in s) at sum) rows counts k spill → given rows counts (record { events = e; activations = a; tracked = k; spillover = spill }) ≡ state-of s e a (activation (s .counters) (victims-in s) (physical remap row) sum)
+made-by s e a sum at remap row same h = state-of-holds s e a h ∙ ap (λ x. state-of s e a (activation (s .counters) (victims-in s) x sum)) same
 
 returns : tie.Need-returns
 unfolding activation-to kept-unless given summary-of
@@ -58,20 +64,20 @@ returns c =
     let activate-row = c .before .before .before .before .before .before .activate-row in
     let a = c .before .before .before .before .before .before .before .before .before .before .before .before .before in
     let st = given (a .args .rows .now) (a .args .counts .now) (a .args .p) in
-    let r = activation-ready (a .args .s) st (a .args .row) (a .pre) in
+    let r = activation-ready (a .args .s) (a .args .remap) st (a .args .row) (a .pre) in
     let f = c .before .before .before .before .before .before .before .before .before .physical-row in
     rw (a .pre)
-    (made-by (a .args .s) (a .args .p .events) (a .args .p .activations + 1) (summary-of st) (f .result) (a .args .row) (f .ensures) (rw (r .0 .fitting .rows-long) at (activate-row .ensures)))
+    (made-by (a .args .s) (a .args .p .events) (a .args .p .activations + 1) (summary-of st) (f .result) (a .args .remap) (a .args .row) (f .ensures) (rw (r .0 .fitting .rows-long) at (activate-row .ensures)))
 
 pub activate-accepted-spec : {M : Type 1} → statement M
 activate-accepted-spec =
     tie.close
     (tie.spec
     (λ c. search needs)
-    (λ c κs. search needs)
+    physical-row-requires
     activate-row-requires
-    add-t14
-    cast-t15
+    add-t15
+    cast-t16
     (λ c. search needs)
     (λ c. search needs)
     returns)

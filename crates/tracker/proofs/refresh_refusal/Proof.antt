@@ -14,19 +14,19 @@ returns : tie.Need-returns
 unfolding given
 returns c =
     let a = c .before .before .before .before .before .args in
-    rw (refresh-tested (a .s) (given (a .rows .now) (a .counts .now) (a .p)) (a .picks .now), ← c .before .set-up-refusal .ensures) (or-later-first (c .before .set-up-refusal .result) _ (c .if1 .taken))
+    rw (refresh-tested (a .s) (given (a .rows .now) (a .counts .now) (a .p)) (a .picks .now), ← c .before .tables-refusal .ensures) (or-later-first (c .before .tables-refusal .result) _ (c .if1 .taken))
 
 returns-2 : tie.Need-returns-2
 unfolding given refuse
 returns-2 c =
     let a = c .before .before .before .before .before .before .before .args in
-    let k = c .before .before .before .set-up-refusal in
+    let k = c .before .before .before .tables-refusal in
     rw (refresh-tested (a .s) (given (a .rows .now) (a .counts .now) (a .p)) (a .picks .now), or-later-zero _ _ (sym (k .ensures) ∙ c .before .before .if1 .left), lt-leb (a .s .volume) (length (a .picks .now)) (c .if2 .taken))
 
 valid-state-requires : tie.Need-valid-state-requires
 valid-state-requires c κs =
     let a = c .before .before .before .before .before .before .before .args in
-    let k = c .before .before .before .set-up-refusal in
+    let k = c .before .before .before .tables-refusal in
     let o = open-tables (a .s) (a .rows .now) (a .counts .now) (sym (k .ensures) ∙ c .before .before .if1 .left) in
     (o .rows-long, o .counts-long)
 
@@ -34,7 +34,7 @@ returns-3 : tie.Need-returns-3
 unfolding given refuse
 returns-3 c =
     let a = c .before .before .before .before .before .before .before .before .before .args in
-    let k = c .before .before .before .before .before .set-up-refusal in
+    let k = c .before .before .before .before .before .tables-refusal in
     rw (
       refresh-tested (a .s) (given (a .rows .now) (a .counts .now) (a .p)) (a .picks .now),
       or-later-zero _ _ (sym (k .ensures) ∙ c .before .before .before .before .if1 .left),

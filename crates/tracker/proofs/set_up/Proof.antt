@@ -11,7 +11,7 @@ unfolding set-up-call set-up-outcome
 returns c =
     let a = c .before .before .before .before .before .before .args in
     let k = c .before .set-up-refusal in
-    set-up-refused (a .s) (a .rows .now) (a .counts .now) (k .result) (k .ensures) (c .if1 .taken)
+    set-up-refused (a .s) (a .remap) (a .rows .now) (a .counts .now) (k .result) (k .ensures) (c .if1 .taken)
 
 returns-2 : tie.Need-returns-2
 unfolding set-up-call set-up-outcome
@@ -20,7 +20,7 @@ returns-2 c =
     let clear = c .before .before .before .before .before .before .clear in
     let a = c .before .before .before .before .before .before .before .before .before .before .before .before .before .before .args in
     let k = c .before .before .before .before .before .before .before .before .before .set-up-refusal in
-    set-up-done (a .s) (a .rows .now) (a .counts .now) (sym (k .ensures) ∙ if1 .left) (clear .ensures) (c .before .before .clear2 .ensures)
+    set-up-done (a .s) (a .remap) (a .rows .now) (a .counts .now) (sym (k .ensures) ∙ if1 .left) (clear .ensures) (c .before .before .clear2 .ensures)
 
 pub set-up-spec : {M : Type 1} → statement M
 set-up-spec =

@@ -8,13 +8,13 @@ use Rattle.tracker.proofs.set_up_refusal.Tie as tie
 returns : tie.Need-returns
 returns c =
     let a = c .before .before .before .before .args in
-    rw (set-up-tested (a .s) (a .rows .now) (a .counts .now), ← c .before .settings-refusal .ensures) (or-later-first (c .before .settings-refusal .result) _ (c .if1 .taken))
+    rw (set-up-tested (a .s) (a .remap) (a .rows .now) (a .counts .now), ← c .before .tables-refusal .ensures) (or-later-first (c .before .tables-refusal .result) _ (c .if1 .taken))
 
 returns-2 : tie.Need-returns-2
 returns-2 c =
     let a = c .before .before .before .before .before .before .args in
-    let k = c .before .before .before .settings-refusal in
-    rw (set-up-tested (a .s) (a .rows .now) (a .counts .now), or-later-zero _ _ (sym (k .ensures) ∙ c .before .before .if1 .left), ← c .before .are-long .ensures) (c .refuse-unless .ensures)
+    let k = c .before .before .before .tables-refusal in
+    rw (set-up-tested (a .s) (a .remap) (a .rows .now) (a .counts .now), or-later-zero _ _ (sym (k .ensures) ∙ c .before .before .if1 .left), ← c .before .remap-allowed .ensures) (c .refuse-unless .ensures)
 
 pub set-up-refusal-spec : {M : Type 1} → statement M
 set-up-refusal-spec =
