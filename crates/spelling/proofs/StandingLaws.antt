@@ -2,7 +2,7 @@
 use mathlib.Core.Path.{_≡_, refl}
 use Rattle.device.specs.Refusal.{Outcome, accepted, refused}
 use Rattle.trace.specs.declared.Record.{Record}
-use Rattle.trace.specs.declared.Record.the-variants.{Set, Activate, Refresh, Blank}
+use Rattle.trace.specs.declared.Record.the-variants.{Set, Remap, Activate, Refresh, Blank}
 use Rattle.trace.specs.Writing.{standing-behind}
 use Rattle.spelling.specs.declared.Standing.{Standing}
 use Rattle.spelling.specs.Contracts.{standing-of, stood}
@@ -10,6 +10,7 @@ use Rattle.spelling.specs.Contracts.{standing-of, stood}
 pub standing-stood : (s : Standing) (o : Outcome Record) → standing-of (stood s o) ≡ standing-behind (standing-of s) o
 unfolding stood standing-of standing-behind
 standing-stood s (accepted (Set t)) = refl
+standing-stood s (accepted (Remap t)) = refl
 standing-stood s (accepted (Activate row)) = refl
 standing-stood s (accepted Refresh) = refl
 standing-stood s (accepted Blank) = refl

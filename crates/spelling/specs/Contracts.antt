@@ -4,7 +4,7 @@ use mathlib.Core.Bool.{true, false, cond}
 use mathlib.Core.Option.{Option, none, some}
 use Rattle.device.specs.Refusal.{Outcome, accepted, refused}
 use Rattle.trace.specs.declared.Record.{Record}
-use Rattle.trace.specs.declared.Record.the-variants.{Set, Activate, Refresh, Blank}
+use Rattle.trace.specs.declared.Record.the-variants.{Set, Remap, Activate, Refresh, Blank}
 use Rattle.spelling.specs.declared.Standing.{Standing}
 
 -- none stand
@@ -18,6 +18,7 @@ standing-of s = cond (s .active) (some (s .rows)) none
 -- those behind an answer
 unfoldable pub stood : Standing → Outcome Record → Standing
 stood s (accepted (Set t)) = record { active = true; rows = t .rows }
+stood s (accepted (Remap t)) = s
 stood s (accepted (Activate row)) = s
 stood s (accepted Refresh) = s
 stood s (accepted Blank) = s

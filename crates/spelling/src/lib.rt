@@ -2,11 +2,15 @@
 use device::Settings;
 use trace::Read;
 use trace::Record;
+use trace::Sixteen;
 ghost use mathlib.Core.Path.{_≡_};
 ghost use mathlib.Core.List.{[], _∷_};
 ghost use Prim.Native.Nat.{_+_, _≤_};
 ghost use lib.ListN.{length};
-ghost use Rattle.trace.specs.Bytes.{letter-A, letter-R, letter-S};
+ghost use Rattle.trace.specs.Bytes.{letter-A, letter-F, letter-R, letter-S};
+ghost use Rattle.device.specs.Refusal.{unless, first-failed};
+ghost use Rattle.device.specs.Remap.{remap-allowed};
+ghost use Rattle.trace.specs.Records.{sixteen-of};
 ghost use Rattle.trace.specs.Reading.{said};
 ghost use Rattle.trace.specs.Output.{Prints-into};
 ghost use Rattle.trace.specs.Spelling.{settings-numbers, spelled-line, record-spelling, answer-spelling};
@@ -27,6 +31,13 @@ pub fn no_settings() -> Standing
         active: false,
         rows: 0,
     }
+}
+
+// The refusal of a remap, or 0.
+fn remap_fault(t: Sixteen) -> u32
+    ensures { λ r. ⌜ r ≡ first-failed (unless (remap-allowed (sixteen-of t)) 14 ∷ []) ⌝ }
+{
+    device::refuse_unless(device::remap_allowed(trace::sixteen_of(t)), 14, 0)
 }
 
 // The refusal of a row, or 0.
@@ -53,6 +64,7 @@ pub fn fault(standing: Standing, answer: Read) -> u32
     match answer {
         Read::Line(record, _) => match record {
             Record::Set(s) => device::settings_refusal(s),
+            Record::Remap(t) => remap_fault(t),
             Record::Activate(row) => row_fault(standing, row),
             Record::Refresh => event_fault(standing),
             Record::Blank => 0,
@@ -71,6 +83,7 @@ pub fn standing_behind(standing: Standing, answer: Read) -> Standing
                 active: true,
                 rows: s.rows,
             },
+            Record::Remap(_) => standing,
             Record::Activate(_) => standing,
             Record::Refresh => standing,
             Record::Blank => standing,
@@ -86,6 +99,7 @@ pub fn width(answer: Read) -> usize
     match answer {
         Read::Line(record, _) => match record {
             Record::Set(_) => 44,
+            Record::Remap(_) => 98,
             Record::Activate(_) => 8,
             Record::Refresh => 2,
             Record::Blank => 0,
@@ -110,6 +124,17 @@ fn print_settings(out: &mut [u8], at: usize, s: Settings) -> usize
     ];
     let place = trace::print_byte(out, at, b'S');
     let end = trace::print_numbers(out, place, &numbers, 7);
+    trace::print_byte(out, end, b'\n')
+}
+
+// The line of a remap.
+fn print_remap(out: &mut [u8], at: usize, t: Sixteen) -> usize
+    requires { ⌜ at + 98 ≤ length (now out) ⌝ }
+    ensures { λ r. ⌜ Prints-into out at (spelled-line letter-F (sixteen-of t)) r ⌝ }
+{
+    let numbers = trace::sixteen_of(t);
+    let place = trace::print_byte(out, at, b'F');
+    let end = trace::print_numbers(out, place, &numbers, 16);
     trace::print_byte(out, end, b'\n')
 }
 
@@ -139,6 +164,7 @@ fn print_record(out: &mut [u8], at: usize, line: Record) -> usize
 {
     match line {
         Record::Set(s) => print_settings(out, at, s),
+        Record::Remap(t) => print_remap(out, at, t),
         Record::Activate(row) => print_activation(out, at, row),
         Record::Refresh => print_event(out, at),
         Record::Blank => at,

@@ -1,9 +1,9 @@
 -- Records behind their letters: each has one width and no byte 10, what the first bytes of a text say, and the widest line.
-use mathlib.Core.Path.{_≡_, refl}
+use mathlib.Core.Path.{_≡_, refl, ap}
 use mathlib.Core.Bool.{false}
 use mathlib.Core.List.{List, [], _∷_}
 use mathlib.Core.Option.{some, Option, bind, bind-eq-some-iff}
-use Prim.Native.Nat.{ℕ, suc, _≤_, _<_}
+use Prim.Native.Nat.{ℕ, zero, suc, _+_, _≤_}
 use native.Mathlib.Omega.{arith}
 use borrow.Author.Tests.{eqb-true, eq-eqb}
 use lib.Dec.{eqb}
@@ -11,11 +11,11 @@ use lib.ListN.{length, getD, take}
 use lib.Seq.{length-take-le, getD-take}
 use Rattle.laws.proofs.Cases.{split, missing, cond-test, cond-some}
 use Rattle.trace.specs.declared.Record.{Record}
-use Rattle.trace.specs.declared.Record.the-variants.{Set, Activate}
-use Rattle.trace.specs.Bytes.{letter-A, letter-R, letter-S}
+use Rattle.trace.specs.declared.Record.the-variants.{Set, Remap, Activate}
+use Rattle.trace.specs.Bytes.{letter-A, letter-F, letter-R, letter-S}
 use Rattle.trace.specs.Lines.{ended}
 use Rattle.trace.specs.Numbers.{field, fields}
-use Rattle.trace.specs.Records.{as-settings, settings, activation, refresh, record-of}
+use Rattle.trace.specs.Records.{as-settings, as-sixteen, settings, remap, activation, refresh, record-of}
 use Rattle.trace.proofs.Lines.{ended-drop-length}
 use Rattle.trace.proofs.Numbers.Fields.{field-take, fields-take, ended-field, ended-fields}
 
@@ -63,6 +63,19 @@ ended-settings bytes r h =
 pub settings-form : Form settings 42
 settings-form = record { same-length = length-settings; unended = ended-settings }
 
+length-remap : (bytes : List ℕ) (r : Record) → remap bytes ≡ some r → length bytes ≡ 96
+unfolding remap
+length-remap bytes r h = eqb-true (length bytes) 96 (cond-test (eqb (length bytes) 96) _ r h)
+
+ended-remap : (bytes : List ℕ) (r : Record) → remap bytes ≡ some r → ended bytes ≡ false
+unfolding remap
+ended-remap bytes r h =
+    let numbers = bind-eq-some-iff (fields 16 bytes) _ .0 (cond-some (eqb (length bytes) 96) _ r h) in
+    ended-fields 16 bytes (numbers .0) (length-remap bytes r h) (numbers .1)
+
+pub remap-form : Form remap 96
+remap-form = record { same-length = length-remap; unended = ended-remap }
+
 -- what the first bytes of a text say
 pub activation-take : (text : List ℕ) → 6 ≤ length text → activation (take 6 text) ≡ bind (field 0 text) λ row. some (Activate row)
 unfolding activation
@@ -72,27 +85,35 @@ pub settings-take : (text : List ℕ) → 42 ≤ length text → settings (take 
 unfolding settings
 settings-take text h = rw (eq-eqb _ _ (length-take-le 42 text h), fields-take 7 text)
 
--- settings made of an array are those of its first seven numbers
-pub as-settings-take : (values : List ℕ) → as-settings (take 7 values) ≡ as-settings values
-unfolding as-settings
-as-settings-take values =
-    let same : (i : ℕ) → i < 7 → getD (take 7 values) i 0 ≡ getD values i 0 = λ i h. getD-take 7 values i 0 h in
-    rw (
-      same 0 (omega arith),
-      same 1 (omega arith),
-      same 2 (omega arith),
-      same 3 (omega arith),
-      same 4 (omega arith),
-      same 5 (omega arith),
-      same 6 (omega arith),
-    )
+pub remap-take : (text : List ℕ) → 96 ≤ length text → remap (take 96 text) ≡ bind (fields 16 text) λ ns. some (Remap (as-sixteen ns))
+unfolding remap
+remap-take text h = rw (eq-eqb _ _ (length-take-le 96 text h), fields-take 16 text)
 
-length-letter-le : {says : List ℕ → Option Record} {w : ℕ} → Form says w → w ≤ 42
-    → (bytes : List ℕ) (r : Record) → says bytes ≡ some r → suc (length bytes) ≤ 43
+-- so many numbers of a list from a place on
+unfoldable pub places : ℕ → ℕ → List ℕ → List ℕ
+places zero i ns = []
+places (suc k) i ns = getD ns i 0 ∷ places k (suc i) ns
+
+places-take : (w k i : ℕ) (ns : List ℕ) → i + k ≤ w → places k i (take w ns) ≡ places k i ns
+unfolding places
+places-take w zero i ns h = refl
+places-take w (suc k) i ns h = rw (getD-take w ns i 0 (omega arith), places-take w k (suc i) ns (omega arith))
+
+-- settings made of an array are those of its first seven numbers, and a remap's numbers its first sixteen
+pub as-settings-take : (values : List ℕ) → as-settings (take 7 values) ≡ as-settings values
+unfolding as-settings places
+as-settings-take values = ap as-settings (places-take 7 7 0 values (omega arith))
+
+pub as-sixteen-take : (values : List ℕ) → as-sixteen (take 16 values) ≡ as-sixteen values
+unfolding as-sixteen places
+as-sixteen-take values = ap as-sixteen (places-take 16 16 0 values (omega arith))
+
+length-letter-le : {says : List ℕ → Option Record} {w : ℕ} → Form says w → w ≤ 96
+    → (bytes : List ℕ) (r : Record) → says bytes ≡ some r → suc (length bytes) ≤ 97
 length-letter-le form h bytes r e = omega (arith, form .same-length bytes r e)
 
--- the widest record has 43 bytes before its byte 10
-pub length-record-le : (bytes : List ℕ) (r : Record) → record-of bytes ≡ some r → length bytes ≤ 43
+-- the widest record has 97 bytes before its byte 10
+pub length-record-le : (bytes : List ℕ) (r : Record) → record-of bytes ≡ some r → length bytes ≤ 97
 unfolding record-of
 length-record-le [] r h = omega arith
 length-record-le (b ∷ bytes) r h =
@@ -104,4 +125,7 @@ length-record-le (b ∷ bytes) r h =
     (λ a.
     split (eqb b letter-R)
     (λ f. length-letter-le refresh-form (omega arith) bytes r (rw (s, a, f) at h))
-    (λ f. missing (rw (s, a, f) at h))))
+    (λ f.
+    split (eqb b letter-F)
+    (λ m. length-letter-le remap-form (omega arith) bytes r (rw (s, a, f, m) at h))
+    (λ m. missing (rw (s, a, f, m) at h)))))

@@ -14,16 +14,20 @@ use Rattle.device.specs.Refusal.{Outcome, accepted, refused, unless, refuse, fi
 use Rattle.device.specs.Acceptance.{most-rows}
 use Rattle.device.proofs.Acceptance.{Between, Accepted, accepted-settings, settings-alike}
 use Rattle.device.proofs.Refusal.{refuse-passed}
+use Rattle.device.proofs.Remap.{entry-below}
 use Rattle.laws.proofs.Cases.{split, clash, zero-one}
+use Rattle.trace.specs.declared.Sixteen.{Sixteen}
 use Rattle.trace.specs.declared.Record.{Record}
-use Rattle.trace.specs.declared.Record.the-variants.{Set, Activate, Refresh, Blank}
+use Rattle.trace.specs.declared.Record.the-variants.{Set, Remap, Activate, Refresh, Blank}
+use Rattle.device.specs.Remap.{remap-allowed}
 use Rattle.trace.specs.Numbers.{written}
+use Rattle.trace.specs.Records.{sixteen-of}
 use Rattle.trace.specs.Spelling.{settings-numbers, spelling, is-blank, unblank}
 use Rattle.trace.specs.Writing.{standing-behind, standing-after, row-fault, fault-to, fault, first-fault-to, first-fault, before-fault-to, before-fault, room-fault, writing-fault-to, writing-by, writing-to, writing}
 use Rattle.trace.specs.Claims.{All-alike}
 use Rattle.trace.proofs.Output.{take-written}
-use Rattle.trace.proofs.Spelling.Numbers.{Narrow, no-number, one-more}
-use Rattle.trace.proofs.Spelling.Readable.{Readable, Readables, no-answer, one-answer-more, of-settings, of-activation, of-refresh, of-blank}
+use Rattle.trace.proofs.Spelling.Numbers.{Narrow, no-number, one-more, narrow-by}
+use Rattle.trace.proofs.Spelling.Readable.{Readable, Readables, no-answer, one-answer-more, of-settings, of-remap, of-activation, of-refresh, of-blank}
 
 pub record Faulty-from (standing : Option ℕ) (os : List (Outcome Record)) : Type 0 where
   pub answer : Outcome Record
@@ -89,16 +93,21 @@ narrow-accepted s h =
     (one-more (between-lt (h .others .window) (omega arith))
     (one-more (between-lt (h .others .block) (omega arith)) no-number))))))
 
+narrow-allowed : (t : Sixteen) → remap-allowed (sixteen-of t) ≡ true → Narrow (sixteen-of t)
+unfolding sixteen-of
+narrow-allowed t ok = narrow-by (sixteen-of t) (λ i h. omega (arith, entry-below (sixteen-of t) ok i h))
+
 row-fault-lt : {standing : Option ℕ} (row : ℕ) → Standing standing → row-fault standing row ≡ 0 → row < 1000000
 unfolding row-fault first-failed unless
 row-fault-lt row no-settings e = absurd (omega arith)
 row-fault-lt row (some-settings {rows} h) e = omega (arith, ltb-true row rows (refuse-passed (ltb row rows) 8 0 e .0))
 
 answer-faultless : {standing : Option ℕ} (o : Outcome Record) → Standing standing → fault standing o ≡ 0 → Readable o × Standing (standing-behind standing o)
-unfolding fault-to standing-behind
+unfolding fault-to standing-behind first-failed unless
 answer-faultless (accepted (Set s)) h e =
     let all = accepted-settings s e in
     (of-settings (narrow-accepted s all), some-settings (all .others .rows .most))
+answer-faultless (accepted (Remap t)) h e = (of-remap (narrow-allowed t (refuse-passed (remap-allowed (sixteen-of t)) 13 0 e .0)), h)
 answer-faultless (accepted (Activate row)) h e = (of-activation (row-fault-lt row h e), h)
 answer-faultless (accepted Refresh) h e = (of-refresh, h)
 answer-faultless (accepted Blank) h e = (of-blank, h)
@@ -145,6 +154,7 @@ writing-accepted os text n e =
 blank-faultless : (standing : Option ℕ) (o : Outcome Record) → is-blank o ≡ true → (fault standing o ≡ 0) × (standing-behind standing o ≡ standing)
 unfolding is-blank fault-to standing-behind
 blank-faultless standing (accepted (Set s)) h = clash (sym h)
+blank-faultless standing (accepted (Remap t)) h = clash (sym h)
 blank-faultless standing (accepted (Activate row)) h = clash (sym h)
 blank-faultless standing (accepted Refresh) h = clash (sym h)
 blank-faultless standing (accepted Blank) h = (refl, refl)
@@ -164,6 +174,7 @@ first-fault-unblank standing (o ∷ os) =
 fault-alike : (most : ℕ) (standing : Option ℕ) (o : Outcome Record) (os : List (Outcome Record)) → All-alike most (o ∷ os) → fault-to most standing o ≡ fault standing o
 unfolding fault-to
 fault-alike most standing (accepted (Set s)) os all = ap first-failed (settings-alike most s (all s (List·Memᴰ·head refl)))
+fault-alike most standing (accepted (Remap t)) os all = refl
 fault-alike most standing (accepted (Activate row)) os all = refl
 fault-alike most standing (accepted Refresh) os all = refl
 fault-alike most standing (accepted Blank) os all = refl

@@ -16,6 +16,10 @@ digit-9 = 57
 abbrev pub letter-A : ℕ
 letter-A = 65
 
+-- `F`, a remap
+abbrev pub letter-F : ℕ
+letter-F = 70
+
 -- `R`, a refresh event
 abbrev pub letter-R : ℕ
 letter-R = 82

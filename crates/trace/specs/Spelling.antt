@@ -5,8 +5,9 @@ use mathlib.Core.List.{List, [], _∷_, _++_}
 use Rattle.device.specs.declared.Settings.{Settings}
 use Rattle.device.specs.Refusal.{Outcome, accepted, refused}
 use Rattle.trace.specs.declared.Record.{Record}
-use Rattle.trace.specs.declared.Record.the-variants.{Set, Activate, Refresh, Blank}
-use Rattle.trace.specs.Bytes.{letter-A, letter-R, letter-S}
+use Rattle.trace.specs.declared.Record.the-variants.{Set, Remap, Activate, Refresh, Blank}
+use Rattle.trace.specs.Bytes.{letter-A, letter-F, letter-R, letter-S}
+use Rattle.trace.specs.Records.{sixteen-of}
 use Rattle.trace.specs.Output.{number-columns}
 
 -- 'the seven settings' as numbers, in their order
@@ -21,6 +22,7 @@ spelled-line letter numbers = letter ∷ number-columns numbers ++ 10 ∷ []
 -- the spelling of a record; 'blank records are passed over'
 unfoldable pub record-spelling : Record → List ℕ
 record-spelling (Set s) = spelled-line letter-S (settings-numbers s)
+record-spelling (Remap t) = spelled-line letter-F (sixteen-of t)
 record-spelling (Activate row) = spelled-line letter-A (row ∷ [])
 record-spelling Refresh = spelled-line letter-R []
 record-spelling Blank = []
@@ -38,6 +40,7 @@ spelling (o ∷ os) = answer-spelling o ++ spelling os
 -- 'blank'
 unfoldable pub is-blank : Outcome Record → Bool
 is-blank (accepted (Set s)) = false
+is-blank (accepted (Remap t)) = false
 is-blank (accepted (Activate row)) = false
 is-blank (accepted Refresh) = false
 is-blank (accepted Blank) = true

@@ -39,7 +39,7 @@ joined (part ∷ parts) = part ++ joined parts
 
 -- of a line that has not ended so many bytes are kept: no record is as long
 abbrev pub most-kept : ℕ
-most-kept = 64
+most-kept = 128
 
 -- of the bytes of a text from one place to another, the first
 unfoldable pub kept-bytes : ℕ → ℕ → List ℕ → List ℕ

@@ -8,13 +8,16 @@ use lib.ListN.{length}
 use Rattle.device.specs.Refusal.{Outcome, accepted, refused, unless, first-failed}
 use Rattle.device.specs.Acceptance.{most-rows, settings-tests-to}
 use Rattle.trace.specs.declared.Record.{Record}
-use Rattle.trace.specs.declared.Record.the-variants.{Set, Activate, Refresh, Blank}
+use Rattle.trace.specs.declared.Record.the-variants.{Set, Remap, Activate, Refresh, Blank}
+use Rattle.device.specs.Remap.{remap-allowed}
 use Rattle.trace.specs.Numbers.{written}
+use Rattle.trace.specs.Records.{sixteen-of}
 use Rattle.trace.specs.Spelling.{spelling}
 
 -- N of 'the settings last before' what follows an answer, if any stand: all that is held against them is a row
 unfoldable pub standing-behind : Option ℕ → Outcome Record → Option ℕ
 standing-behind standing (accepted (Set s)) = some (s .rows)
+standing-behind standing (accepted (Remap t)) = standing
 standing-behind standing (accepted (Activate row)) = standing
 standing-behind standing (accepted Refresh) = standing
 standing-behind standing (accepted Blank) = standing
@@ -35,9 +38,10 @@ unfoldable pub event-fault : Option ℕ → ℕ
 event-fault none = 11
 event-fault (some rows) = 0
 
--- the refusal that an answer earns where N may be up to the most, 0 for none: settings 1 to 7; 'a refusal among the records gets 11'
+-- the refusal that an answer earns where N may be up to the most, 0 for none: settings 1 to 7; a remap 14, 'a number is missing or repeated'; 'a refusal among the records gets 11'
 unfoldable pub fault-to : ℕ → Option ℕ → Outcome Record → ℕ
 fault-to most standing (accepted (Set s)) = first-failed (settings-tests-to most s)
+fault-to most standing (accepted (Remap t)) = first-failed (unless (remap-allowed (sixteen-of t)) 14 ∷ [])
 fault-to most standing (accepted (Activate row)) = row-fault standing row
 fault-to most standing (accepted Refresh) = event-fault standing
 fault-to most standing (accepted Blank) = 0

@@ -7,7 +7,7 @@ ghost use lib.ListN.{length, take, drop};
 ghost use lib.Seq.{slice};
 ghost use Rattle.trace.specs.Numbers.{digits, field, fields, digit-or-blank, printed, written};
 ghost use Rattle.trace.specs.Lines.{extent};
-ghost use Rattle.trace.specs.Records.{as-settings, settings, activation, refresh};
+ghost use Rattle.trace.specs.Records.{as-settings, as-sixteen, sixteen-of, settings, remap, activation, refresh};
 ghost use Rattle.trace.specs.Contracts.{found, found-all, ends-after, Copies-front};
 ghost use Rattle.trace.specs.Reading.{said, reading, reading-by, Handed-on};
 ghost use Rattle.trace.specs.Texts.{kept-bytes};
@@ -15,6 +15,9 @@ ghost use Rattle.trace.specs.Output.{number-columns, refusal-line, Print
 
 // How wide a number is.
 const COLUMNS: usize = 6;
+
+// How many bytes are kept of a line that has not ended: no record is as long.
+const KEPT: usize = 128;
 
 // Line numbers are printed modulo this.
 pub const LINES: u64 = 10_000_000_000;
@@ -31,9 +34,30 @@ pub struct Fields {
     pub values: [u32; 16],
 }
 
-// What a line says: settings, an activation of a logical row, a refresh event, or nothing.
+// The numbers of a remap as fields: an enum can hold these, and no array.
+pub struct Sixteen {
+    pub n0: u32,
+    pub n1: u32,
+    pub n2: u32,
+    pub n3: u32,
+    pub n4: u32,
+    pub n5: u32,
+    pub n6: u32,
+    pub n7: u32,
+    pub n8: u32,
+    pub n9: u32,
+    pub n10: u32,
+    pub n11: u32,
+    pub n12: u32,
+    pub n13: u32,
+    pub n14: u32,
+    pub n15: u32,
+}
+
+// What a line says: settings, a remap, an activation of a logical row, a refresh event, or nothing.
 pub enum Record {
     Set(Settings),
+    Remap(Sixteen),
     Activate(u32),
     Refresh,
     Blank,
@@ -163,6 +187,70 @@ fn read_settings(text: &[u8], at: usize) -> Read
     Read::Line(Record::Set(as_settings(values)), at + 43)
 }
 
+// Sixteen numbers as fields.
+fn as_sixteen(values: [u32; 16]) -> Sixteen
+    ensures { λ r. ⌜ r ≡ as-sixteen values ⌝ }
+{
+    Sixteen {
+        n0: values[0],
+        n1: values[1],
+        n2: values[2],
+        n3: values[3],
+        n4: values[4],
+        n5: values[5],
+        n6: values[6],
+        n7: values[7],
+        n8: values[8],
+        n9: values[9],
+        n10: values[10],
+        n11: values[11],
+        n12: values[12],
+        n13: values[13],
+        n14: values[14],
+        n15: values[15],
+    }
+}
+
+// The numbers of a remap record as a remap.
+pub fn sixteen_of(t: Sixteen) -> [u32; 16]
+    ensures { λ r. ⌜ r ≡ sixteen-of t ⌝ }
+{
+    [
+        t.n0,
+        t.n1,
+        t.n2,
+        t.n3,
+        t.n4,
+        t.n5,
+        t.n6,
+        t.n7,
+        t.n8,
+        t.n9,
+        t.n10,
+        t.n11,
+        t.n12,
+        t.n13,
+        t.n14,
+        t.n15,
+    ]
+}
+
+// A line of a remap, from behind its letter on.
+fn read_remap(text: &[u8], at: usize) -> Read
+    requires { ⌜ at ≤ length (now text) ⌝ }
+    ensures { λ r. ⌜ said r ≡ reading-by remap (drop at (now (text .entry))) at ⌝ }
+{
+    if !ends_after(text, at, 96) {
+        return Read::Refused(line_end(text, at));
+    }
+    let found = read_fields(text, at, 16);
+    if !found.all {
+        return Read::Refused(line_end(text, at));
+    }
+    let values = found.values;
+    Read::Line(Record::Remap(as_sixteen(values)), at + 97)
+}
+
 // An activation's line, from behind its letter on.
 fn read_activation(text: &[u8], at: usize) -> Read
     requires { ⌜ at ≤ length (now text) ⌝ }
@@ -206,6 +294,9 @@ pub fn read_line(text: &[u8], place: usize) -> Read
     }
     if letter == b'S' {
         return read_settings(text, at);
+    }
+    if letter == b'F' {
+        return read_remap(text, at);
     }
     if letter == b'\n' {
         return Read::Line(Record::Blank, at);
@@ -330,13 +421,13 @@ fn smaller(a: usize, b: usize) -> usize
     if a <= b { a } else { b }
 }
 
-// Of the text's bytes from one place to another, the first 64 go to its front; how many they are.
+// Of the text's bytes from one place to another, the first 128 go to its front; how many they are.
 pub fn keep(text: &mut [u8], from: usize, to: usize) -> usize
     ensures { λ r. ⌜ Copies-front text (kept-bytes from to (now (text .entry))) r ⌝ }
 {
     let end = smaller(to, text.len());
     let begin = smaller(from, end);
-    let kept = smaller(end - begin, 64);
+    let kept = smaller(end - begin, KEPT);
     let mut i = 0;
     while i < kept {
         text[i] = text[begin + i];

@@ -10,7 +10,7 @@ use lib.ListN.{length, take, drop, length-append, take-append-drop, drop-of-leng
 use lib.Seq.{take-at}
 use Rattle.laws.proofs.Cases.{split, clash}
 use Rattle.trace.specs.Lines.{ended}
-use Rattle.trace.specs.Texts.{kept-bytes}
+use Rattle.trace.specs.Texts.{most-kept, kept-bytes}
 use Rattle.trace.proofs.Output.{prints-long, take-printed}
 use Rattle.trace.proofs.Texts.Cuts.{outcomes-kept, ended-less}
 use Rattle.tracefmt.specs.Rewriting.{Progress, rewriting, after}
@@ -35,21 +35,21 @@ module _ {g₀ g : Progress} {text buffer₀ buffer : List ℕ} {at end : ℕ} (
   unfolding ended
   part-whole h = part-taken (λ _. rw (drop-of-length-le text {i = at} h))
 
--- behind whole lines: either a line was faulty, or 64 bytes of the line that has not ended tell as much as all
+-- behind whole lines: either a line was faulty, or the kept bytes of the line that has not ended tell as much as all
 module _ (g : Progress) (rest : List ℕ) (all : g .refusal ≡ 0 → ended rest ≡ false) (more : List ℕ) where
-  rewriting-kept : rewriting g (rest ++ more) ≡ rewriting g (take 64 rest ++ more)
+  rewriting-kept : rewriting g (rest ++ more) ≡ rewriting g (take most-kept rest ++ more)
   unfolding rewriting
   rewriting-kept =
       split (eqb (g .refusal) 0)
       (λ e. rw (outcomes-kept rest more (all (eqb-true _ _ e))))
-      (λ e. rewriting-stopped g e (rest ++ more) ∙ sym (rewriting-stopped g e (take 64 rest ++ more)))
+      (λ e. rewriting-stopped g e (rest ++ more) ∙ sym (rewriting-stopped g e (take most-kept rest ++ more)))
 
-  after-kept : after g (rest ++ more) ≡ after g (take 64 rest ++ more)
+  after-kept : after g (rest ++ more) ≡ after g (take most-kept rest ++ more)
   unfolding after
   after-kept =
       split (eqb (g .refusal) 0)
       (λ e. rw (outcomes-kept rest more (all (eqb-true _ _ e))))
-      (λ e. after-stopped g e (rest ++ more) ∙ sym (after-stopped g e (take 64 rest ++ more)))
+      (λ e. after-stopped g e (rest ++ more) ∙ sym (after-stopped g e (take most-kept rest ++ more)))
 
 -- a move: whatever comes behind the bytes at hand, the rewriting is the same
 module _ {g g′ : Progress} {text written left : List ℕ} (m : Moves g text written g′ left) where
@@ -70,7 +70,7 @@ module _ {g g′ : Progress} {text written left : List ℕ} (m : Moves g text wr
       rw (m .keeps, ← m .takes .leaves) (after-kept g′ rest (m .takes .all) more)
 
   pub moves-unended : g′ .refusal ≡ 0 → ended left ≡ false
-  moves-unended e = rw (m .keeps) (ended-less 64 (drop (m .taken) text) (m .takes .all e))
+  moves-unended e = rw (m .keeps) (ended-less most-kept (drop (m .taken) text) (m .takes .all e))
 
 -- what lies between two reads, by what the part and the keeping left
 pub chunk-moves : {g g′ : Progress} {text′ buffer₀ buffer : List ℕ} {taken end kept : ℕ} (text : List ℕ) (len : ℕ) → Rewrites g (take len text) buffer₀ buffer g′ taken end
@@ -78,7 +78,7 @@ pub chunk-moves : {g g′ : Progress} {text′ buffer₀ buffer : List ℕ} {tak
     → Moves g (take len text) (take end buffer) g′ (take kept text′) × (kept ≤ length text′) × (end ≤ length buffer)
 unfolding kept-bytes
 chunk-moves {text′ = text′} {taken = taken} {kept = kept} text len r k t =
-    let bytes : List ℕ = take 64 (drop taken (take len text)) in
+    let bytes : List ℕ = take most-kept (drop taken (take len text)) in
     let front : take kept text′ ≡ bytes = ap (take kept) t ∙ take-at bytes (drop kept text) kept (sym k) in (
       record { taken = taken; takes = r .takes; writes = take-printed (r .prints); keeps = front },
       omega (arith, k, ap length t, length-append bytes (drop kept text)),

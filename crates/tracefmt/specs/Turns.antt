@@ -33,7 +33,7 @@ pub record Rewrites (g : Progress) (text buffer buffer′ : List ℕ) (g′ : Pr
   pub takes : Takes g text g′ taken
   pub prints : Prints buffer 0 (rewriting g (take taken text)) buffer′ end
 
--- what they write, and the first 64 bytes of those behind them, which are left
+-- what they write, and the first 128 bytes of those behind them, which are left
 pub record Moves (g : Progress) (text written : List ℕ) (g′ : Progress) (left : List ℕ) : Type 0 where
   pub taken : ℕ
   pub takes : Takes g text g′ taken

@@ -122,7 +122,7 @@ fn rewrite_part(p: Place, text: &[u8], out: &mut [u8]) -> Part
     }
 }
 
-// Rewrites the lines among the first bytes of the text; the first 64 bytes of what is left go to the text's front.
+// Rewrites the lines among the first bytes of the text; the first 128 bytes of what is left go to the text's front.
 fn rewrite_chunk(p: Place, text: &mut [u8], len: usize, out: &mut [u8]) -> Chunk
     requires { ⌜ (len ≤ length (now text)) × (length (now text) ≤ length (now out)) ⌝ }
     ensures { λ r. ⌜ Moves (progress-of p) (take len (now (text .entry))) (take (r .end) (now (out .exit))) (progress-of (r .place)) (take (r .kept) (now (text .exit))) × (r .kept ≤ length (now (text .exit))) × (r .end ≤ length (now (out .exit))) ⌝ }

@@ -3,7 +3,7 @@ use native.Mathlib.Omega.{arith}
 use borrow.Author.Needs.{needs}
 use Rattle.trace.specs.Spelling.{record-spelling}
 use Rattle.trace.proofs.Output.{prints-nothing}
-use Rattle.trace.proofs.Spelling.Lengths.{length-settings-line, length-activation-line, length-event-line}
+use Rattle.trace.proofs.Spelling.Lengths.{length-settings-line, length-remap-line, length-activation-line, length-event-line}
 use Rattle.spelling.proofs.print_record.Statement.{statement}
 use Rattle.spelling.proofs.print_record.Tie as tie
 
@@ -13,11 +13,17 @@ print-settings-requires c κs =
     let room = rw (c .before .before .line .given .1) at (c .before .before .before .before .before .pre) in
     omega (arith, room, length-settings-line (c .before .before .line .given .0 .0))
 
+print-remap-requires : tie.Need-print-remap-requires
+unfolding record-spelling
+print-remap-requires c κs =
+    let room = rw (c .before .before .line2 .given .1) at (c .before .before .before .before .before .pre) in
+    omega (arith, room, length-remap-line (c .before .before .line2 .given .0 .0))
+
 print-activation-requires : tie.Need-print-activation-requires
 unfolding record-spelling
 print-activation-requires c κs =
-    let room = rw (c .before .before .line2 .given .1) at (c .before .before .before .before .before .pre) in
-    omega (arith, room, length-activation-line (c .before .before .line2 .given .0 .0))
+    let room = rw (c .before .before .line3 .given .1) at (c .before .before .before .before .before .pre) in
+    omega (arith, room, length-activation-line (c .before .before .line3 .given .0 .0))
 
 print-event-requires : tie.Need-print-event-requires
 unfolding record-spelling
@@ -31,15 +37,19 @@ returns c = rw (c .before .before .before .before .before .line .given .1) (c .b
 
 returns-2 : tie.Need-returns-2
 unfolding record-spelling
-returns-2 c = rw (c .before .before .before .before .before .line2 .given .1) (c .before .before .print-activation .ensures)
+returns-2 c = rw (c .before .before .before .before .before .line2 .given .1) (c .before .before .print-remap .ensures)
 
 returns-3 : tie.Need-returns-3
 unfolding record-spelling
-returns-3 c = rw (c .before .before .before .before .enum-told .given .1) (c .before .before .print-event .ensures)
+returns-3 c = rw (c .before .before .before .before .before .line3 .given .1) (c .before .before .print-activation .ensures)
 
 returns-4 : tie.Need-returns-4
 unfolding record-spelling
-returns-4 c = rw (c .enum-told2 .given .1) (prints-nothing _ _ (omega (arith, c .before .before .before .pre)))
+returns-4 c = rw (c .before .before .before .before .enum-told .given .1) (c .before .before .print-event .ensures)
+
+returns-5 : tie.Need-returns-5
+unfolding record-spelling
+returns-5 c = rw (c .enum-told2 .given .1) (prints-nothing _ _ (omega (arith, c .before .before .before .pre)))
 
 pub print-record-spec : {M : Type 1} → statement M
 print-record-spec =
@@ -47,6 +57,8 @@ print-record-spec =
     (tie.spec
     (λ c. search needs)
     print-settings-requires
+    (λ c. search needs)
+    print-remap-requires
     (λ c. search needs)
     print-activation-requires
     (λ c. search needs)
@@ -58,4 +70,6 @@ print-record-spec =
     returns-2
     (λ c. search needs)
     returns-3
-    returns-4)
+    (λ c. search needs)
+    returns-4
+    returns-5)

@@ -23,7 +23,11 @@ returns-4 c = rw (c .before .before .before .answer .given .1, c .enum-told3 .gi
 
 returns-5 : tie.Need-returns-5
 unfolding stood said
-returns-5 c = rw (c .enum-told4 .given .1)
+returns-5 c = rw (c .before .before .before .answer .given .1, c .enum-told4 .given .1)
+
+returns-6 : tie.Need-returns-6
+unfolding stood said
+returns-6 c = rw (c .enum-told5 .given .1)
 
 pub standing-behind-spec : {M : Type 1} → statement M
 standing-behind-spec =
@@ -35,8 +39,10 @@ standing-behind-spec =
     (λ c. search needs)
     (λ c. search needs)
     (λ c. search needs)
+    (λ c. search needs)
     returns
     returns-2
     returns-3
     returns-4
-    returns-5)
+    returns-5
+    returns-6)

@@ -3,7 +3,7 @@ use borrow.Author.Needs.{needs}
 use mathlib.Core.Path.{sym}
 use Rattle.trace.specs.Reading.{said}
 use Rattle.trace.specs.Spelling.{record-spelling, answer-spelling}
-use Rattle.trace.proofs.Spelling.Lengths.{length-settings-line, length-activation-line, length-event-line}
+use Rattle.trace.proofs.Spelling.Lengths.{length-settings-line, length-remap-line, length-activation-line, length-event-line}
 use Rattle.spelling.proofs.width.Statement.{statement}
 use Rattle.spelling.proofs.width.Tie as tie
 
@@ -13,19 +13,23 @@ returns c = rw (c .before .before .before .answer .given .1, c .enum-told .given
 
 returns-2 : tie.Need-returns-2
 unfolding answer-spelling record-spelling said
-returns-2 c = rw (c .before .before .before .answer .given .1, c .enum-told2 .given .1) (sym (length-activation-line _))
+returns-2 c = rw (c .before .before .before .answer .given .1, c .enum-told2 .given .1) (sym (length-remap-line _))
 
 returns-3 : tie.Need-returns-3
 unfolding answer-spelling record-spelling said
-returns-3 c = rw (c .before .before .before .answer .given .1, c .enum-told3 .given .1) (sym length-event-line)
+returns-3 c = rw (c .before .before .before .answer .given .1, c .enum-told3 .given .1) (sym (length-activation-line _))
 
 returns-4 : tie.Need-returns-4
 unfolding answer-spelling record-spelling said
-returns-4 c = rw (c .before .before .before .answer .given .1, c .enum-told4 .given .1)
+returns-4 c = rw (c .before .before .before .answer .given .1, c .enum-told4 .given .1) (sym length-event-line)
 
 returns-5 : tie.Need-returns-5
+unfolding answer-spelling record-spelling said
+returns-5 c = rw (c .before .before .before .answer .given .1, c .enum-told5 .given .1)
+
+returns-6 : tie.Need-returns-6
 unfolding answer-spelling said
-returns-5 c = rw (c .enum-told5 .given .1)
+returns-6 c = rw (c .enum-told6 .given .1)
 
 pub width-spec : {M : Type 1} → statement M
 width-spec =
@@ -37,8 +41,10 @@ width-spec =
     (λ c. search needs)
     (λ c. search needs)
     (λ c. search needs)
+    (λ c. search needs)
     returns
     returns-2
     returns-3
     returns-4
-    returns-5)
+    returns-5
+    returns-6)

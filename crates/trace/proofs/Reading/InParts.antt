@@ -1,4 +1,4 @@
--- A text that comes in parts: a line that ended reads alike whatever follows, and one with 64 bytes and no end yet is refused whatever follows.
+-- A text that comes in parts: a line that ended reads alike whatever follows, and one of which as many bytes are there as are kept, and no end yet, is refused whatever follows.
 use mathlib.Core.Path.{_≡_, refl, sym, ap, _∙_}
 use mathlib.Core.Bool.{true, false, cond, Bool}
 use mathlib.Core.List.{List, _∷_, _++_, append-assoc}
@@ -13,6 +13,7 @@ use Rattle.trace.specs.declared.Record.{Record}
 use Rattle.trace.specs.Lines.{line, ended, extent}
 use Rattle.trace.specs.Reading.{or-refused, reading-by, reading}
 use Rattle.trace.specs.Records.{record-of}
+use Rattle.trace.specs.Texts.{most-kept}
 use Rattle.trace.proofs.Lines.{line-append-end, ended-append-end, extent-append-end, line-end-rest, ended-line, line-append, extent-append, ended-drop-le}
 use Rattle.trace.proofs.Records.{length-record-le}
 
@@ -35,20 +36,20 @@ pub reading-append-ended : (a b : List ℕ) (p : ℕ) → ended (drop p a) ≡ t
 unfolding reading
 reading-append-ended a b p h = rw (drop-append-le p a b (ended-drop-le a p h)) (reading-by-append record-of (drop p a) b p h)
 
-or-refused-wide : (ends : Bool) (bytes : List ℕ) → 43 < length bytes → or-refused (cond ends (record-of bytes) none) ≡ refused 11
+or-refused-wide : (ends : Bool) (bytes : List ℕ) → 97 < length bytes → or-refused (cond ends (record-of bytes) none) ≡ refused 11
 unfolding or-refused
 or-refused-wide false bytes h = refl
 or-refused-wide true bytes h =
     either (record-of bytes) (λ e. rw e) (λ r e. absurd (omega (arith, length-record-le bytes r e)))
 
--- a line without byte 10 in its first 64 bytes is refused whatever follows, and ends where the line that follows does
-pub reading-append-unended : (a b : List ℕ) (p : ℕ) → p + 64 ≤ length a → ended (drop p a) ≡ false
+-- a line without byte 10 in as many bytes as are kept is refused whatever follows, and ends where the line that follows does
+pub reading-append-unended : (a b : List ℕ) (p : ℕ) → p + most-kept ≤ length a → ended (drop p a) ≡ false
     → reading (a ++ b) p ≡ record { outcome = refused 11; place = length a + extent b }
 unfolding reading reading-by
 reading-append-unended a b p h e =
     let text = drop p a in
     let cut = drop-append-le p a b (omega arith) in
     let long = length-drop p a in
-    let wide : 43 < length (line (text ++ b)) = rw (line-append text b e, length-append) (omega (arith, long)) in
+    let wide : 97 < length (line (text ++ b)) = rw (line-append text b e, length-append) (omega (arith, long)) in
     let end : p + extent (text ++ b) ≡ length a + extent b = omega (arith, extent-append text b e, long) in
     rw (cut, or-refused-wide (ended (text ++ b)) (line (text ++ b)) wide, end)

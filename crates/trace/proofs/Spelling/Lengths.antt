@@ -9,21 +9,26 @@ use lib.Dec.{eqb}
 use lib.ListN.{length, drop, length-append}
 use Rattle.device.specs.declared.Settings.{Settings}
 use Rattle.laws.proofs.Cases.{split, clash, missing, either, cond-some}
+use Rattle.trace.specs.declared.Sixteen.{Sixteen}
 use Rattle.trace.specs.declared.Record.{Record}
-use Rattle.trace.specs.declared.Record.the-variants.{Set, Activate, Refresh, Blank}
-use Rattle.trace.specs.Bytes.{letter-A, letter-R, letter-S}
+use Rattle.trace.specs.declared.Record.the-variants.{Set, Remap, Activate, Refresh, Blank}
+use Rattle.trace.specs.Bytes.{letter-A, letter-F, letter-R, letter-S}
 use Rattle.trace.specs.Lines.{line, ended, extent}
 use Rattle.trace.specs.Numbers.{field, fields}
 use Rattle.trace.specs.Reading.{or-refused, reading, reading-by}
-use Rattle.trace.specs.Records.{as-settings, settings, activation, refresh, record-of}
+use Rattle.trace.specs.Records.{as-settings, as-sixteen, sixteen-of, settings, remap, activation, refresh, record-of}
 use Rattle.trace.specs.Output.{number-columns}
 use Rattle.trace.specs.Spelling.{settings-numbers, spelled-line, record-spelling, answer-spelling}
 use Rattle.trace.proofs.Output.{length-number-columns}
-use Rattle.trace.proofs.Records.{settings-form, activation-form}
+use Rattle.trace.proofs.Records.{settings-form, remap-form, activation-form}
 
 pub length-settings-line : (s : Settings) → length (spelled-line letter-S (settings-numbers s)) ≡ 44
 unfolding spelled-line settings-numbers
 length-settings-line s = rw length-append (omega (arith, length-number-columns (settings-numbers s)))
+
+pub length-remap-line : (t : Sixteen) → length (spelled-line letter-F (sixteen-of t)) ≡ 98
+unfolding spelled-line sixteen-of
+length-remap-line t = rw length-append (omega (arith, length-number-columns (sixteen-of t)))
 
 pub length-activation-line : (row : ℕ) → length (spelled-line letter-A (row ∷ [])) ≡ 8
 unfolding spelled-line
@@ -43,6 +48,13 @@ settings-no-longer bytes r e =
     let numbers = bind-eq-some-iff (fields 7 bytes) _ .0 (cond-some (eqb (length bytes) 42) _ r e) in
     let same : Set (as-settings (numbers .0)) ≡ r = cc in
     subst (No-longer bytes) same (omega (arith, settings-form .same-length bytes r e, length-settings-line (as-settings (numbers .0))))
+
+remap-no-longer : (bytes : List ℕ) (r : Record) → remap bytes ≡ some r → No-longer bytes r
+unfolding remap record-spelling
+remap-no-longer bytes r e =
+    let numbers = bind-eq-some-iff (fields 16 bytes) _ .0 (cond-some (eqb (length bytes) 96) _ r e) in
+    let same : Remap (as-sixteen (numbers .0)) ≡ r = cc in
+    subst (No-longer bytes) same (omega (arith, remap-form .same-length bytes r e, length-remap-line (as-sixteen (numbers .0))))
 
 activation-no-longer : (bytes : List ℕ) (r : Record) → activation bytes ≡ some r → No-longer bytes r
 unfolding activation record-spelling
@@ -72,7 +84,10 @@ record-no-longer (b ∷ bytes) r e =
     (λ a.
     split (eqb b letter-R)
     (λ f. refresh-no-longer bytes r (rw (s, a, f) at e))
-    (λ f. missing (rw (s, a, f) at e))))
+    (λ f.
+    split (eqb b letter-F)
+    (λ m. remap-no-longer bytes r (rw (s, a, f, m) at e))
+    (λ m. missing (rw (s, a, f, m) at e)))))
 
 extent-line : (text : List ℕ) → ended text ≡ true → extent text ≡ suc (length (line text))
 unfolding extent ended line

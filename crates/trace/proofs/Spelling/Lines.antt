@@ -10,18 +10,19 @@ use lib.ListN.{length, length-append}
 use lib.Seq.{drop-append-add}
 use Rattle.device.specs.declared.Settings.{Settings}
 use Rattle.device.specs.Refusal.{accepted}
+use Rattle.trace.specs.declared.Sixteen.{Sixteen}
 use Rattle.trace.specs.declared.Record.{Record}
-use Rattle.trace.specs.declared.Record.the-variants.{Set, Activate, Refresh}
-use Rattle.trace.specs.Bytes.{letter-A, letter-R, letter-S}
+use Rattle.trace.specs.declared.Record.the-variants.{Set, Remap, Activate, Refresh}
+use Rattle.trace.specs.Bytes.{letter-A, letter-F, letter-R, letter-S}
 use Rattle.trace.specs.Lines.{ended}
 use Rattle.trace.specs.Reading.{or-refused, reading, reading-by}
-use Rattle.trace.specs.Records.{as-settings, settings, activation, refresh, record-of}
+use Rattle.trace.specs.Records.{as-settings, as-sixteen, sixteen-of, settings, remap, activation, refresh, record-of}
 use Rattle.trace.specs.Output.{number-columns}
 use Rattle.trace.specs.Spelling.{settings-numbers, spelled-line, record-spelling}
 use Rattle.trace.specs.Texts.{read, outcomes}
 use Rattle.trace.proofs.Lines.{line-append-end, ended-append-end, extent-append-end}
 use Rattle.trace.proofs.Output.{length-number-columns}
-use Rattle.trace.proofs.Records.{settings-form, activation-form}
+use Rattle.trace.proofs.Records.{settings-form, remap-form, activation-form}
 use Rattle.trace.proofs.Spelling.Numbers.{Narrow, field-printed, fields-columns}
 use Rattle.trace.proofs.Texts.FirstLine.{outcomes-front}
 
@@ -44,6 +45,10 @@ settings-spelled : (s : Settings) → Narrow (settings-numbers s) → settings (
 unfolding settings as-settings settings-numbers bind
 settings-spelled s h = rw (eq-eqb _ _ (length-number-columns (settings-numbers s)), fields-columns h)
 
+remap-spelled : (t : Sixteen) → Narrow (sixteen-of t) → remap (number-columns (sixteen-of t)) ≡ some (Remap t)
+unfolding remap as-sixteen sixteen-of bind
+remap-spelled t h = rw (eq-eqb _ _ (length-number-columns (sixteen-of t)), fields-columns h)
+
 activation-spelled : (row : ℕ) → row < 1000000 → activation (number-columns (row ∷ [])) ≡ some (Activate row)
 unfolding activation bind number-columns
 activation-spelled row h = rw (eq-eqb _ _ (length-number-columns (row ∷ [])), field-printed row [] h)
@@ -53,6 +58,12 @@ unfolding record-spelling record-of ended
 outcomes-settings s rest h =
     let says = settings-spelled s h in
     outcomes-letter letter-S (settings-numbers s) rest (Set s) says (settings-form .unended (number-columns (settings-numbers s)) (Set s) says)
+
+pub outcomes-remap : (t : Sixteen) (rest : List ℕ) → Narrow (sixteen-of t) → outcomes (record-spelling (Remap t) ++ rest) ≡ accepted (Remap t) ∷ outcomes rest
+unfolding record-spelling record-of ended
+outcomes-remap t rest h =
+    let says = remap-spelled t h in
+    outcomes-letter letter-F (sixteen-of t) rest (Remap t) says (remap-form .unended (number-columns (sixteen-of t)) (Remap t) says)
 
 pub outcomes-activation : (row : ℕ) (rest : List ℕ) → row < 1000000 → outcomes (record-spelling (Activate row) ++ rest) ≡ accepted (Activate row) ∷ outcomes rest
 unfolding record-spelling record-of ended

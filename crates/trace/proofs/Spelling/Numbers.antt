@@ -6,7 +6,7 @@ use Prim.Native.Nat.{ℕ, zero, suc, _+_, _-_, _*_, _^_, _/_, _%_, _≤_, _<_}
 use native.Mathlib.Nat.{pow-suc}
 use native.Mathlib.Omega.{arith}
 use borrow.Author.Tests.{ne-eqb}
-use lib.ListN.{length}
+use lib.ListN.{length, getD}
 use lib.Seq.{take-at, drop-at}
 use Rattle.trace.specs.Numbers.{digits, number, field, fields, digit-or-blank, columns-before, printed}
 use Rattle.trace.specs.Output.{number-columns}
@@ -53,6 +53,10 @@ number-printed k n h =
 pub data Narrow : List ℕ → Type 0 where
   no-number : Narrow []
   one-more : {n : ℕ} {ns : List ℕ} → n < 1000000 → Narrow ns → Narrow (n ∷ ns)
+
+pub narrow-by : (ns : List ℕ) → ((i : ℕ) → i < length ns → getD ns i 0 < 1000000) → Narrow ns
+narrow-by [] h = no-number
+narrow-by (n ∷ ns) h = one-more (h 0 (omega arith)) (narrow-by ns (λ i l. h (suc i) (omega arith)))
 
 pub field-printed : (n : ℕ) (bytes : List ℕ) → n < 1000000 → field 0 (printed 6 n ++ bytes) ≡ some n
 unfolding field

@@ -11,16 +11,18 @@ use lib.ListN.{length, getD, take, drop, length-take}
 use Rattle.device.specs.declared.Settings.{Settings}
 use Rattle.device.specs.Refusal.{Outcome, accepted}
 use Rattle.laws.proofs.Cases.{split, clash, missing, and-both, cond-test, cond-some}
+use Rattle.trace.specs.declared.Sixteen.{Sixteen}
 use Rattle.trace.specs.declared.Record.{Record}
-use Rattle.trace.specs.declared.Record.the-variants.{Set, Activate, Refresh, Blank}
-use Rattle.trace.specs.Bytes.{letter-A, letter-R, letter-S}
+use Rattle.trace.specs.declared.Record.the-variants.{Set, Remap, Activate, Refresh, Blank}
+use Rattle.trace.specs.Bytes.{letter-A, letter-F, letter-R, letter-S}
 use Rattle.trace.specs.Lines.{line, ended}
 use Rattle.trace.specs.Numbers.{is-digit, digits, number, field, fields}
 use Rattle.trace.specs.Reading.{or-refused, reading, reading-by}
-use Rattle.trace.specs.Records.{as-settings, settings, activation, refresh, record-of}
+use Rattle.trace.specs.Records.{as-settings, as-sixteen, sixteen-of, settings, remap, activation, refresh, record-of}
 use Rattle.trace.specs.Spelling.{settings-numbers, unrefused}
 use Rattle.trace.specs.Texts.{lines, read, outcomes}
 use Rattle.trace.proofs.Numbers.Digits.{Room, room-zero, room-digit, room-lt}
+use Rattle.trace.proofs.Records.{places}
 use Rattle.trace.proofs.Spelling.Numbers.{Narrow, no-number, one-more}
 
 is-digit-le : (b : ℕ) → is-digit b ≡ true → b - 48 ≤ 9
@@ -65,20 +67,23 @@ narrow-at no-number i = omega arith
 narrow-at (one-more h narrow) zero = h
 narrow-at (one-more h narrow) (suc i) = narrow-at narrow i
 
+narrow-places : {ns : List ℕ} → Narrow ns → (k i : ℕ) → Narrow (places k i ns)
+unfolding places
+narrow-places h zero i = no-number
+narrow-places h (suc k) i = one-more (narrow-at h i) (narrow-places h k (suc i))
+
 narrow-settings : {ns : List ℕ} → Narrow ns → Narrow (settings-numbers (as-settings ns))
-unfolding settings-numbers as-settings
-narrow-settings h =
-    one-more (narrow-at h 0)
-    (one-more (narrow-at h 1)
-    (one-more (narrow-at h 2)
-    (one-more (narrow-at h 3)
-    (one-more (narrow-at h 4)
-    (one-more (narrow-at h 5)
-    (one-more (narrow-at h 6) no-number))))))
+unfolding settings-numbers as-settings places
+narrow-settings h = narrow-places h 7 0
+
+narrow-sixteen : {ns : List ℕ} → Narrow ns → Narrow (sixteen-of (as-sixteen ns))
+unfolding sixteen-of as-sixteen places
+narrow-sixteen h = narrow-places h 16 0
 
 -- an answer with a record whose numbers 6 columns hold
 pub data Readable : Outcome Record → Type 0 where
   of-settings : {s : Settings} → Narrow (settings-numbers s) → Readable (accepted (Set s))
+  of-remap : {t : Sixteen} → Narrow (sixteen-of t) → Readable (accepted (Remap t))
   of-activation : {row : ℕ} → row < 1000000 → Readable (accepted (Activate row))
   of-refresh : Readable (accepted Refresh)
   of-blank : Readable (accepted Blank)
@@ -93,6 +98,13 @@ settings-readable bytes r e =
     let numbers = bind-eq-some-iff (fields 7 bytes) _ .0 (cond-some (eqb (length bytes) 42) _ r e) in
     let same : Set (as-settings (numbers .0)) ≡ r = cc in
     subst (λ (r : Record). Readable (accepted r)) same (of-settings (narrow-settings (fields-narrow 7 bytes (numbers .0) (numbers .1))))
+
+remap-readable : (bytes : List ℕ) (r : Record) → remap bytes ≡ some r → Readable (accepted r)
+unfolding remap
+remap-readable bytes r e =
+    let numbers = bind-eq-some-iff (fields 16 bytes) _ .0 (cond-some (eqb (length bytes) 96) _ r e) in
+    let same : Remap (as-sixteen (numbers .0)) ≡ r = cc in
+    subst (λ (r : Record). Readable (accepted r)) same (of-remap (narrow-sixteen (fields-narrow 16 bytes (numbers .0) (numbers .1))))
 
 activation-readable : (bytes : List ℕ) (r : Record) → activation bytes ≡ some r → Readable (accepted r)
 unfolding activation
@@ -122,7 +134,10 @@ record-readable (b ∷ bytes) r e =
     (λ a.
     split (eqb b letter-R)
     (λ f. refresh-readable bytes r (rw (s, a, f) at e))
-    (λ f. missing (rw (s, a, f) at e))))
+    (λ f.
+    split (eqb b letter-F)
+    (λ m. remap-readable bytes r (rw (s, a, f, m) at e))
+    (λ m. missing (rw (s, a, f, m) at e)))))
 
 answer-readable : (o : Option Record) (os : List (Outcome Record)) → ((r : Record) → o ≡ some r → Readable (accepted r))
     → unrefused (or-refused o ∷ os) ≡ true → Readable (or-refused o) × (unrefused os ≡ true)

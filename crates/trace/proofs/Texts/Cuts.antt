@@ -1,4 +1,4 @@
--- A text cut in two: behind the end of a line, or within a line, of which 64 bytes are enough.
+-- A text cut in two: behind the end of a line, or within a line, of which the bytes that are kept are enough.
 use mathlib.Core.Path.{_≡_, refl, ap, sym, _∙_}
 use mathlib.Core.Bool.{true, false}
 use mathlib.Core.Logic.{⊎-elim}
@@ -12,7 +12,7 @@ use Rattle.device.specs.Refusal.{refused}
 use Rattle.laws.proofs.Cases.{split, le-or-lt, clash}
 use Rattle.trace.specs.Lines.{ended, extent}
 use Rattle.trace.specs.Reading.{Reading, reading, reading-by}
-use Rattle.trace.specs.Texts.{in-front, lines, whole, read, outcomes}
+use Rattle.trace.specs.Texts.{in-front, lines, whole, read, outcomes, most-kept}
 use Rattle.trace.proofs.Reading.InParts.{reading-append-unended}
 use Rattle.trace.proofs.Texts.FirstLine.{lines-front, outcomes-front}
 
@@ -30,8 +30,8 @@ pub outcomes-cut : (a b : List ℕ) → whole a ≡ true → outcomes (a ++ b) �
 unfolding outcomes
 outcomes-cut a b h = rw (lines-cut a b h, map-append)
 
--- a line that is to go on, 64 bytes long: refused, whatever it is and wherever it ends
-refused-on : (u b : List ℕ) → ended u ≡ false → 64 ≤ length u → outcomes (u ++ b) ≡ refused 11 ∷ outcomes (drop (extent b) b)
+-- a line that is to go on, as long as what is kept: refused, whatever it is and wherever it ends
+refused-on : (u b : List ℕ) → ended u ≡ false → most-kept ≤ length u → outcomes (u ++ b) ≡ refused 11 ∷ outcomes (drop (extent b) b)
 unfolding read reading reading-by
 refused-on u b e h =
     let says = reading-append-unended u b 0 (omega arith) e in
@@ -45,10 +45,10 @@ ended-less zero u h = refl
 ended-less (suc n) [] h = refl
 ended-less (suc n) (b ∷ u) h = split (eqb b 10) (λ e. clash (rw e at h)) (λ e. rw e (ended-less n u (rw e at h)))
 
-pub outcomes-kept : (u b : List ℕ) → ended u ≡ false → outcomes (u ++ b) ≡ outcomes (take 64 u ++ b)
+pub outcomes-kept : (u b : List ℕ) → ended u ≡ false → outcomes (u ++ b) ≡ outcomes (take most-kept u ++ b)
 outcomes-kept u b e =
     ⊎-elim
     (λ h.
-    refused-on u b e h ∙ sym (refused-on (take 64 u) b (ended-less 64 u e) (omega (arith, length-take-le 64 u h))))
-    (λ h. rw (take-all 64 u (omega arith)))
-    (le-or-lt 64 (length u))
+    refused-on u b e h ∙ sym (refused-on (take most-kept u) b (ended-less most-kept u e) (omega (arith, length-take-le most-kept u h))))
+    (λ h. rw (take-all most-kept u (omega arith)))
+    (le-or-lt most-kept (length u))

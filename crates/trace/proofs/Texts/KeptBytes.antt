@@ -1,4 +1,4 @@
--- The bytes from one place of a text to another, of which the first 64 are copied to its front.
+-- The bytes from one place of a text to another, of which the first are copied to its front.
 use mathlib.Core.Path.{_≡_, ap, sym, _∙_}
 use mathlib.Core.Logic.{⊎-elim}
 use mathlib.Core.List.{List, _++_}
@@ -8,7 +8,7 @@ use native.Mathlib.Omega.{arith}
 use lib.ListN.{length, getD, set, take, drop, length-take, length-drop, length-append, drop-of-length-le}
 use lib.Seq.{take-all, length-take-le, take-take, take-add, drop-at, set-at, take-suc, drop-cons, append-snoc, getD-append-add, getD-drop}
 use Rattle.laws.proofs.Cases.{le-or-lt}
-use Rattle.trace.specs.Texts.{kept-bytes}
+use Rattle.trace.specs.Texts.{most-kept, kept-bytes}
 
 take-within : (to : ℕ) (t : List ℕ) → take to t ≡ take (min to (length t)) t
 take-within to t =
@@ -34,8 +34,8 @@ take-both n m t =
     (λ h. let same : min m n ≡ m = omega arith in rw same (take-all n (take m t) (rw (length-take m t) (omega arith))))
     (le-or-lt n m)
 
-module _ (t : List ℕ) (from to : ℕ) {end begin kept : ℕ} (e : end ≡ min to (length t)) (b : begin ≡ min from end) (k : kept ≡ min (end - begin) 64) where
-  pub kept-few : (kept ≤ 64) × (begin + kept ≤ length t)
+module _ (t : List ℕ) (from to : ℕ) {end begin kept : ℕ} (e : end ≡ min to (length t)) (b : begin ≡ min from end) (k : kept ≡ min (end - begin) most-kept) where
+  pub kept-few : (kept ≤ most-kept) × (begin + kept ≤ length t)
   kept-few = (omega arith, omega arith)
 
   pub kept-is : take kept (drop begin t) ≡ kept-bytes from to t
@@ -46,7 +46,7 @@ module _ (t : List ℕ) (from to : ℕ) {end begin kept : ℕ} (e : end ≡ min 
       let sum : begin + (end - begin) ≡ end = omega arith in
       sym
       (rw (take-within to t, ← e, drop-within from (take end t), same)
-      (ap (λ (n : ℕ). take 64 (drop begin (take n t))) (sym sum) ∙ rw (drop-taken begin (end - begin) t (omega arith), take-both 64 (end - begin) (drop begin t), ← k)))
+      (ap (λ (n : ℕ). take most-kept (drop begin (take n t))) (sym sum) ∙ rw (drop-taken begin (end - begin) t (omega arith), take-both most-kept (end - begin) (drop begin t), ← k)))
 
 -- so many bytes of the text from a place on copied to its front
 abbrev pub Copied : List ℕ → ℕ → ℕ → List ℕ → Type 0

@@ -2,7 +2,7 @@
 use mathlib.Core.Path.{sym, _∙_}
 use native.Mathlib.Omega.{arith}
 use borrow.Author.Needs.{needs}
-use Rattle.trace.proofs.Reading.ByLetter.{reading-behind-end, reading-blank, reading-activation, reading-refresh, reading-settings, reading-other}
+use Rattle.trace.proofs.Reading.ByLetter.{reading-behind-end, reading-blank, reading-activation, reading-refresh, reading-settings, reading-remap, reading-other}
 use Rattle.trace.proofs.read_line.Statement.{statement}
 use Rattle.trace.proofs.read_line.Tie as tie
 
@@ -26,17 +26,23 @@ returns-4 c =
 
 returns-5 : tie.Need-returns-5
 returns-5 c =
-    let a = c .before .before .before .before .before .before .before .args in
-    reading-blank (a .text .now) (a .place) (omega arith) (c .if5 .taken)
+    let a = c .before .before .before .before .before .before .before .before .args in
+    c .read-remap .ensures ∙ sym (reading-remap (a .text .now) (a .place) (omega arith) (c .before .if5 .taken))
 
 returns-6 : tie.Need-returns-6
 returns-6 c =
     let a = c .before .before .before .before .before .before .before .before .args in
+    reading-blank (a .text .now) (a .place) (omega arith) (c .if6 .taken)
+
+returns-7 : tie.Need-returns-7
+returns-7 c =
+    let a = c .before .before .before .before .before .before .before .before .before .args in
     reading-other (a .text .now) (a .place) (omega arith)
-    (c .before .before .before .before .if2 .left)
-    (c .before .before .before .if3 .left)
-    (c .before .before .if4 .left)
-    (c .before .if5 .left)
+    (c .before .before .before .before .before .if2 .left)
+    (c .before .before .before .before .if3 .left)
+    (c .before .before .before .if4 .left)
+    (c .before .before .if5 .left)
+    (c .before .if6 .left)
     _
     (c .line-end .ensures)
 
@@ -53,6 +59,8 @@ read-line-spec =
     returns-3
     (λ c κs. search needs)
     returns-4
-    returns-5
     (λ c κs. search needs)
-    returns-6)
+    returns-5
+    returns-6
+    (λ c κs. search needs)
+    returns-7)

@@ -194,7 +194,7 @@ module _ {M : Type 1} (𝓤 : URA M) (H : Heap 𝓤) (A : Atoms 𝓤) (W : Given
         by-test (ltb k n) (λ test.
         let l : k < n = ltb-true k n test in
         let in-list : k < length ys = omega arith in
-        let far : k * 48 < 2 ^ 64 = omega (arith, space .1) in
+        let far : k * 80 < 2 ^ 64 = omega (arith, space .1) in
         let step-fits : k + 1 < 2 ^ 64 = omega (arith, n-fits) in
         let place-fits : place k < 2 ^ 64 = omega (arith, place-within ys os n few short k (omega arith), room .0) in
         let long : length (bytes k) ≡ length os = after-long ys os n few short k (omega arith) in
@@ -205,7 +205,7 @@ module _ {M : Type 1} (𝓤 : URA M) (H : Heap 𝓤) (A : Atoms 𝓤) (W : Given
         assigns ! (bin ! (load ! (from ! (stop !)) (look ! 1 refl)) (lit ! tt) (record { fits = far })) (from ! (stop !)) (init ! 14 refl (tt, record { fits = far })) $
         assigns ! (bin ! (load ! (from ! (fld ! refl (stop !))) (look-in ! 7 (sub ! 0 refl (whole !)))) (load ! (from ! (stop !)) (look ! 14 refl)) tt) (from ! (stop !))
         (init ! 15 refl (tt, tt)) $
-        rewrite ! 15 (λ (p : ℕ). ‵ (fat fullShare tyPtr l₁₀ 0 (vptr b p))) (sym (place-is 48 o k)) refl $
+        rewrite ! 15 (λ (p : ℕ). ‵ (fat fullShare tyPtr l₁₀ 0 (vptr b p))) (sym (place-is 80 o k)) refl $
         move ! (4 ∷ []) $ elem-out ! R (Is R) (shows 𝓤 H A R) vals (LL.tells T.the-type T′.the-laws) q″ ys k (Refused 0) b o in-list (λ is-answer.
         -- [answer k; what it owns; the others; _4; _5; the text; its token; what shuts the row; the list; _1; _2; _3; room for _0; _6; _7; _8; _9; _10; room for _11; …]
         assigns ! (of-opd ! (load ! (from ! (hop ! (look ! 17 refl) (stop !))) (look-raw ! 0 refl))) (from ! (stop !))

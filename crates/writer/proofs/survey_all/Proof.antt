@@ -185,12 +185,12 @@ module _ {M : Type 1} (𝓤 : URA M) (H : Heap 𝓤) (A : Atoms 𝓤) (W : Given
         assigns ! (bin ! (load ! (from ! (stop !)) (look ! 1 refl)) (load ! (from ! (stop !)) (look ! 8 refl)) tt) (from ! (stop !)) (init ! 9 refl (tt, tt)) $
         cases.split (ltb k n) (λ test.
         let l : k < n = ltb-true k n test in
-        let far : k * 48 < 2 ^ 64 = omega (arith, gn .1) in
+        let far : k * 80 < 2 ^ 64 = omega (arith, gn .1) in
         let next-fits : k + 1 < 2 ^ 64 = omega (arith, gn .0) in
         rewrite ! 9 (λ (y : Bool). ‵ (fat fullShare tyBool l₆ 0 (vbool y))) test refl $ stays ! (load ! (from ! (stop !)) (look ! 9 refl)) $
         assigns ! (bin ! (load ! (from ! (stop !)) (look ! 1 refl)) (lit ! tt) (record { fits = far })) (from ! (stop !)) (store ! 8 refl (tt, record { fits = far })) $
         assigns ! (bin ! (load ! (from ! (fld ! refl (stop !))) (look-in ! 5 (sub ! 0 refl (whole !)))) (load ! (from ! (stop !)) (look ! 8 refl)) tt) (from ! (stop !)) (init ! 10 refl (tt, tt)) $
-        rewrite ! 10 (λ (p : ℕ). ‵ (fat fullShare tyPtr l₇ 0 (vptr b p))) (sym (place-is 48 o k)) refl $
+        rewrite ! 10 (λ (p : ℕ). ‵ (fat fullShare tyPtr l₇ 0 (vptr b p))) (sym (place-is 80 o k)) refl $
         move ! (2 ∷ []) $ elem-out ! R (Is R) (shows 𝓤 H A R) vals (EL.tells T.the-type T′.the-laws) q′ ys k (Refused 0) b o l (λ is-elem.
         -- [answers[k]; what it owns; the others; _3; _4; what shuts; what answers owns; _1; _2; room for _0; _5; _6; _7; room for _8; …]
         assigns ! (of-opd ! (load ! (from ! (hop ! (look ! 12 refl) (stop !))) (look-raw ! 0 refl)))
