@@ -5,7 +5,7 @@ use Prim.Native.Nat.{ℕ}
 use lib.ListN.{length, take, drop}
 use lib.Seq.{take-at, length-take-le}
 use Rattle.listing.specs.Texts.{listing-to, listing, after}
-use Rattle.trace.specs.Texts.{outcomes, kept-bytes, joined}
+use Rattle.trace.specs.Texts.{outcomes, most-kept, kept-bytes, joined}
 use Rattle.listing.specs.Chunks.{part, chunk}
 use Rattle.listing.specs.Parts.{comes, lists, keeps, ends}
 use Rattle.listing.specs.Steps.{start}
@@ -24,7 +24,7 @@ parts-joined g _ parts _ (lists a text {out = out} h later) =
     ap (λ (o : List ℕ). listing g a ++ o) (parts-joined (after g a) text parts out later) ∙
     sym (listing-cut g a (text ++ joined parts) h) ∙ ap (listing g) (sym (append-assoc a text (joined parts)))
 parts-joined g _ parts out (keeps text e later) =
-    parts-joined g (take 64 text) parts out later ∙ sym (listing-kept g text (joined parts) e)
+    parts-joined g (take most-kept text) parts out later ∙ sym (listing-kept g text (joined parts) e)
 parts-joined g _ _ _ (ends text e) = ap (listing g) (sym (append-nil text))
 
 pub part-moves : Part-moves
@@ -53,7 +53,7 @@ chunk-moves m g text len buffer r h room =
       represents = d .took .represents;
       moves = λ parts out later.
           printed-taken (d .took) parts out
-          (keeps rest unended (rw (take-at (take 64 rest) (drop (length (take 64 rest)) text) (length (take 64 rest)) refl) at later));
+          (keeps rest unended (rw (take-at (take most-kept rest) (drop (length (take most-kept rest)) text) (length (take most-kept rest)) refl) at later));
     }
 
 pub listings-stay : Listings-stay

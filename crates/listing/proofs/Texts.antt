@@ -8,7 +8,7 @@ use Rattle.device.specs.Refusal.{Outcome}
 use Rattle.trace.specs.declared.Record.{Record}
 use Rattle.trace.specs.Lines.{ended}
 use Rattle.trace.specs.Reading.{reading}
-use Rattle.trace.specs.Texts.{whole, outcomes}
+use Rattle.trace.specs.Texts.{whole, outcomes, most-kept}
 use Rattle.trace.proofs.Texts.Cuts.{outcomes-cut, outcomes-kept}
 use Rattle.trace.proofs.Texts.NextLine.{outcomes-on}
 use Rattle.listing.specs.Steps.{Progress, step, next}
@@ -29,8 +29,8 @@ module _ (g : Progress) (a b : List ℕ) (h : whole a ≡ true) where
   unfolding listing-to after
   listing-cut = rw (outcomes-cut a b h) (listed-append g (outcomes a) (outcomes b))
 
--- of a line that has not ended, the first 64 bytes tell as much as the whole
-pub listing-kept : (g : Progress) (u b : List ℕ) → ended u ≡ false → listing g (u ++ b) ≡ listing g (take 64 u ++ b)
+-- of a line that has not ended, the kept bytes tell as much as the whole
+pub listing-kept : (g : Progress) (u b : List ℕ) → ended u ≡ false → listing g (u ++ b) ≡ listing g (take most-kept u ++ b)
 unfolding listing-to
 listing-kept g u b e = rw (outcomes-kept u b e)
 

@@ -13,7 +13,7 @@ use Rattle.trace.specs.Lines.{ended}
 use Rattle.listing.specs.declared.Part.{Part}
 use Rattle.listing.specs.declared.Chunk.{Chunk}
 use Rattle.trace.specs.Output.{line-modulus, refusal-line}
-use Rattle.listing.specs.Steps.{Step, line-step}
+use Rattle.listing.specs.Steps.{Step, line-step, loaded-behind}
 use Rattle.trace.specs.Texts.{lines, read, kept-bytes}
 use Rattle.listing.specs.Memory.{Memory, memory-of, tracker-of, stored}
 
@@ -23,10 +23,10 @@ next-number lines = lines % line-modulus + 1
 
 -- what the next line does, as it was read, and what it leaves
 unfoldable pub step-in : Memory → Outcome Record → Step
-step-in m o = line-step (next-number (m .place .lines)) (tracker-of m) o
+step-in m o = line-step (next-number (m .place .lines)) (m .place .loaded) (tracker-of m) o
 
 unfoldable pub next-in : Memory → Outcome Record → Memory
-next-in m o = stored (step-in m o .tracker) (next-number (m .place .lines)) m
+next-in m o = stored (step-in m o .tracker) (loaded-behind (m .place .loaded) o) (next-number (m .place .lines)) m
 
 -- the room before a line: the longest that is printed has 110 bytes
 abbrev pub line-room : ℕ
@@ -71,7 +71,7 @@ pub record Chunked : Type 0 where
   pub text : List ℕ
   pub kept : ℕ
 
--- the lines of the first bytes of a text are listed, and of the line that has not ended 64 bytes are kept
+-- the lines of the first bytes of a text are listed, and of the line that has not ended 128 bytes are kept
 unfoldable pub chunk : Memory → List ℕ → ℕ → List ℕ → Chunked
 chunk m text len buffer =
     let q = part m (take len text) buffer in

@@ -16,7 +16,7 @@ pub data Printed : Progress → List ℕ → List (List ℕ) → List ℕ → Ty
   comes : {g : Progress} {text : List ℕ} (part : List ℕ) {parts : List (List ℕ)} {out : List ℕ} → Printed g (text ++ part) parts out → Printed g text (part ∷ parts) out
   -- whole lines at the front are listed
   lists : {g : Progress} (a text : List ℕ) {parts : List (List ℕ)} {out : List ℕ} → whole a ≡ true → Printed (after g a) text parts out → Printed g (a ++ text) parts (listing g a ++ out)
-  -- of a line that has not ended, the first 64 bytes are kept
+  -- of a line that has not ended, the first 128 bytes are kept
   keeps : {g : Progress} (text : List ℕ) {parts : List (List ℕ)} {out : List ℕ} → ended text ≡ false → Printed g (take most-kept text) parts out → Printed g text parts out
   -- at the end of the input a line that has not ended, if any byte is left, is listed as it is
   ends : {g : Progress} (text : List ℕ) → ended text ≡ false → Printed g text [] (listing g text)

@@ -16,11 +16,14 @@ ghost use Rattle.listing.specs.Chunks.{next-number, line-room, part, par
 // Room for the longest line that is printed, which has 110 bytes.
 const ROOM: usize = 200;
 
-// Where a listing is: whether a tracker stands, its settings and position, and the lines so far, which count modulo 10,000,000,000.
+// Where a listing is: whether a tracker stands, its settings, remap and position, the remap that is loaded for the next, and the lines so far, which
+// count modulo 10,000,000,000.
 pub struct Place {
     pub active: bool,
     pub settings: Settings,
+    pub remap: [u32; 16],
     pub position: Position,
+    pub loaded: [u32; 16],
     pub lines: u64,
 }
 
@@ -50,7 +53,7 @@ pub struct Chunk {
     pub kept: usize,
 }
 
-// Where a listing begins: no tracker stands.
+// Where a listing begins: no tracker stands, and our own remap is loaded.
 pub fn start() -> Place
     ensures { λ r. ⌜ r ≡ start-place ⌝ }
 {
@@ -65,12 +68,14 @@ pub fn start() -> Place
             window: 0,
             block: 0,
         },
+        remap: device::OWN_REMAP,
         position: Position {
             events: 0,
             activations: 0,
             tracked: 0,
             spillover: 0,
         },
+        loaded: device::OWN_REMAP,
         lines: 0,
     }
 }
@@ -124,7 +129,7 @@ pub fn list_end(p: Place, text: &[u8], out: &mut [u8]) -> usize
     trace::print_refusal(out, 0, p.lines % LINES + 1, 11)
 }
 
-// What lies between two reads: of the first bytes of the text, the lines that have ended are listed, and the first 64 bytes of what is left go to
+// What lies between two reads: of the first bytes of the text, the lines that have ended are listed, and the first 128 bytes of what is left go to
 // the text's front.
 pub fn list_chunk(
     p: Place,

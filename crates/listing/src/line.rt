@@ -10,7 +10,9 @@ use tracker::SetUp;
 ghost use mathlib.Core.Path.{_≡_};
 ghost use Prim.Native.Nat.{_+_, _≤_};
 ghost use lib.ListN.{length};
+ghost use mathlib.Core.Bool.{true};
 ghost use Rattle.device.specs.Acceptance.{most-counters};
+ghost use Rattle.device.specs.Remap.{remap-allowed};
 ghost use Rattle.bound.specs.Answers.{outcome, Small};
 ghost use Rattle.trace.specs.declared.Record.the-variants.{Set};
 ghost use Rattle.tracker.specs.Calls.{activation-on};
@@ -19,11 +21,12 @@ ghost use Rattle.limit.specs.Reachable.{Reached};
 ghost use Rattle.listing.specs.Steps.{record-step, activation-step};
 ghost use Rattle.listing.specs.Memory.{memory-of, tracker-of};
 ghost use Rattle.trace.specs.Output.{Prints-into};
-ghost use Rattle.listing.specs.Contracts.{settings-line, front, event-step, Lists-whole, Lists-front, Keeps-behind, Sets-up-front, Lists-line};
+ghost use Rattle.listing.specs.Contracts.{settings-line, front, Lists-whole, Lists-front, Lists-event-whole, Lists-event-front, Keeps-behind, Sets-up-front, Lists-line};
 
 // An activation line, on tables of C places.
 fn list_activation(
     s: Settings,
+    remap: [u32; 16],
     rows: &mut [u32],
     counts: &mut [u32],
     p: Position,
@@ -32,8 +35,8 @@ fn list_activation(
     out: &mut [u8],
     at: usize,
 ) -> Moved
-    requires { ⌜ Reached s (lent rows counts p) × (at + 200 ≤ length (now out)) ⌝ }
-    ensures { λ r. ⌜ Lists-whole (activation-step line s (activation-on s (lent (rows .entry) (counts .entry) p) row)) s rows counts out at r ⌝ }
+    requires { ⌜ Reached s (lent rows counts p) × (at + 200 ≤ length (now out)) × (remap-allowed remap ≡ true) ⌝ }
+    ensures { λ r. ⌜ Lists-whole (activation-step line s remap (activation-on s remap (lent (rows .entry) (counts .entry) p) row)) s remap rows counts out at r ⌝ }
 {
     if s.rows <= row {
         let end = trace::print_refusal(out, at, line, 9);
@@ -43,7 +46,7 @@ fn list_activation(
         let end = trace::print_refusal(out, at, line, 22);
         return Moved { position: p, end };
     }
-    let position = tracker::activate_accepted(s, rows, counts, p, row);
+    let position = tracker::activate_accepted(s, remap, rows, counts, p, row);
     Moved { position, end: at }
 }
 
@@ -58,7 +61,7 @@ fn list_event(
     at: usize,
 ) -> Moved
     requires { ⌜ Reached s (lent rows counts p) × (at + 200 ≤ length (now out)) ⌝ }
-    ensures { λ r. ⌜ Lists-whole (event-step line s (p .events) (lent (rows .entry) (counts .entry) p)) s rows counts out at r ⌝ }
+    ensures { λ r. ⌜ Lists-event-whole line s p rows counts out at r ⌝ }
 {
     let mut list = [0; 16];
     let after = tracker::refresh_accepted(s, rows, counts, p, &mut list);
@@ -70,6 +73,7 @@ fn list_event(
 // An activation line, on the first C places.
 pub fn front_activation(
     s: Settings,
+    remap: [u32; 16],
     rows: &mut [u32],
     counts: &mut [u32],
     p: Position,
@@ -78,12 +82,22 @@ pub fn front_activation(
     out: &mut [u8],
     at: usize,
 ) -> Moved
-    requires { ⌜ Reached s (front s rows counts p) × (at + 200 ≤ length (now out)) × (s .counters ≤ length (now rows)) × (s .counters ≤ length (now counts)) ⌝ }
-    ensures { λ r. ⌜ Lists-front (activation-step line s (activation-on s (front s (rows .entry) (counts .entry) p) row)) s rows counts out at r ⌝ }
+    requires { ⌜ Reached s (front s rows counts p) × (at + 200 ≤ length (now out)) × (s .counters ≤ length (now rows)) × (s .counters ≤ length (now counts)) × (remap-allowed remap ≡ true) ⌝ }
+    ensures { λ r. ⌜ Lists-front (activation-step line s remap (activation-on s remap (front s (rows .entry) (counts .entry) p) row)) s remap rows counts out at r ⌝ }
     ensures { λ r. ⌜ Keeps-behind s rows counts ⌝ }
 {
     let c = s.counters as usize;
-    list_activation(s, &mut rows[0..c], &mut counts[0..c], p, row, line, out, at)
+    list_activation(
+        s,
+        remap,
+        &mut rows[0..c],
+        &mut counts[0..c],
+        p,
+        row,
+        line,
+        out,
+        at,
+    )
 }
 
 // An event line, on the first C places.
@@ -97,7 +111,7 @@ pub fn front_event(
     at: usize,
 ) -> Moved
     requires { ⌜ Reached s (front s rows counts p) × (at + 200 ≤ length (now out)) × (s .counters ≤ length (now rows)) × (s .counters ≤ length (now counts)) ⌝ }
-    ensures { λ r. ⌜ Lists-front (event-step line s (p .events) (front s (rows .entry) (counts .entry) p)) s rows counts out at r ⌝ }
+    ensures { λ r. ⌜ Lists-event-front line s p rows counts out at r ⌝ }
     ensures { λ r. ⌜ Keeps-behind s rows counts ⌝ }
 {
     let c = s.counters as usize;
@@ -105,13 +119,13 @@ pub fn front_event(
 }
 
 // Sets up on the first C places.
-fn front_set_up(s: Settings, rows: &mut [u32], counts: &mut [u32]) -> SetUp
+fn front_set_up(s: Settings, remap: [u32; 16], rows: &mut [u32], counts: &mut [u32]) -> SetUp
     requires { ⌜ (s .counters ≤ length (now rows)) × (s .counters ≤ length (now counts)) ⌝ }
-    ensures { λ r. ⌜ Sets-up-front s rows counts r ⌝ }
+    ensures { λ r. ⌜ Sets-up-front s remap rows counts r ⌝ }
     ensures { λ r. ⌜ Keeps-behind s rows counts ⌝ }
 {
     let c = s.counters as usize;
-    tracker::set_up(s, &mut rows[0..c], &mut counts[0..c])
+    tracker::set_up(s, remap, &mut rows[0..c], &mut counts[0..c])
 }
 
 // The line of settings, by the bound's answer; the place behind it.
@@ -125,7 +139,8 @@ fn print_settings(out: &mut [u8], at: usize, line: u64, answer: Answer) -> usize
     }
 }
 
-// A settings line. Refused, it leaves no tracker standing, and settings, position and tables as they were.
+// A settings line: it sets up with the remap that is loaded. Refused, it leaves no tracker standing, and settings, their remap, position and tables as
+// they were.
 pub fn list_settings(
     p: Place,
     s: Settings,
@@ -135,24 +150,28 @@ pub fn list_settings(
     out: &mut [u8],
     at: usize,
 ) -> Listed
-    requires { ⌜ (at + 200 ≤ length (now out)) × (length (now rows) ≡ most-counters) × (length (now counts) ≡ most-counters) ⌝ }
-    ensures { λ r. ⌜ Lists-line (record-step line (tracker-of (memory-of p (rows .entry) (counts .entry))) (Set s)) line p rows counts out at r ⌝ }
+    requires { ⌜ (at + 200 ≤ length (now out)) × (length (now rows) ≡ most-counters) × (length (now counts) ≡ most-counters) × (remap-allowed (p .loaded) ≡ true) ⌝ }
+    ensures { λ r. ⌜ Lists-line (record-step line (p .loaded) (tracker-of (memory-of p (rows .entry) (counts .entry))) (Set s)) (p .loaded) line p rows counts out at r ⌝ }
 {
     let end = print_settings(out, at, line, bound::bound(s));
+    let loaded = p.loaded;
     if device::settings_refusal(s) != 0 {
         let settings = p.settings;
+        let remap = p.remap;
         let position = p.position;
         return Listed {
             place: Place {
                 active: false,
                 settings,
+                remap,
                 position,
+                loaded,
                 lines: line,
             },
             end,
         };
     }
-    front_set_up(s, rows, counts);
+    front_set_up(s, loaded, rows, counts);
     let position = Position {
         events: 0,
         activations: 0,
@@ -163,7 +182,9 @@ pub fn list_settings(
         place: Place {
             active: true,
             settings: s,
+            remap: loaded,
             position,
+            loaded,
             lines: line,
         },
         end,

@@ -11,22 +11,49 @@ ghost use mathlib.Core.Path.{_≡_};
 ghost use Prim.Native.Nat.{_+_, _≤_};
 ghost use lib.ListN.{length};
 ghost use Rattle.trace.specs.declared.Record.the-variants.{Activate, Refresh};
+ghost use mathlib.Core.Option.{none};
+ghost use Rattle.device.specs.Refusal.{accepted};
 ghost use Rattle.trace.specs.Reading.{said};
-ghost use Rattle.listing.specs.Steps.{record-step};
+ghost use Rattle.trace.specs.Output.{Prints-into};
+ghost use Rattle.listing.specs.Steps.{remap-step, record-step, loaded-by, loaded-behind};
 ghost use Rattle.listing.specs.Memory.{memory-of, tracker-of, Ready};
 ghost use Rattle.listing.specs.Contracts.{Lists-line};
 ghost use Rattle.listing.specs.Chunks.{next-number, step-in};
 
-// A place with the tracker's position as given, and so many lines.
-fn at_line(p: Place, position: Position, lines: u64) -> Place
-    ensures { λ r. ⌜ r ≡ record { active = p .active; settings = p .settings; position = position; lines = lines } ⌝ }
+// A place with the tracker's position and the loaded remap as given, and so many lines.
+fn at_line(p: Place, position: Position, loaded: [u32; 16], lines: u64) -> Place
+    ensures { λ r. ⌜ r ≡ record { active = p .active; settings = p .settings; remap = p .remap; position = position; loaded = loaded; lines = lines } ⌝ }
 {
     let settings = p.settings;
+    let remap = p.remap;
     Place {
         active: p.active,
         settings,
+        remap,
         position,
+        loaded,
         lines,
+    }
+}
+
+// The line of a remap: accepted, it is loaded for the next settings; refused, the one before it stays.
+fn remap_line(p: Place, remap: [u32; 16], line: u64, out: &mut [u8], at: usize) -> Listed
+    requires { ⌜ at + 200 ≤ length (now out) ⌝ }
+    ensures { λ r. ⌜ r .place ≡ record { active = p .active; settings = p .settings; remap = p .remap; position = p .position; loaded = loaded-by (p .loaded) remap; lines = line } ⌝ }
+    ensures { λ r. ⌜ Prints-into out at (remap-step line remap none .prints) (r .end) ⌝ }
+{
+    let position = p.position;
+    if device::remap_allowed(remap) {
+        return Listed {
+            place: at_line(p, position, remap, line),
+            end: at,
+        };
+    }
+    let loaded = p.loaded;
+    let end = trace::print_refusal(out, at, line, 14);
+    Listed {
+        place: at_line(p, position, loaded, line),
+        end,
     }
 }
 
@@ -41,21 +68,23 @@ fn activation_line(
     at: usize,
 ) -> Listed
     requires { ⌜ Ready (memory-of p rows counts) × (at + 200 ≤ length (now out)) ⌝ }
-    ensures { λ r. ⌜ Lists-line (record-step line (tracker-of (memory-of p (rows .entry) (counts .entry))) (Activate row)) line p rows counts out at r ⌝ }
+    ensures { λ r. ⌜ Lists-line (record-step line (p .loaded) (tracker-of (memory-of p (rows .entry) (counts .entry))) (Activate row)) (p .loaded) line p rows counts out at r ⌝ }
 {
     let position = p.position;
+    let loaded = p.loaded;
     if p.active {
         let s = p.settings;
-        let moved = line::front_activation(s, rows, counts, position, row, line, out, at);
+        let remap = p.remap;
+        let moved = line::front_activation(s, remap, rows, counts, position, row, line, out, at);
         let after = moved.position;
         return Listed {
-            place: at_line(p, after, line),
+            place: at_line(p, after, loaded, line),
             end: moved.end,
         };
     }
     let end = trace::print_refusal(out, at, line, 11);
     Listed {
-        place: at_line(p, position, line),
+        place: at_line(p, position, loaded, line),
         end,
     }
 }
@@ -70,21 +99,22 @@ fn event_line(
     at: usize,
 ) -> Listed
     requires { ⌜ Ready (memory-of p rows counts) × (at + 200 ≤ length (now out)) ⌝ }
-    ensures { λ r. ⌜ Lists-line (record-step line (tracker-of (memory-of p (rows .entry) (counts .entry))) Refresh) line p rows counts out at r ⌝ }
+    ensures { λ r. ⌜ Lists-line (record-step line (p .loaded) (tracker-of (memory-of p (rows .entry) (counts .entry))) Refresh) (p .loaded) line p rows counts out at r ⌝ }
 {
     let position = p.position;
+    let loaded = p.loaded;
     if p.active {
         let s = p.settings;
         let moved = line::front_event(s, rows, counts, position, line, out, at);
         let after = moved.position;
         return Listed {
-            place: at_line(p, after, line),
+            place: at_line(p, after, loaded, line),
             end: moved.end,
         };
     }
     let end = trace::print_refusal(out, at, line, 11);
     Listed {
-        place: at_line(p, position, line),
+        place: at_line(p, position, loaded, line),
         end,
     }
 }
@@ -100,15 +130,17 @@ fn list_record(
     at: usize,
 ) -> Listed
     requires { ⌜ Ready (memory-of p rows counts) × (at + 200 ≤ length (now out)) ⌝ }
-    ensures { λ r. ⌜ Lists-line (record-step line (tracker-of (memory-of p (rows .entry) (counts .entry))) what) line p rows counts out at r ⌝ }
+    ensures { λ r. ⌜ Lists-line (record-step line (p .loaded) (tracker-of (memory-of p (rows .entry) (counts .entry))) what) (loaded-behind (p .loaded) (accepted what)) line p rows counts out at r ⌝ }
 {
     let came = p.position;
+    let loaded = p.loaded;
     match what {
         Record::Set(s) => line::list_settings(p, s, rows, counts, line, out, at),
+        Record::Remap(t) => remap_line(p, trace::sixteen_of(t), line, out, at),
         Record::Activate(row) => activation_line(p, rows, counts, row, line, out, at),
         Record::Refresh => event_line(p, rows, counts, line, out, at),
         Record::Blank => Listed {
-            place: at_line(p, came, line),
+            place: at_line(p, came, loaded, line),
             end: at,
         },
     }
@@ -124,14 +156,15 @@ pub fn list_line(
     at: usize,
 ) -> Listed
     requires { ⌜ Ready (memory-of p rows counts) × (at + 200 ≤ length (now out)) ⌝ }
-    ensures { λ r. ⌜ Lists-line (step-in (memory-of p (rows .entry) (counts .entry)) (said answer .outcome)) (next-number (p .lines)) p rows counts out at r ⌝ }
+    ensures { λ r. ⌜ Lists-line (step-in (memory-of p (rows .entry) (counts .entry)) (said answer .outcome)) (loaded-behind (p .loaded) (said answer .outcome)) (next-number (p .lines)) p rows counts out at r ⌝ }
 {
     let line = p.lines % LINES + 1;
     let Read::Line(what, _) = answer else {
         let position = p.position;
+        let loaded = p.loaded;
         let end = trace::print_refusal(out, at, line, 11);
         return Listed {
-            place: at_line(p, position, line),
+            place: at_line(p, position, loaded, line),
             end,
         };
     };

@@ -89,14 +89,14 @@ taken-gone {g} {text} {buffer} {q} t less h =
     let running = t .represents .ready .running in
     let ends = sym (ended-first (drop at text)) ∙ ok .0 in
     let number : ℕ = next-number (q .memory .place .lines) in
-    let fits = length-step-le number (tracker-of (q .memory)) o running in
+    let fits = length-step-le number (q .memory .place .loaded) (tracker-of (q .memory)) o running in
     let on : Prints (q .buffer) (q .end) (step-in (q .memory) o .prints) (written (q .buffer) (q .end) (step-in (q .memory) o .prints)) (q .end + length (step-in (q .memory) o .prints)) = record { fits = omega (arith, fits, ok .1); holds = refl; behind = refl } in
     record {
       within = rw (first-end text at) (place-within text at less .1);
       ends = rw (first-end text at) (whole-on text at less (t .ends) ends);
       represents = rw (first-end text at, after-on text at less (t .ends) g, ← first-says text at) (represents-next (t .represents) o);
       prints = rw (first-end text at, listing-on text at less (t .ends) g, ← first-says text at, ← same) (prints-then (t .prints) on);
-      spent = omega (arith, t .spent, length-step-line number (tracker-of (q .memory)) line (ok .0) running);
+      spent = omega (arith, t .spent, length-step-line number (q .memory .place .loaded) (tracker-of (q .memory)) line (ok .0) running);
     }
 
 none-ended : (text : List ℕ) → length text ≡ 0 → ended text ≡ false

@@ -12,6 +12,7 @@ use Rattle.trace.specs.Lines.{ended, extent}
 use Rattle.trace.specs.Reading.{reading}
 use Rattle.listing.specs.declared.Place.{Place}
 use Rattle.trace.specs.Texts.{lines}
+use Rattle.listing.specs.Steps.{loaded-behind}
 use Rattle.listing.specs.Memory.{Memory, memory, Ready}
 use Rattle.listing.specs.Contracts.{Leaves}
 use Rattle.listing.specs.Chunks.{next-number, step-in, next-in, Going, gone, takes, going}
@@ -50,12 +51,12 @@ module _ {text : List ℕ} {q₀ q : Going} (t : Turning text q₀ q) where
         t .same ∙
         rw (lines-first (drop (q .taken) text) left, ended-first (drop (q .taken) text), e, le-leb (q .end + 200) (length (q .buffer)) room)
 
-    gone-as : {m′ : Memory} {buffer′ : List ℕ} {end′ : ℕ} → Leaves (step-in (q .memory) (reading text (q .taken) .outcome)) (next-number (q .memory .place .lines)) (q .memory) m′ (q .buffer) (q .end) buffer′ end′ → gone q (first (drop (q .taken) text)) ≡ record { memory = m′; taken = reading text (q .taken) .place; buffer = buffer′; end = end′ }
+    gone-as : {m′ : Memory} {buffer′ : List ℕ} {end′ : ℕ} → Leaves (step-in (q .memory) (reading text (q .taken) .outcome)) (loaded-behind (q .memory .place .loaded) (reading text (q .taken) .outcome)) (next-number (q .memory .place .lines)) (q .memory) m′ (q .buffer) (q .end) buffer′ end′ → gone q (first (drop (q .taken) text)) ≡ record { memory = m′; taken = reading text (q .taken) .place; buffer = buffer′; end = end′ }
     unfolding gone next-in
     gone-as l =
         rw (first-says text (q .taken), first-end text (q .taken), ← l .left, ← l .printed .holds, ← l .printed .behind)
 
-    pub turning-step : {m′ : Memory} {buffer′ : List ℕ} {end′ : ℕ} → ended (drop (q .taken) text) ≡ true → q .end + 200 ≤ length (q .buffer) → Leaves (step-in (q .memory) (reading text (q .taken) .outcome)) (next-number (q .memory .place .lines)) (q .memory) m′ (q .buffer) (q .end) buffer′ end′ → Turning text q₀ (record { memory = m′; taken = reading text (q .taken) .place; buffer = buffer′; end = end′ })
+    pub turning-step : {m′ : Memory} {buffer′ : List ℕ} {end′ : ℕ} → ended (drop (q .taken) text) ≡ true → q .end + 200 ≤ length (q .buffer) → Leaves (step-in (q .memory) (reading text (q .taken) .outcome)) (loaded-behind (q .memory .place .loaded) (reading text (q .taken) .outcome)) (next-number (q .memory .place .lines)) (q .memory) m′ (q .buffer) (q .end) buffer′ end′ → Turning text q₀ (record { memory = m′; taken = reading text (q .taken) .place; buffer = buffer′; end = end′ })
     unfolding next-in
     turning-step {m′} {buffer′} {end′} e room l =
         let behind = behind-first text (q .taken) (first (drop (q .taken) text)) refl ∙ ap (λ (n : ℕ). drop n text) (first-end text (q .taken)) in

@@ -1,72 +1,89 @@
 -- One line further: a tracker that stands stays one that calls reach, and a place keeps holding where the listing is.
 use mathlib.Core.Path.{_≡_, refl, sym, _∙_, ap}
+use mathlib.Core.Bool.{true}
 use mathlib.Core.List.{List}
 use mathlib.Core.Option.{Option, none, some}
 use Prim.Native.Nat.{ℕ, suc, _+_, _%_}
 use lib.ListN.{length, replicate}
 use Rattle.device.specs.Acceptance.{most-counters}
+use Rattle.device.specs.Remap.{remap-allowed}
+use Rattle.device.proofs.Remap.{own-allowed}
+use Rattle.laws.proofs.Cases.{split}
 use Rattle.device.specs.declared.Settings.{Settings}
 use Rattle.device.specs.Refusal.{Outcome, accepted, refused}
 use Rattle.tracker.specs.declared.Position.{Position}
 use Rattle.tracker.specs.Calls.{set-up}
 use Rattle.limit.proofs.Reachable.{reached-set-up, reached-activation, reached-refresh}
 use Rattle.trace.specs.declared.Record.{Record}
-use Rattle.trace.specs.declared.Record.the-variants.{Set, Activate, Refresh, Blank}
-use Rattle.listing.specs.Steps.{Tracker, Progress, start, Step, refused-step, set-up-step, activation-step, refresh-step, record-step-to, line-step-to, line-step, step-to, step, next-to, next}
+use Rattle.trace.specs.declared.Record.the-variants.{Set, Remap, Activate, Refresh, Blank}
+use Rattle.trace.specs.Records.{sixteen-of}
+use Rattle.listing.specs.Steps.{Tracker, Progress, start, Step, refused-step, set-up-step, remap-step, activation-step, refresh-step, record-step-to, line-step-to, line-step, loaded-by, loaded-behind, step-to, step, next-to, next}
 use Rattle.listing.specs.Memory.{Memory, memory, start-place, tracker-of, stored, Running, Ready, Represents}
 use Rattle.listing.specs.Chunks.{next-number, step-in, next-in}
 use Rattle.trace.proofs.Output.{counted-on}
 use Rattle.listing.proofs.Steps.LineNumbers.{line-alike}
 use Rattle.listing.proofs.Memory.Tracker.{tracker-stored, ready-stored}
 
-set-up-runs : (number : ℕ) (s : Settings) (rows counts : List ℕ) (o : Outcome Position) → set-up s rows counts .answer ≡ o → Running (set-up-step number s (set-up s rows counts) o .tracker)
+set-up-runs : (number : ℕ) (s : Settings) (remap rows counts : List ℕ) (o : Outcome Position) → remap-allowed remap ≡ true → set-up s remap rows counts .answer ≡ o → Running (set-up-step number s remap (set-up s remap rows counts) o .tracker)
 unfolding set-up-step refused-step Running
-set-up-runs number s rows counts (accepted p) e =
-    reached-set-up (record { rows = rows; counts = counts; accepts = e; rows-left = refl; counts-left = refl })
-set-up-runs number s rows counts (refused k) e = tt
+set-up-runs number s remap rows counts (accepted p) ok e =
+    (reached-set-up (record { remap = remap; rows = rows; counts = counts; accepts = e; rows-left = refl; counts-left = refl }), ok)
+set-up-runs number s remap rows counts (refused k) ok e = tt
 
-stored-lines : (t : Option Tracker) (lines : ℕ) (m : Memory) → stored t lines m .place .lines ≡ lines
+stored-lines : (t : Option Tracker) (loaded : List ℕ) (lines : ℕ) (m : Memory) → (stored t loaded lines m .place .lines ≡ lines) × (stored t loaded lines m .place .loaded ≡ loaded)
 unfolding stored
-stored-lines none lines m = refl
-stored-lines (some t) lines m = refl
+stored-lines none loaded lines m = (refl, refl)
+stored-lines (some t) loaded lines m = (refl, refl)
 
-running-step : (number : ℕ) (t : Option Tracker) (o : Outcome Record) → Running t → Running (line-step number t o .tracker)
-unfolding Running line-step-to record-step-to refused-step activation-step refresh-step
-running-step number t (refused k) r = r
-running-step number t (accepted (Set s)) r = set-up-runs number s (replicate (s .counters) 0) (replicate (s .counters) 0) _ refl
-running-step number none (accepted (Activate row)) r = tt
-running-step number (some t) (accepted (Activate row)) r = reached-activation row r
-running-step number none (accepted Refresh) r = tt
-running-step number (some t) (accepted Refresh) r = reached-refresh (replicate (t .settings .volume) 0) r
-running-step number t (accepted Blank) r = r
+-- the loaded remap stays an accepted one
+loadable-behind : (loaded : List ℕ) (o : Outcome Record) → remap-allowed loaded ≡ true → remap-allowed (loaded-behind loaded o) ≡ true
+unfolding loaded-behind loaded-by
+loadable-behind loaded (accepted (Set s)) ok = ok
+loadable-behind loaded (accepted (Remap table)) ok =
+    split (remap-allowed (sixteen-of table)) (λ e. rw e e) (λ e. rw e ok)
+loadable-behind loaded (accepted (Activate row)) ok = ok
+loadable-behind loaded (accepted Refresh) ok = ok
+loadable-behind loaded (accepted Blank) ok = ok
+loadable-behind loaded (refused k) ok = ok
+
+running-step : (number : ℕ) (loaded : List ℕ) (t : Option Tracker) (o : Outcome Record) → remap-allowed loaded ≡ true → Running t → Running (line-step number loaded t o .tracker)
+unfolding Running line-step-to record-step-to refused-step remap-step activation-step refresh-step
+running-step number loaded t (refused k) ok r = r
+running-step number loaded t (accepted (Set s)) ok r = set-up-runs number s loaded (replicate (s .counters) 0) (replicate (s .counters) 0) _ ok refl
+running-step number loaded t (accepted (Remap table)) ok r = r
+running-step number loaded none (accepted (Activate row)) ok r = tt
+running-step number loaded (some t) (accepted (Activate row)) ok r = (reached-activation (t .remap) row (r .0), r .1)
+running-step number loaded none (accepted Refresh) ok r = tt
+running-step number loaded (some t) (accepted Refresh) ok r = (reached-refresh (replicate (t .settings .volume) 0) (r .0), r .1)
+running-step number loaded t (accepted Blank) ok r = r
 
 module _ {m : Memory} {g : Progress} (h : Represents m g) (o : Outcome Record) where
   pub step-represented : step-in m o ≡ step g o
   unfolding step-to step-in next-number
   step-represented =
-      line-alike (m .place .lines % 10000000000 + 1) (suc (g .count)) (counted-on (m .place .lines) (g .count) (h .lines)) (tracker-of m) o ∙
-      ap (λ (t : Option Tracker). line-step (suc (g .count)) t o) (sym (h .tracker))
+      line-alike (m .place .lines % 10000000000 + 1) (suc (g .count)) (counted-on (m .place .lines) (g .count) (h .lines)) (m .place .loaded) (tracker-of m) o ∙
+      rw (h .tracker, h .loaded)
 
   step-running : Running (step-in m o .tracker)
   unfolding step-in
-  step-running = running-step (next-number (m .place .lines)) (tracker-of m) o (h .ready .running)
+  step-running = running-step (next-number (m .place .lines)) (m .place .loaded) (tracker-of m) o (h .ready .loadable) (h .ready .running)
 
   pub represents-next : Represents (next-in m o) (next g o)
   unfolding next-to next-in next-number
   represents-next =
       let t = step-in m o .tracker in
+      let lines : ℕ = m .place .lines % 10000000000 + 1 in
+      let loaded = loaded-behind (m .place .loaded) o in
       record {
-        ready = ready-stored m (m .place .lines % 10000000000 + 1) (h .ready) t step-running;
-        tracker =
-            sym (tracker-stored m (m .place .lines % 10000000000 + 1) (h .ready) t step-running ∙ ap (λ (x : Step). x .tracker) step-represented);
-        lines =
-            ap (λ (n : ℕ). n % 10000000000) (stored-lines t (m .place .lines % 10000000000 + 1) m) ∙
-            counted-on (m .place .lines) (g .count) (h .lines);
+        ready = ready-stored m loaded lines (h .ready) t step-running (loadable-behind (m .place .loaded) o (h .ready .loadable));
+        tracker = sym (tracker-stored m loaded lines (h .ready) t step-running ∙ ap (λ (x : Step). x .tracker) step-represented);
+        loaded = ap (λ (v : List ℕ). loaded-behind v o) (h .loaded) ∙ sym (stored-lines t loaded lines m .1);
+        lines = ap (λ (n : ℕ). n % 10000000000) (stored-lines t loaded lines m .0) ∙ counted-on (m .place .lines) (g .count) (h .lines);
       }
 
 -- a listing that is where the memory says
-pub represents-memory : {m : Memory} → Ready m → Represents m (record { tracker = tracker-of m; count = m .place .lines })
-represents-memory r = record { ready = r; tracker = refl; lines = refl }
+pub represents-memory : {m : Memory} → Ready m → Represents m (record { tracker = tracker-of m; loaded = m .place .loaded; count = m .place .lines })
+represents-memory r = record { ready = r; tracker = refl; loaded = refl; lines = refl }
 
 -- and the memory stays a listing's
 pub ready-next : {m : Memory} → Ready m → (o : Outcome Record) → Ready (next-in m o)
@@ -77,7 +94,8 @@ pub represents-start : (rows counts : List ℕ) → length rows ≡ most-counter
 unfolding start-place start tracker-of Running
 represents-start rows counts rows-long counts-long =
     record {
-      ready = record { running = tt; rows-long = rows-long; counts-long = counts-long };
+      ready = record { running = tt; loadable = own-allowed; rows-long = rows-long; counts-long = counts-long };
       tracker = refl;
+      loaded = refl;
       lines = refl;
     }

@@ -11,7 +11,7 @@ use Rattle.trace.proofs.Output.{take-printed}
 use Rattle.listing.specs.Steps.{Progress}
 use Rattle.listing.specs.Texts.{after}
 use Rattle.listing.specs.Memory.{Memory, Ready, Represents}
-use Rattle.trace.specs.Texts.{kept-bytes}
+use Rattle.trace.specs.Texts.{most-kept, kept-bytes}
 use Rattle.listing.specs.Chunks.{Going, part, Chunked, chunk}
 use Rattle.listing.specs.Parts.{Printed, lists, ends}
 use Rattle.listing.proofs.Memory.Progress.{represents-memory}
@@ -36,7 +36,7 @@ ended-kept m g text len buffer r h room =
     let at-hand : List ℕ = take len text in
     let rest : List ℕ = drop (part m at-hand buffer .taken) at-hand in
     let unended = done-part at-hand buffer r .all (rw (length-take-le len text h) room) in
-    rw (take-at (take 64 rest) (drop (length (take 64 rest)) text) (length (take 64 rest)) refl) (ended-less 64 rest unended)
+    rw (take-at (take most-kept rest) (drop (length (take most-kept rest)) text) (length (take most-kept rest)) refl) (ended-less most-kept rest unended)
 
 -- the memory stays a listing's, no more is kept than the text holds, and no more printed than the buffer
 pub steady-chunk : (m : Memory) (text : List ℕ) (len : ℕ) (buffer : List ℕ) → Ready m → len ≤ length text → Ready (chunk m text len buffer .memory) × (chunk m text len buffer .kept ≤ length text) × (chunk m text len buffer .end ≤ length buffer)
@@ -46,6 +46,6 @@ steady-chunk m text len buffer ready h =
     let t = done-part at-hand buffer (represents-memory ready) .took in
     let rest : List ℕ = drop (part m at-hand buffer .taken) at-hand in (
       t .represents .ready,
-      omega (arith, length-take 64 rest, length-drop (part m at-hand buffer .taken) at-hand, length-take-le len text h),
+      omega (arith, length-take most-kept rest, length-drop (part m at-hand buffer .taken) at-hand, length-take-le len text h),
       omega (arith, t .prints .fits, t .prints .behind),
     )

@@ -12,9 +12,9 @@ use Rattle.tracker.specs.Calls.{SetUp-call, Activation-call, Refresh-call}
 use Rattle.tracker.specs.Claims.{Calls-stay}
 use Rattle.tracker.proofs.Claims.{calls-stay}
 use Rattle.trace.specs.declared.Record.{Record}
-use Rattle.trace.specs.declared.Record.the-variants.{Set, Activate, Refresh, Blank}
+use Rattle.trace.specs.declared.Record.the-variants.{Set, Remap, Activate, Refresh, Blank}
 use Rattle.trace.specs.Claims.{All-alike}
-use Rattle.listing.specs.Steps.{Tracker, Progress, refused-step, set-up-step, activation-step, refresh-step, record-step-to, line-step-to, step-to, next-to, line-step, next}
+use Rattle.listing.specs.Steps.{Tracker, Progress, refused-step, set-up-step, remap-step, activation-step, refresh-step, record-step-to, line-step-to, step-to, next-to, line-step, next}
 use Rattle.listing.specs.Texts.{listed-to, listed}
 
 -- the settings of a tracker that stands
@@ -22,35 +22,37 @@ unfoldable pub Standing-alike : ℕ → Option Tracker → Type 0
 Standing-alike most none = Unit {0}
 Standing-alike most (some t) = Alike most (t .settings)
 
-line-same : (most number : ℕ) (t : Option Tracker) (o : Outcome Record) (os : List (Outcome Record)) → Standing-alike most t → All-alike most (o ∷ os) → line-step-to most number t o ≡ line-step number t o
+line-same : (most number : ℕ) (loaded : List ℕ) (t : Option Tracker) (o : Outcome Record) (os : List (Outcome Record)) → Standing-alike most t → All-alike most (o ∷ os) → line-step-to most number loaded t o ≡ line-step number loaded t o
 unfolding Standing-alike line-step-to record-step-to Calls-stay
-line-same most number t (refused k) os h all = refl
-line-same most number t (accepted (Set s)) os h all =
-    ap (λ (call : SetUp-call). set-up-step number s call (call .answer))
-    (calls-stay most s .0 (all s (List·Memᴰ·head refl)) .same-set-up (replicate (s .counters) 0) (replicate (s .counters) 0))
-line-same most number none (accepted (Activate row)) os h all = refl
-line-same most number (some t) (accepted (Activate row)) os h all =
-    ap (λ (call : Activation-call). activation-step number (t .settings) call) (calls-stay most (t .settings) .0 h .same-activation (t .state) row)
-line-same most number none (accepted Refresh) os h all = refl
-line-same most number (some t) (accepted Refresh) os h all =
-    ap (λ (call : Refresh-call). refresh-step number (t .settings) (t .state .position .events) call)
+line-same most number loaded t (refused k) os h all = refl
+line-same most number loaded t (accepted (Set s)) os h all =
+    ap (λ (call : SetUp-call). set-up-step number s loaded call (call .answer))
+    (calls-stay most s .0 (all s (List·Memᴰ·head refl)) .same-set-up loaded (replicate (s .counters) 0) (replicate (s .counters) 0))
+line-same most number loaded t (accepted (Remap table)) os h all = refl
+line-same most number loaded none (accepted (Activate row)) os h all = refl
+line-same most number loaded (some t) (accepted (Activate row)) os h all =
+    ap (λ (call : Activation-call). activation-step number (t .settings) (t .remap) call) (calls-stay most (t .settings) .0 h .same-activation (t .remap) (t .state) row)
+line-same most number loaded none (accepted Refresh) os h all = refl
+line-same most number loaded (some t) (accepted Refresh) os h all =
+    ap (λ (call : Refresh-call). refresh-step number (t .settings) (t .remap) (t .state .position .events) call)
     (calls-stay most (t .settings) .0 h .same-refresh (t .state) (replicate (t .settings .volume) 0))
-line-same most number t (accepted Blank) os h all = refl
+line-same most number loaded t (accepted Blank) os h all = refl
 
-set-up-alike : (most number : ℕ) (s : Settings) (call : SetUp-call) (answer : Outcome Position) → Alike most s → Standing-alike most (set-up-step number s call answer .tracker)
+set-up-alike : (most number : ℕ) (s : Settings) (remap : List ℕ) (call : SetUp-call) (answer : Outcome Position) → Alike most s → Standing-alike most (set-up-step number s remap call answer .tracker)
 unfolding Standing-alike set-up-step refused-step
-set-up-alike most number s call (accepted p) h = h
-set-up-alike most number s call (refused k) h = tt
+set-up-alike most number s remap call (accepted p) h = h
+set-up-alike most number s remap call (refused k) h = tt
 
-line-stands-alike : (most number : ℕ) (t : Option Tracker) (o : Outcome Record) (os : List (Outcome Record)) → Standing-alike most t → All-alike most (o ∷ os) → Standing-alike most (line-step number t o .tracker)
-unfolding Standing-alike line-step-to record-step-to refused-step activation-step refresh-step
-line-stands-alike most number t (refused k) os h all = h
-line-stands-alike most number t (accepted (Set s)) os h all = set-up-alike most number s _ _ (all s (List·Memᴰ·head refl))
-line-stands-alike most number none (accepted (Activate row)) os h all = tt
-line-stands-alike most number (some t) (accepted (Activate row)) os h all = h
-line-stands-alike most number none (accepted Refresh) os h all = tt
-line-stands-alike most number (some t) (accepted Refresh) os h all = h
-line-stands-alike most number t (accepted Blank) os h all = h
+line-stands-alike : (most number : ℕ) (loaded : List ℕ) (t : Option Tracker) (o : Outcome Record) (os : List (Outcome Record)) → Standing-alike most t → All-alike most (o ∷ os) → Standing-alike most (line-step number loaded t o .tracker)
+unfolding Standing-alike line-step-to record-step-to refused-step remap-step activation-step refresh-step
+line-stands-alike most number loaded t (refused k) os h all = h
+line-stands-alike most number loaded t (accepted (Set s)) os h all = set-up-alike most number s loaded _ _ (all s (List·Memᴰ·head refl))
+line-stands-alike most number loaded t (accepted (Remap table)) os h all = h
+line-stands-alike most number loaded none (accepted (Activate row)) os h all = tt
+line-stands-alike most number loaded (some t) (accepted (Activate row)) os h all = h
+line-stands-alike most number loaded none (accepted Refresh) os h all = tt
+line-stands-alike most number loaded (some t) (accepted Refresh) os h all = h
+line-stands-alike most number loaded t (accepted Blank) os h all = h
 
 pub listed-alike : (most : ℕ) (g : Progress) (os : List (Outcome Record)) → Standing-alike most (g .tracker) → All-alike most os → listed-to most g os ≡ listed g os
 unfolding listed-to step-to next-to
@@ -58,13 +60,13 @@ listed-alike most g [] h all = refl
 listed-alike most g (o ∷ os) h all =
     let number : ℕ = suc (g .count) in
     rw (
-      line-same most number (g .tracker) o os h all,
-      listed-alike most (next g o) os (line-stands-alike most number (g .tracker) o os h all) (λ s m. all s (List·Memᴰ·tail m)),
+      line-same most number (g .loaded) (g .tracker) o os h all,
+      listed-alike most (next g o) os (line-stands-alike most number (g .loaded) (g .tracker) o os h all) (λ s m. all s (List·Memᴰ·tail m)),
     )
 
 -- a settings line with N above the most
 pub step-above : (most : ℕ) (g : Progress) (s : Settings) → most < s .rows → step-to most g (accepted (Set s)) ≡ refused-step (suc (g .count)) 1 none
 unfolding step-to line-step-to record-step-to set-up-step Calls-stay
 step-above most g s h =
-    ap (λ (call : SetUp-call). set-up-step (suc (g .count)) s call (call .answer))
-    (calls-stay most s .1 h .refused-set-up (replicate (s .counters) 0) (replicate (s .counters) 0))
+    ap (λ (call : SetUp-call). set-up-step (suc (g .count)) s (g .loaded) call (call .answer))
+    (calls-stay most s .1 h .refused-set-up (g .loaded) (replicate (s .counters) 0) (replicate (s .counters) 0))

@@ -27,15 +27,15 @@ use Rattle.trace.proofs.Output.{prints-nothing}
 use Rattle.listing.proofs.Steps.ReachedCalls.{event-is, event-names, event-leaves, names-few}
 
 -- a refused activation: the state is as it came
-pub activation-refusal-listed : {before after : List ℕ} {at end : ℕ} (s : Settings) (rows counts : List ℕ) (p : Position) (row line k : ℕ) → record { accepts = false; refusal = suc k; state = given rows counts p } ≡ activation-on s (given rows counts p) row → Prints before at (refusal-line line (suc k)) after end → Lists (activation-step line s (activation-on s (given rows counts p) row)) s rows counts p before at after end
+pub activation-refusal-listed : {before after : List ℕ} {at end : ℕ} (s : Settings) (remap rows counts : List ℕ) (p : Position) (row line k : ℕ) → record { accepts = false; refusal = suc k; state = given rows counts p } ≡ activation-on s remap (given rows counts p) row → Prints before at (refusal-line line (suc k)) after end → Lists (activation-step line s remap (activation-on s remap (given rows counts p) row)) s remap rows counts p before at after end
 unfolding activation-step tracker-in answered
-activation-refusal-listed s rows counts p row line k call printed = rw (← call) (record { printed = printed; left = refl })
+activation-refusal-listed s remap rows counts p row line k call printed = rw (← call) (record { printed = printed; left = refl })
 
 -- an accepted-settings one prints nothing
-pub activation-listed : (s : Settings) (st : State) (row line : ℕ) (rows counts : List ℕ) (p : Position) (before : List ℕ) (at : ℕ) → first-failed (activation-tests s st row) ≡ 0 → given rows counts p ≡ activation-on s st row .state → at ≤ length before → Lists (activation-step line s (activation-on s st row)) s rows counts p before at before at
+pub activation-listed : (s : Settings) (remap : List ℕ) (st : State) (row line : ℕ) (rows counts : List ℕ) (p : Position) (before : List ℕ) (at : ℕ) → first-failed (activation-tests s remap st row) ≡ 0 → given rows counts p ≡ activation-on s remap st row .state → at ≤ length before → Lists (activation-step line s remap (activation-on s remap st row)) s remap rows counts p before at before at
 unfolding activation-step tracker-in answered
-activation-listed s st row line rows counts p before at none left h =
-    rw (← activation-done s st row none left) (record { printed = prints-nothing before at h; left = refl })
+activation-listed s remap st row line rows counts p before at none left h =
+    rw (← activation-done s remap st row none left) (record { printed = prints-nothing before at h; left = refl })
 
 pub volume-most : {s : Settings} {st : State} → Reached s st → s .volume ≤ 16
 volume-most {s} r = accepted-settings s (reached-accepted r) .others .volume .most
@@ -51,9 +51,9 @@ module _ {s : Settings} {st : State} (r : Reached s st) (list : List ℕ) (h : s
       ap (λ (c : Refresh-call). c .count) call ∙ event-is r list h .counted in
       omega (arith, names-few s st, volume-most r)
 
-  pub event-listed : {before after : List ℕ} {at end : ℕ} (line : ℕ) → Prints before at (refresh-line (st .position .events) (take k left)) after end → Lists (refresh-step line s (st .position .events) (refresh-on s st (replicate (s .volume) 0))) s rows counts p before at after end
+  pub event-listed : {before after : List ℕ} {at end : ℕ} (line : ℕ) (remap : List ℕ) → Prints before at (refresh-line (st .position .events) (take k left)) after end → Lists (refresh-step line s remap (st .position .events) (refresh-on s st (replicate (s .volume) 0))) s remap rows counts p before at after end
   unfolding refresh-step refresh-call refresh-count refresh-position tracker-in answered
-  event-listed {before} {after} {at} {end} line printed =
+  event-listed {before} {after} {at} {end} line remap printed =
       let lent : List ℕ = replicate (s .volume) 0 in
       let long : s .volume ≤ length lent = list-long (s .volume) in
       let names : take k left ≡ take (refresh-on s st lent .count) (refresh-on s st lent .picks) =
@@ -62,5 +62,5 @@ module _ {s : Settings} {st : State} (r : Reached s st) (list : List ℕ) (h : s
       ap (λ (c : Refresh-call). c .state) call ∙ event-leaves r list lent h long in
       record {
         printed = rw (event-is r lent long .free) (subst (λ (text : List ℕ). Prints before at (refresh-line (st .position .events) text) after end) names printed);
-        left = ap (λ (x : State). some (record { settings = s; state = x })) (sym state);
+        left = ap (λ (x : State). some (record { settings = s; remap = remap; state = x })) (sym state);
       }

@@ -1,6 +1,6 @@
 -- Calls on a reached state: which are refused, and that an event does the same whatever the lent list held.
 use mathlib.Core.Path.{_≡_, refl, sym, _∙_}
-use mathlib.Core.Bool.{false}
+use mathlib.Core.Bool.{true, false}
 use mathlib.Core.List.{List}
 use Prim.Native.Nat.{ℕ, _≤_, _<_}
 use native.Mathlib.Omega.{arith}
@@ -9,6 +9,7 @@ use lib.ListN.{length, take, drop}
 use lib.Seq.{take-at}
 use Rattle.device.specs.declared.Settings.{Settings}
 use Rattle.device.specs.Refusal.{first-failed, refuse}
+use Rattle.device.specs.Remap.{remap-allowed}
 use Rattle.summary.specs.Steps.{picked}
 use Rattle.summary.proofs.Entries.Picks.{length-picks-le}
 use Rattle.tracker.specs.State.{State, summary-of}
@@ -18,23 +19,23 @@ use Rattle.limit.specs.Reachable.{Reached}
 use Rattle.limit.proofs.Reachable.{activation-refused-with, refresh-refused-with}
 
 module _ {s : Settings} {st : State} (r : Reached s st) where
-  pub row-outside : (row : ℕ) → s .rows ≤ row → record { accepts = false; refusal = 9; state = st } ≡ activation-on s st row
+  pub row-outside : (remap : List ℕ) (row : ℕ) → s .rows ≤ row → record { accepts = false; refusal = 9; state = st } ≡ activation-on s remap st row
   unfolding refuse
-  row-outside row h =
-      let nine : first-failed (activation-tests s st row) ≡ 9 = activation-refused-with r row ∙ rw (le-ltb row (s .rows) h) in
-      activation-refused s st row 9 (sym nine) (λ e. omega arith)
+  row-outside remap row h =
+      let nine : first-failed (activation-tests s remap st row) ≡ 9 = activation-refused-with r remap row ∙ rw (le-ltb row (s .rows) h) in
+      activation-refused s remap st row 9 (sym nine) (λ e. omega arith)
 
-  pub interval-full : (row : ℕ) → row < s .rows → s .interval ≤ st .position .activations → record { accepts = false; refusal = 22; state = st } ≡ activation-on s st row
+  pub interval-full : (remap : List ℕ) (row : ℕ) → remap-allowed remap ≡ true → row < s .rows → s .interval ≤ st .position .activations → record { accepts = false; refusal = 22; state = st } ≡ activation-on s remap st row
   unfolding refuse
-  interval-full row b h =
-      let full : first-failed (activation-tests s st row) ≡ 22 =
-      activation-refused-with r row ∙ rw (lt-ltb row (s .rows) b, le-ltb (st .position .activations) (s .interval) h) in
-      activation-refused s st row 22 (sym full) (λ e. omega arith)
+  interval-full remap row ok b h =
+      let full : first-failed (activation-tests s remap st row) ≡ 22 =
+      activation-refused-with r remap row ∙ rw (lt-ltb row (s .rows) b, ok, le-ltb (st .position .activations) (s .interval) h) in
+      activation-refused s remap st row 22 (sym full) (λ e. omega arith)
 
-  pub activation-accepted : (row : ℕ) → row < s .rows → st .position .activations < s .interval → first-failed (activation-tests s st row) ≡ 0
+  pub activation-accepted : (remap : List ℕ) (row : ℕ) → remap-allowed remap ≡ true → row < s .rows → st .position .activations < s .interval → first-failed (activation-tests s remap st row) ≡ 0
   unfolding refuse
-  activation-accepted row b h =
-      activation-refused-with r row ∙ rw (lt-ltb row (s .rows) b, lt-ltb (st .position .activations) (s .interval) h)
+  activation-accepted remap row ok b h =
+      activation-refused-with r remap row ∙ rw (lt-ltb row (s .rows) b, ok, lt-ltb (st .position .activations) (s .interval) h)
 
   pub event-accepted : (picks : List ℕ) → s .volume ≤ length picks → first-failed (refresh-tests s st picks) ≡ 0
   unfolding refuse

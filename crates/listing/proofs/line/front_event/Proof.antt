@@ -19,7 +19,7 @@ returns : tie.Need-returns
 returns c =
     let a = c .before .before .before .before .before .before .before .before .before .before .before .before .before .before in
     let r = c .before .before .before .before .before .before .list-event in
-    (front-places (λ rows counts rows′ counts′. Lists (refresh-step (a .args .line) (a .args .s) (a .args .p .events) (refresh-on (a .args .s) (given rows counts (a .args .p)) (replicate (a .args .s .volume) 0))) (a .args .s) rows′ counts′ (r .result .position) (a .args .out .now) (a .args .at) (r .last .1 .1 .1 .1 .1 .0) (r .result .end)) (a .args .s .counters) (a .args .rows .now) (a .args .counts .now) (r .last .1 .0) (r .last .1 .1 .0) _ _ (a .pre .2) (a .pre .3) (r .kept .1 .0) (r .kept .1 .1 .0) (r .ensures), behind-front-places (a .args .s .counters) (a .args .rows .now) (a .args .counts .now) (r .last .1 .0) (r .last .1 .1 .0) (a .pre .2) (a .pre .3) (r .kept .1 .0) (r .kept .1 .1 .0))
+    (λ remap. front-places (λ rows counts rows′ counts′. Lists (refresh-step (a .args .line) (a .args .s) remap (a .args .p .events) (refresh-on (a .args .s) (given rows counts (a .args .p)) (replicate (a .args .s .volume) 0))) (a .args .s) remap rows′ counts′ (r .result .position) (a .args .out .now) (a .args .at) (r .last .1 .1 .1 .1 .1 .0) (r .result .end)) (a .args .s .counters) (a .args .rows .now) (a .args .counts .now) (r .last .1 .0) (r .last .1 .1 .0) _ _ (a .pre .2) (a .pre .3) (r .kept .1 .0) (r .kept .1 .1 .0) (r .ensures remap), behind-front-places (a .args .s .counters) (a .args .rows .now) (a .args .counts .now) (r .last .1 .0) (r .last .1 .1 .0) (a .pre .2) (a .pre .3) (r .kept .1 .0) (r .kept .1 .1 .0))
 
 pub front-event-spec : {M : Type 1} → statement M
 front-event-spec =

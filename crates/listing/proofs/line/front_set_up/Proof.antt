@@ -11,7 +11,7 @@ returns : tie.Need-returns
 returns c =
     let a = c .before .before .before .before .before .before .before .before .before .before in
     let r = c .before .before .before .before .set-up in
-    (front-places (λ rows counts rows′ counts′. set-up-call (r .result) rows′ counts′ ≡ set-up (a .args .s) rows counts) (a .args .s .counters) (a .args .rows .now) (a .args .counts .now) (r .last .1 .0) (r .last .1 .1 .0) _ _ (a .pre .0) (a .pre .1) (r .kept .1 .0) (r .kept .1 .1 .0) (r .ensures), behind-front-places (a .args .s .counters) (a .args .rows .now) (a .args .counts .now) (r .last .1 .0) (r .last .1 .1 .0) (a .pre .0) (a .pre .1) (r .kept .1 .0) (r .kept .1 .1 .0))
+    (front-places (λ rows counts rows′ counts′. set-up-call (r .result) rows′ counts′ ≡ set-up (a .args .s) (a .args .remap) rows counts) (a .args .s .counters) (a .args .rows .now) (a .args .counts .now) (r .last .1 .1 .0) (r .last .1 .1 .1 .0) _ _ (a .pre .0) (a .pre .1) (r .kept .1 .1 .0) (r .kept .1 .1 .1 .0) (r .ensures), behind-front-places (a .args .s .counters) (a .args .rows .now) (a .args .counts .now) (r .last .1 .1 .0) (r .last .1 .1 .1 .0) (a .pre .0) (a .pre .1) (r .kept .1 .1 .0) (r .kept .1 .1 .1 .0))
 
 pub front-set-up-spec : {M : Type 1} → statement M
 front-set-up-spec =

@@ -21,10 +21,10 @@ print-refresh-requires c κs =
 
 returns : tie.Need-returns
 unfolding given
-returns c =
+returns c remap =
     let a = c .before .before .before .before .before .before .before .before .before .before .before .before .before .before .before .before .before .before .before in
     let r = c .before .before .before .before .before .before .before .before .before .before .before .before .refresh-accepted in
-    event-listed (a .pre .0) _ (omega (arith, volume-most (a .pre .0))) (r .result .count) (r .result .position) (r .last .1 .0) (r .last .1 .1 .0) (r .last .1 .1 .1 .1 .0) (r .ensures) (a .args .line) (c .before .before .print-refresh .ensures)
+    event-listed (a .pre .0) _ (omega (arith, volume-most (a .pre .0))) (r .result .count) (r .result .position) (r .last .1 .0) (r .last .1 .1 .0) (r .last .1 .1 .1 .1 .0) (r .ensures) (a .args .line) remap (c .before .before .print-refresh .ensures)
 
 pub list-event-spec : {M : Type 1} → statement M
 list-event-spec =

@@ -20,40 +20,40 @@ print-settings-requires c κs =
 returns : tie.Need-returns
 unfolding stored
 returns c =
-    let print-settings = c .before .before .before .before .before .before .print-settings in
-    let a = c .before .before .before .before .before .before .before .before .before .before .before .before in
+    let print-settings = c .before .before .before .before .before .before .before .before .print-settings in
+    let a = c .before .before .before .before .before .before .before .before .before .before .before .before .before .before in
     let m = memory (a .args .p) (a .args .rows .now) (a .args .counts .now) in
-    let b = c .before .before .before .before .before .before .before .bound in
+    let b = c .before .before .before .before .before .before .before .before .before .bound in
     record {
-      printed = settings-printed (a .args .line) (a .args .s) (tracker-of m) (b .result) (b .ensures) (print-settings .ensures);
-      left = rw (settings-refused (a .args .line) (a .args .s) (tracker-of m) (λ e. c .before .before .if1 .taken (c .before .before .before .settings-refusal .ensures ∙ e)));
+      printed = settings-printed (a .args .p .loaded) (a .pre .3) (a .args .line) (a .args .s) (tracker-of m) (b .result) (b .ensures) (print-settings .ensures);
+      left = rw (settings-refused (a .args .p .loaded) (a .pre .3) (a .args .line) (a .args .s) (tracker-of m) (λ e. c .before .before .before .if1 .taken (c .before .before .before .before .settings-refusal .ensures ∙ e)));
     }
 
 front-set-up-requires : tie.Need-front-set-up-requires
 front-set-up-requires c κs =
-    let a = c .before .before .before .before .before .before .before .before .before .before .before .before in
+    let a = c .before .before .before .before .before .before .before .before .before .before .before .before .before in
     let ok = accepted-settings (a .args .s) (sym (c .before .before .before .settings-refusal .ensures) ∙ c .before .before .if1 .left) in
     (omega (arith, a .pre .1, ok .counters .most), omega (arith, a .pre .2, ok .counters .most))
 
 returns-2 : tie.Need-returns-2
 unfolding stored tracker-in given
 returns-2 c =
-    let print-settings = c .before .before .before .before .before .before .before .before .before .before .before .print-settings in
+    let print-settings = c .before .before .before .before .before .before .before .before .before .before .before .before .print-settings in
     let settings-refusal = c .before .before .before .before .before .before .before .before .settings-refusal in
     let if1 = c .before .before .before .before .before .before .before .if1 in
-    let a = c .before .before .before .before .before .before .before .before .before .before .before .before .before .before .before .before .before in
+    let a = c .before .before .before .before .before .before .before .before .before .before .before .before .before .before .before .before .before .before in
     let s = a .args .s in
     let m = memory (a .args .p) (a .args .rows .now) (a .args .counts .now) in
-    let b = c .before .before .before .before .before .before .before .before .before .before .before .before .bound in
+    let b = c .before .before .before .before .before .before .before .before .before .before .before .before .before .bound in
     let f = c .before .before .before .before .front-set-up in
-    let rows = f .last .1 .0 in
-    let counts = f .last .1 .1 .0 in
+    let rows = f .last .1 .1 .0 in
+    let counts = f .last .1 .1 .1 .0 in
     let e = sym (settings-refusal .ensures) ∙ if1 .left in
     let ok = accepted-settings s e in
     record {
-      printed = settings-printed (a .args .line) s (tracker-of m) (b .result) (b .ensures) (print-settings .ensures);
+      printed = settings-printed (a .args .p .loaded) (a .pre .3) (a .args .line) s (tracker-of m) (b .result) (b .ensures) (print-settings .ensures);
       left =
-          rw (settings-stand (a .args .line) s (tracker-of m) (f .result) (m .rows) (m .counts) (take (s .counters) rows) (take (s .counters) counts) e
+          rw (settings-stand (a .args .p .loaded) (a .pre .3) (a .args .line) s (tracker-of m) (f .result) (m .rows) (m .counts) (take (s .counters) rows) (take (s .counters) counts) e
           (omega (arith, a .pre .1, ok .counters .most))
           (omega (arith, a .pre .2, ok .counters .most))
           (f .ensures .0))

@@ -1,19 +1,19 @@
 -- `listing::record::list_line` meets its contract: by the reader's answer.
 use borrow.Author.Needs.{needs}
 use Rattle.trace.specs.Reading.{said}
-use Rattle.listing.specs.Steps.{line-step-to, refused-step}
+use Rattle.listing.specs.Steps.{line-step-to, refused-step, loaded-behind}
 use Rattle.listing.specs.Chunks.{next-number, step-in}
 use Rattle.listing.proofs.Memory.Tracker.{leaves-unmoved}
 use Rattle.listing.proofs.record.list_line.Statement.{statement}
 use Rattle.listing.proofs.record.list_line.Tie as tie
 
 returns : tie.Need-returns
-unfolding said step-in line-step-to refused-step next-number
+unfolding said step-in line-step-to refused-step loaded-behind next-number
 returns c =
-    let enum-told = c .before .before .before .before .before .before .enum-told in
-    let a = c .before .before .before .before .before .before .before .before .before .before .before .before in
+    let enum-told = c .before .before .before .before .before .before .before .enum-told in
+    let a = c .before .before .before .before .before .before .before .before .before .before .before .before .before in
     rw (enum-told .given .1)
-    (leaves-unmoved (a .args .p) (c .at-line .result) (a .args .rows .now) (a .args .counts .now) _ _ (c .at-line .ensures) (c .before .before .before .print-refusal .ensures))
+    (leaves-unmoved (a .args .p) (c .at-line .result) (a .args .rows .now) (a .args .counts .now) _ _ _ (c .at-line .ensures) (c .before .before .before .print-refusal .ensures))
 
 returns-2 : tie.Need-returns-2
 unfolding said step-in line-step-to next-number
