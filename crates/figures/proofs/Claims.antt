@@ -2,11 +2,13 @@
 use Rattle.figures.specs.Table.{figures}
 use Rattle.figures.specs.Edges.{edges}
 use Rattle.figures.specs.Spellings.{spellings}
-use Rattle.figures.specs.Claims.{Figures-hold, Edges-hold, Spellings-hold}
+use Rattle.figures.specs.Remaps.{remaps}
+use Rattle.figures.specs.Claims.{Figures-hold, Edges-hold, Spellings-hold, Remaps-hold}
 use Rattle.figures.proofs.Tests.{holds-every}
 use Rattle.figures.proofs.Table.{figures-pass}
 use Rattle.figures.proofs.Edges.{edges-pass}
 use Rattle.figures.proofs.Spellings.{spellings-pass}
+use Rattle.figures.proofs.Remaps.{remaps-pass}
 
 pub figures-hold : Figures-hold
 unfolding Figures-hold
@@ -19,3 +21,7 @@ edges-hold = holds-every edges edges-pass
 pub spellings-hold : Spellings-hold
 unfolding Spellings-hold
 spellings-hold = holds-every spellings spellings-pass
+
+pub remaps-hold : Remaps-hold
+unfolding Remaps-hold
+remaps-hold = holds-every remaps remaps-pass

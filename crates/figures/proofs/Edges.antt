@@ -2,7 +2,7 @@
 use lib.Dec.{T}
 use Rattle.device.specs.Refusal.{first-failed, unless, refuse, tested}
 use Rattle.device.specs.Acceptance.{within, rows-allowed-to, diameter-allowed, block-allowed, settings-tests-with, settings-tests-to}
-use Rattle.device.specs.Remap.{remap-table, physical}
+use Rattle.device.specs.Remap.{own-remap, occurs-in, all-occur, remap-allowed, physical}
 use Rattle.device.specs.Victims.{rows-from, rows-between, within-reach, victims}
 use Rattle.summary.specs.Entries.{rows-of, counts-of, has, count-or, without, without-all, raised, entered, has-count, without-count, top, picks}
 use Rattle.summary.specs.Steps.{empty, estimate, in-rows, disturb, disturb-each, drop-rows, spread, activation, besides, picked, taken-out, cleared-if, sources, event}
@@ -20,7 +20,7 @@ unfolding
     small whole two-places untracked refusal-of set-up-numbers activation-numbers event-numbers agreement-numbers
     set-up-figure activation-figure event-figure agreement-figure wide fresh wide-figure across behind-all tracks-one large large-figure
     first-failed unless refuse tested within rows-allowed-to diameter-allowed block-allowed settings-tests-with settings-tests-to
-    remap-table physical rows-from rows-between within-reach victims
+    own-remap occurs-in all-occur remap-allowed physical rows-from rows-between within-reach victims
     rows-of counts-of has count-or without without-all raised entered has-count without-count top picks
     empty estimate in-rows disturb disturb-each drop-rows spread activation besides picked taken-out cleared-if sources event
     table entries-of read summary-of state-of zeros ascending counts-allowed valid

@@ -3,4 +3,5 @@ pub mod Tests
 pub mod Table
 pub mod Edges
 pub mod Spellings
+pub mod Remaps
 pub mod Claims

@@ -3,7 +3,7 @@ use mathlib.Core.Option.{bind}
 use lib.Dec.{T}
 use Rattle.device.specs.Refusal.{first-failed, unless, refuse, tested}
 use Rattle.device.specs.Acceptance.{within, rows-allowed-to, diameter-allowed, block-allowed, settings-tests-with, settings-tests-to, settings-tests-but-counters-to}
-use Rattle.device.specs.Remap.{remap-table, physical}
+use Rattle.device.specs.Remap.{own-remap, occurs-in, all-occur, remap-allowed, physical}
 use Rattle.device.specs.Victims.{rows-from, rows-between, within-reach, victims}
 use Rattle.summary.specs.Entries.{rows-of, counts-of, has, count-or, without, without-all, raised, entered, has-count, without-count, top, picks}
 use Rattle.summary.specs.Steps.{empty, in-rows, disturb, disturb-each, drop-rows, spread, activation, besides, picked, taken-out, cleared-if, sources, event}
@@ -16,7 +16,7 @@ use Rattle.trace.specs.Records.{as-settings, settings, activation as activation
 use Rattle.trace.specs.Reading.{or-refused, reading-by, reading}
 use Rattle.trace.specs.Output.{number-columns, refusal-line}
 use Rattle.listing.specs.Output.{bound-line, refresh-line}
-use Rattle.listing.specs.Steps.{start, refused-step, set-up-step, answered, activation-step, refresh-step, record-step-to, line-step-to, step-to, next-to}
+use Rattle.listing.specs.Steps.{start, refused-step, set-up-step, answered, activation-step, refresh-step, record-step-to, line-step-to, loaded-behind, step-to, next-to}
 use Rattle.trace.specs.Texts.{in-front, lines, read as read-line, outcomes}
 use Rattle.listing.specs.Texts.{listed-to, listing-to}
 use Rattle.limit.specs.Run.{left-by, state-after}
@@ -30,7 +30,7 @@ pub figures-pass : T (every figures)
 unfolding
     every same figures numbers remap-figure bound-figure least-figure position-of begun state-numbers traced line-4 line-5 line-6 activations trace-input trace-output shown
     first-failed unless refuse tested within rows-allowed-to diameter-allowed block-allowed settings-tests-with settings-tests-to settings-tests-but-counters-to
-    remap-table physical rows-from rows-between within-reach victims
+    own-remap occurs-in all-occur remap-allowed physical rows-from rows-between within-reach victims
     size total disturbers bound-at bound-of with-counters meets or-else first-from least-of bound-answer-to least-answer-to settings-of
     rows-of counts-of has count-or without without-all raised entered has-count without-count top picks
     empty in-rows disturb disturb-each drop-rows spread activation besides picked taken-out cleared-if sources event
@@ -40,6 +40,6 @@ unfolding
     is-digit digits number field fields digit-or-blank columns-before printed line ended extent
     bind as-settings settings activation-record refresh-record record-of or-refused reading-by reading
     bound-line number-columns refresh-line refusal-line
-    start refused-step set-up-step answered activation-step refresh-step record-step-to line-step-to step-to next-to
+    start refused-step set-up-step answered activation-step refresh-step record-step-to line-step-to loaded-behind step-to next-to
     in-front lines read-line outcomes listed-to listing-to
 figures-pass = tt

@@ -4,6 +4,7 @@ use mathlib.Core.List.{List, List·Memᴰ}
 use Rattle.figures.specs.Table.{Figure, figures}
 use Rattle.figures.specs.Edges.{edges}
 use Rattle.figures.specs.Spellings.{spellings}
+use Rattle.figures.specs.Remaps.{remaps}
 
 -- every figure of a table is what the definitions give
 unfoldable pub Table-holds : List Figure → Type 0
@@ -20,3 +21,7 @@ Edges-hold = Table-holds edges
 -- and the figures of the trace writer
 unfoldable pub Spellings-hold : Type 0
 Spellings-hold = Table-holds spellings
+
+-- and those of loaded remaps
+unfoldable pub Remaps-hold : Type 0
+Remaps-hold = Table-holds remaps

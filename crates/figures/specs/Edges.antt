@@ -5,6 +5,7 @@ use mathlib.Core.Bool.{Bool, cond}
 use mathlib.Core.List.{List, [], _∷_, _++_}
 use Rattle.device.specs.declared.Settings.{Settings}
 use Rattle.device.specs.Refusal.{Outcome, accepted, refused}
+use Rattle.device.specs.Remap.{own-remap}
 use Rattle.summary.specs.Steps.{empty}
 use Rattle.tracker.specs.State.{State, state-of}
 use Rattle.tracker.specs.Calls.{SetUp-call, Activation-call, Refresh-call, set-up, activation-on, refresh-on, agreement-of}
@@ -56,11 +57,11 @@ agreement-numbers (refused k) = k ∷ []
 
 -- setting up on tables that hold 7
 unfoldable pub set-up-figure : Settings → List ℕ → Figure
-set-up-figure s given = shown given (set-up-numbers (set-up s (7 ∷ 7 ∷ []) (7 ∷ 7 ∷ [])))
+set-up-figure s given = shown given (set-up-numbers (set-up s own-remap (7 ∷ 7 ∷ []) (7 ∷ 7 ∷ [])))
 
 -- an activation of a 'bus row'
 unfoldable pub activation-figure : Settings → State → ℕ → List ℕ → Figure
-activation-figure s st row given = shown given (activation-numbers (activation-on s st row))
+activation-figure s st row given = shown given (activation-numbers (activation-on s own-remap st row))
 
 -- an event with a list of two places that hold 7
 unfoldable pub event-figure : Settings → State → List ℕ → Figure
@@ -76,7 +77,7 @@ set-up-edges =
     set-up-figure (small 2 1) (0 ∷ 0 ∷ 0 ∷ 0 ∷ 0 ∷ []) ∷
     set-up-figure (small 2 2) (0 ∷ 0 ∷ 0 ∷ 0 ∷ 0 ∷ []) ∷
     set-up-figure (small 2 3) (4 ∷ 7 ∷ 7 ∷ 7 ∷ 7 ∷ []) ∷
-    shown (8 ∷ 7 ∷ 7 ∷ 7 ∷ 7 ∷ 7 ∷ []) (set-up-numbers (set-up (small 2 1) (7 ∷ 7 ∷ 7 ∷ []) (7 ∷ 7 ∷ []))) ∷ []
+    shown (8 ∷ 7 ∷ 7 ∷ 7 ∷ 7 ∷ 7 ∷ []) (set-up-numbers (set-up (small 2 1) own-remap (7 ∷ 7 ∷ 7 ∷ []) (7 ∷ 7 ∷ []))) ∷ []
 
 -- 'row 15 accepted and 16 refused for N = 16'; the last of an interval and one more; e = n; rows 0 and N − 1 with each B
 unfoldable pub activation-edges : List Figure
