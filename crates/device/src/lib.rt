@@ -5,7 +5,7 @@ ghost use mathlib.Core.Bool.{not, true};
 ghost use lib.Dec.{leb};
 ghost use Rattle.device.specs.Refusal.{refuse, first-failed};
 ghost use Rattle.device.specs.Acceptance.{most-rows, within, rows-allowed, diameter-allowed, block-allowed, settings-tests, settings-tests-with, settings-tests-but-counters};
-ghost use Rattle.device.specs.Remap.{occurs-in, remap-allowed, physical};
+ghost use Rattle.device.specs.Remap.{own-remap, occurs-in, remap-allowed, physical};
 ghost use Rattle.device.specs.Victims.{subarray-rows, subarray-start};
 
 // The most rows of a bank and the most counters that settings may name.
@@ -114,8 +114,14 @@ pub fn settings_refusal_but_counters(s: Settings) -> u32
     refusal_with(s, true)
 }
 
+const OWN_REMAP: [u32; 16] = [0, 1, 3, 2, 4, 5, 7, 6, 8, 9, 11, 10, 12, 13, 15, 14];
+
 // Our own remap, in force until another is loaded.
-pub const OWN_REMAP: [u32; 16] = [0, 1, 3, 2, 4, 5, 7, 6, 8, 9, 11, 10, 12, 13, 15, 14];
+pub fn own_remap() -> [u32; 16]
+    ensures { λ r. ⌜ r ≡ own-remap ⌝ }
+{
+    OWN_REMAP
+}
 
 // Whether a number occurs in a remap.
 fn occurs(remap: [u32; 16], k: u32) -> bool

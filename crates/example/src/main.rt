@@ -42,7 +42,7 @@ fn main() {
         window: 4,
         block: 4,
     };
-    let remap = device::OWN_REMAP;
+    let remap = device::own_remap();
     let mut rows = [0u32; 2];
     let mut counts = [0u32; 2];
     let mut list = [0u32; 1];

@@ -57,6 +57,7 @@ pub struct Chunk {
 pub fn start() -> Place
     ensures { λ r. ⌜ r ≡ start-place ⌝ }
 {
+    let remap = device::own_remap();
     Place {
         active: false,
         settings: Settings {
@@ -68,14 +69,14 @@ pub fn start() -> Place
             window: 0,
             block: 0,
         },
-        remap: device::OWN_REMAP,
+        remap,
         position: Position {
             events: 0,
             activations: 0,
             tracked: 0,
             spillover: 0,
         },
-        loaded: device::OWN_REMAP,
+        loaded: remap,
         lines: 0,
     }
 }

@@ -49,10 +49,10 @@ fn remap_line(p: Place, remap: [u32; 16], line: u64, out: &mut [u8], at: usize) 
             end: at,
         };
     }
-    let loaded = p.loaded;
+    let kept = p.loaded;
     let end = trace::print_refusal(out, at, line, 14);
     Listed {
-        place: at_line(p, position, loaded, line),
+        place: at_line(p, position, kept, line),
         end,
     }
 }

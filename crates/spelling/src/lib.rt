@@ -5,8 +5,8 @@ use trace::Record;
 use trace::Sixteen;
 ghost use mathlib.Core.Path.{_≡_};
 ghost use mathlib.Core.List.{[], _∷_};
-ghost use Prim.Native.Nat.{_+_, _≤_};
-ghost use lib.ListN.{length};
+ghost use Prim.Native.Nat.{_+_, _*_, _≤_};
+ghost use lib.ListN.{length, take};
 ghost use Rattle.trace.specs.Bytes.{letter-A, letter-F, letter-R, letter-S};
 ghost use Rattle.device.specs.Refusal.{unless, first-failed};
 ghost use Rattle.device.specs.Remap.{remap-allowed};
@@ -108,7 +108,17 @@ pub fn width(answer: Read) -> usize
     }
 }
 
-// The line of settings, at a place; the place behind it.
+// A letter, the first numbers of a list and byte 10, at a place; the place behind them.
+fn print_line(out: &mut [u8], at: usize, letter: u8, numbers: &[u32], count: usize) -> usize
+    requires { ⌜ (count ≤ length (now numbers)) × (at + 6 * count + 2 ≤ length (now out)) ⌝ }
+    ensures { λ r. ⌜ Prints-into out at (spelled-line letter (take count (now (numbers .entry)))) r ⌝ }
+{
+    let place = trace::print_byte(out, at, letter);
+    let end = trace::print_numbers(out, place, numbers, count);
+    trace::print_byte(out, end, b'\n')
+}
+
+// The line of settings.
 fn print_settings(out: &mut [u8], at: usize, s: Settings) -> usize
     requires { ⌜ at + 44 ≤ length (now out) ⌝ }
     ensures { λ r. ⌜ Prints-into out at (spelled-line letter-S (settings-numbers s)) r ⌝ }
@@ -122,9 +132,7 @@ fn print_settings(out: &mut [u8], at: usize, s: Settings) -> usize
         s.window,
         s.block,
     ];
-    let place = trace::print_byte(out, at, b'S');
-    let end = trace::print_numbers(out, place, &numbers, 7);
-    trace::print_byte(out, end, b'\n')
+    print_line(out, at, b'S', &numbers, 7)
 }
 
 // The line of a remap.
@@ -133,9 +141,7 @@ fn print_remap(out: &mut [u8], at: usize, t: Sixteen) -> usize
     ensures { λ r. ⌜ Prints-into out at (spelled-line letter-F (sixteen-of t)) r ⌝ }
 {
     let numbers = trace::sixteen_of(t);
-    let place = trace::print_byte(out, at, b'F');
-    let end = trace::print_numbers(out, place, &numbers, 16);
-    trace::print_byte(out, end, b'\n')
+    print_line(out, at, b'F', &numbers, 16)
 }
 
 // The line of an activation.

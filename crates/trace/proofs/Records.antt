@@ -3,7 +3,7 @@ use mathlib.Core.Path.{_≡_, refl, ap}
 use mathlib.Core.Bool.{false}
 use mathlib.Core.List.{List, [], _∷_}
 use mathlib.Core.Option.{some, Option, bind, bind-eq-some-iff}
-use Prim.Native.Nat.{ℕ, zero, suc, _+_, _≤_}
+use Prim.Native.Nat.{ℕ, zero, suc, _+_, _*_, _≤_}
 use native.Mathlib.Omega.{arith}
 use borrow.Author.Tests.{eqb-true, eq-eqb}
 use lib.Dec.{eqb}
@@ -15,7 +15,7 @@ use Rattle.trace.specs.declared.Record.the-variants.{Set, Remap, Activat
 use Rattle.trace.specs.Bytes.{letter-A, letter-F, letter-R, letter-S}
 use Rattle.trace.specs.Lines.{ended}
 use Rattle.trace.specs.Numbers.{field, fields}
-use Rattle.trace.specs.Records.{as-settings, as-sixteen, settings, remap, activation, refresh, record-of}
+use Rattle.trace.specs.Records.{as-settings, as-sixteen, numbered, settings, remap, activation, refresh, record-of}
 use Rattle.trace.proofs.Lines.{ended-drop-length}
 use Rattle.trace.proofs.Numbers.Fields.{field-take, fields-take, ended-field, ended-fields}
 
@@ -50,44 +50,42 @@ ended-activation bytes r h =
 pub activation-form : Form activation 6
 activation-form = record { same-length = length-activation; unended = ended-activation }
 
-length-settings : (bytes : List ℕ) (r : Record) → settings bytes ≡ some r → length bytes ≡ 42
-unfolding settings
-length-settings bytes r h = eqb-true (length bytes) 42 (cond-test (eqb (length bytes) 42) _ r h)
+module _ (count : ℕ) (says : List ℕ → Record) where
+  length-numbered : (bytes : List ℕ) (r : Record) → numbered count says bytes ≡ some r → length bytes ≡ 6 * count
+  unfolding numbered
+  length-numbered bytes r h = eqb-true (length bytes) (6 * count) (cond-test (eqb (length bytes) (6 * count)) _ r h)
 
-ended-settings : (bytes : List ℕ) (r : Record) → settings bytes ≡ some r → ended bytes ≡ false
-unfolding settings
-ended-settings bytes r h =
-    let numbers = bind-eq-some-iff (fields 7 bytes) _ .0 (cond-some (eqb (length bytes) 42) _ r h) in
-    ended-fields 7 bytes (numbers .0) (length-settings bytes r h) (numbers .1)
+  -- the numbers of such a record
+  pub numbers-of : (bytes : List ℕ) (r : Record) → numbered count says bytes ≡ some r → (numbers : List ℕ) × (fields count bytes ≡ some numbers) × (says numbers ≡ r)
+  unfolding numbered
+  numbers-of bytes r h =
+      let found = bind-eq-some-iff (fields count bytes) _ .0 (cond-some (eqb (length bytes) (6 * count)) _ r h) in
+      (found .0, found .1, cc)
+
+  ended-numbered : (bytes : List ℕ) (r : Record) → numbered count says bytes ≡ some r → ended bytes ≡ false
+  ended-numbered bytes r h =
+      let numbers = numbers-of bytes r h in
+      ended-fields count bytes (numbers .0) (length-numbered bytes r h) (numbers .1)
+
+  pub numbered-form : Form (numbered count says) (6 * count)
+  numbered-form = record { same-length = length-numbered; unended = ended-numbered }
 
 pub settings-form : Form settings 42
-settings-form = record { same-length = length-settings; unended = ended-settings }
-
-length-remap : (bytes : List ℕ) (r : Record) → remap bytes ≡ some r → length bytes ≡ 96
-unfolding remap
-length-remap bytes r h = eqb-true (length bytes) 96 (cond-test (eqb (length bytes) 96) _ r h)
-
-ended-remap : (bytes : List ℕ) (r : Record) → remap bytes ≡ some r → ended bytes ≡ false
-unfolding remap
-ended-remap bytes r h =
-    let numbers = bind-eq-some-iff (fields 16 bytes) _ .0 (cond-some (eqb (length bytes) 96) _ r h) in
-    ended-fields 16 bytes (numbers .0) (length-remap bytes r h) (numbers .1)
+unfolding settings
+settings-form = numbered-form 7 (λ numbers. Set (as-settings numbers))
 
 pub remap-form : Form remap 96
-remap-form = record { same-length = length-remap; unended = ended-remap }
+unfolding remap
+remap-form = numbered-form 16 (λ numbers. Remap (as-sixteen numbers))
 
 -- what the first bytes of a text say
 pub activation-take : (text : List ℕ) → 6 ≤ length text → activation (take 6 text) ≡ bind (field 0 text) λ row. some (Activate row)
 unfolding activation
 activation-take text h = rw (eq-eqb _ _ (length-take-le 6 text h), field-take 0 6 text (omega arith))
 
-pub settings-take : (text : List ℕ) → 42 ≤ length text → settings (take 42 text) ≡ bind (fields 7 text) λ ns. some (Set (as-settings ns))
-unfolding settings
-settings-take text h = rw (eq-eqb _ _ (length-take-le 42 text h), fields-take 7 text)
-
-pub remap-take : (text : List ℕ) → 96 ≤ length text → remap (take 96 text) ≡ bind (fields 16 text) λ ns. some (Remap (as-sixteen ns))
-unfolding remap
-remap-take text h = rw (eq-eqb _ _ (length-take-le 96 text h), fields-take 16 text)
+pub numbered-take : (count : ℕ) (says : List ℕ → Record) (text : List ℕ) → 6 * count ≤ length text → numbered count says (take (6 * count) text) ≡ bind (fields count text) λ ns. some (says ns)
+unfolding numbered
+numbered-take count says text h = rw (eq-eqb _ _ (length-take-le (6 * count) text h), fields-take count text)
 
 -- so many numbers of a list from a place on
 unfoldable pub places : ℕ → ℕ → List ℕ → List ℕ

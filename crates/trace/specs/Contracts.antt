@@ -1,5 +1,5 @@
 -- Relations that only contracts use: what the columns of a field were found to hold, where a byte 10 stands, and bytes that are copied.
-use Prim.Native.Nat.{ℕ}
+use Prim.Native.Nat.{ℕ, _*_}
 use mathlib.Core.Bool.{Bool, _&&_, cond}
 use mathlib.Core.List.{List, _++_}
 use mathlib.Core.Path.{_≡_}
@@ -11,6 +11,7 @@ use Rattle.laws.specs.Lent.{Lent}
 use Rattle.trace.specs.declared.Field.{Field}
 use Rattle.trace.specs.declared.Field.the-variants.{Number, Other}
 use Rattle.trace.specs.declared.Fields.{Fields}
+use Rattle.trace.specs.Numbers.{fields}
 
 -- what some columns hold: a number, or something else
 unfoldable pub found : Field → Option ℕ
@@ -24,6 +25,10 @@ found-all count r = cond (r .all) (some (take count (r .values))) none
 -- whether a byte 10 stands behind so many bytes
 unfoldable pub ends-after : ℕ → List ℕ → Bool
 ends-after width text = ltb width (length text) && eqb (getD text width 0) 10
+
+-- so many fields, if a byte 10 stands right behind them
+unfoldable pub line-fields : ℕ → List ℕ → Option (List ℕ)
+line-fields count text = cond (ends-after (6 * count) text) (fields count text) none
 
 -- bytes are copied to a lent text's front, so many
 abbrev pub Copies-front : Lent → List ℕ → ℕ → Type 0

@@ -1,6 +1,6 @@
 -- 'Lines': what the bytes of a line say.
 use mathlib.Core.Bool.{cond}
-use Prim.Native.Nat.{ℕ}
+use Prim.Native.Nat.{ℕ, _*_}
 use mathlib.Core.List.{List, [], _∷_}
 use mathlib.Core.Option.{Option, none, some, bind}
 use lib.Dec.{eqb}
@@ -25,9 +25,13 @@ as-settings numbers =
       block = getD numbers 6 0;
     }
 
--- 'a settings record': the seven settings behind an `S`, 6 columns each
+-- a record of so many numbers, 6 columns each, and of nothing behind them
+unfoldable pub numbered : ℕ → (List ℕ → Record) → List ℕ → Option Record
+numbered count says bytes = cond (eqb (length bytes) (6 * count)) (bind (fields count bytes) λ numbers. some (says numbers)) none
+
+-- 'a settings record': the seven settings behind an `S`
 unfoldable pub settings : List ℕ → Option Record
-settings bytes = cond (eqb (length bytes) 42) (bind (fields 7 bytes) λ numbers. some (Set (as-settings numbers))) none
+settings bytes = numbered 7 (λ numbers. Set (as-settings numbers)) bytes
 
 -- numbers as the 'table of 16 numbers' of a remap record, and back, in their order
 unfoldable pub as-sixteen : List ℕ → Sixteen
@@ -58,7 +62,7 @@ sixteen-of t =
 
 -- a remap record: '`F` with 16 fields of 6 columns', whose numbers the reader 'hands on untested'
 unfoldable pub remap : List ℕ → Option Record
-remap bytes = cond (eqb (length bytes) 96) (bind (fields 16 bytes) λ numbers. some (Remap (as-sixteen numbers))) none
+remap bytes = numbered 16 (λ numbers. Remap (as-sixteen numbers)) bytes
 
 -- 'an activation record holding its row': a bus row (logical row) behind an `A`, in 6 columns
 unfoldable pub activation : List ℕ → Option Record

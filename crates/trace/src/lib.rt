@@ -8,7 +8,7 @@ ghost use lib.Seq.{slice};
 ghost use Rattle.trace.specs.Numbers.{digits, field, fields, digit-or-blank, printed, written};
 ghost use Rattle.trace.specs.Lines.{extent};
 ghost use Rattle.trace.specs.Records.{as-settings, as-sixteen, sixteen-of, settings, remap, activation, refresh};
-ghost use Rattle.trace.specs.Contracts.{found, found-all, ends-after, Copies-front};
+ghost use Rattle.trace.specs.Contracts.{found, found-all, ends-after, line-fields, Copies-front};
 ghost use Rattle.trace.specs.Reading.{said, reading, reading-by, Handed-on};
 ghost use Rattle.trace.specs.Texts.{kept-bytes};
 ghost use Rattle.trace.specs.Output.{number-columns, refusal-line, Prints-into};
@@ -156,6 +156,20 @@ fn read_fields(text: &[u8], at: usize, count: usize) -> Fields
     Fields { all: true, values }
 }
 
+// The numbers of a line of so many fields, from behind its letter on.
+fn line_fields(text: &[u8], at: usize, count: usize) -> Fields
+    requires { ⌜ (count ≤ 16) × (at ≤ length (now text)) ⌝ }
+    ensures { λ r. ⌜ found-all count r ≡ line-fields count (drop at (now (text .entry))) ⌝ }
+{
+    if ends_after(text, at, COLUMNS * count) {
+        return read_fields(text, at, count);
+    }
+    Fields {
+        all: false,
+        values: [0u32; 16],
+    }
+}
+
 // The first seven numbers as settings.
 fn as_settings(values: [u32; 16]) -> Settings
     ensures { λ r. ⌜ r ≡ as-settings values ⌝ }
@@ -176,10 +190,7 @@ fn read_settings(text: &[u8], at: usize) -> Read
     requires { ⌜ at ≤ length (now text) ⌝ }
     ensures { λ r. ⌜ said r ≡ reading-by settings (drop at (now (text .entry))) at ⌝ }
 {
-    if !ends_after(text, at, 42) {
-        return Read::Refused(line_end(text, at));
-    }
-    let found = read_fields(text, at, 7);
+    let found = line_fields(text, at, 7);
     if !found.all {
         return Read::Refused(line_end(text, at));
     }
@@ -240,10 +251,7 @@ fn read_remap(text: &[u8], at: usize) -> Read
     requires { ⌜ at ≤ length (now text) ⌝ }
     ensures { λ r. ⌜ said r ≡ reading-by remap (drop at (now (text .entry))) at ⌝ }
 {
-    if !ends_after(text, at, 96) {
-        return Read::Refused(line_end(text, at));
-    }
-    let found = read_fields(text, at, 16);
+    let found = line_fields(text, at, 16);
     if !found.all {
         return Read::Refused(line_end(text, at));
     }

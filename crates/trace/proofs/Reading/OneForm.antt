@@ -1,21 +1,23 @@
--- The reading of a line whose records all have one width: the place of its byte 10 decides.
+-- The reading of a line whose records all have one width: the place of its byte 10 decides. And of lines of numbers, by what their fields hold.
 use mathlib.Core.Path.{_≡_, sym, ap, _∙_}
 use mathlib.Core.Bool.{true, false, cond}
 use mathlib.Core.List.{List, _∷_}
-use mathlib.Core.Option.{none, some, Option}
-use Prim.Native.Nat.{ℕ, suc, _+_, _<_}
+use mathlib.Core.Option.{none, some, Option, bind}
+use Prim.Native.Nat.{ℕ, suc, _+_, _*_, _<_}
 use native.Mathlib.Omega.{arith}
 use lib.ListN.{length, getD, take, drop, length-append}
 use lib.Seq.{length-take-le, getD-at, take-at}
-use Rattle.laws.proofs.Cases.{split, clash, missing, either}
+use Rattle.laws.proofs.Cases.{split, clash, missing, either, cond-test, cond-some}
 use Rattle.trace.specs.declared.Read.the-variants.{Line, Refused}
 use Rattle.trace.specs.declared.Record.{Record}
-use Rattle.trace.specs.Contracts.{ends-after}
+use Rattle.trace.specs.Contracts.{ends-after, line-fields}
+use Rattle.trace.specs.Numbers.{fields}
+use Rattle.trace.specs.Records.{numbered}
 use Rattle.trace.specs.Lines.{line, ended, extent}
 use Rattle.trace.specs.Reading.{said, or-refused, reading-by}
 use Rattle.trace.proofs.Contracts.{ends-after-lt, ends-after-true, ends-after-rest}
 use Rattle.trace.proofs.Lines.{line-append-end, ended-append-end, extent-append-end, line-end-rest}
-use Rattle.trace.proofs.Records.{Form}
+use Rattle.trace.proofs.Records.{Form, numbered-form, numbered-take}
 
 module _ {says : List ℕ → Option Record} {w : ℕ} (form : Form says w) (text : List ℕ) (at : ℕ) where
   pub reading-by-accepted : (r : Record) (next : ℕ) → next ≡ at + (w + 1) → ends-after w text ≡ true → says (take w text) ≡ some r
@@ -59,3 +61,26 @@ module _ {says : List ℕ → Option Record} {w : ℕ} (form : Form says w) (tex
 
   pub reading-by-other-bytes : (next : ℕ) → next ≡ at + extent text → says (take w text) ≡ none → said (Refused next) ≡ reading-by says text at
   reading-by-other-bytes next n h = reading-by-refused next n (says-none (λ r e s. missing (sym h ∙ s)))
+
+-- a line of so many fields
+module _ (count : ℕ) (says : List ℕ → Record) (text : List ℕ) (at : ℕ) where
+  pub reading-numbers : (numbers : List ℕ) (next : ℕ) → line-fields count text ≡ some numbers → next ≡ at + (6 * count + 1)
+      → said (Line (says numbers) next) ≡ reading-by (numbered count says) text at
+  unfolding line-fields bind
+  reading-numbers numbers next e n =
+      let ends = cond-test (ends-after (6 * count) text) (fields count text) numbers e in
+      let found = cond-some (ends-after (6 * count) text) (fields count text) numbers e in
+      let inside = ends-after-lt (6 * count) text ends in
+      reading-by-accepted (numbered-form count says) text at (says numbers) next n ends
+      (numbered-take count says text (omega arith) ∙ rw found)
+
+  pub reading-no-numbers : (next : ℕ) → line-fields count text ≡ none → next ≡ at + extent text
+      → said (Refused next) ≡ reading-by (numbered count says) text at
+  unfolding line-fields bind
+  reading-no-numbers next e n =
+      split (ends-after (6 * count) text)
+      (λ ends.
+      let inside = ends-after-lt (6 * count) text ends in
+      reading-by-other-bytes (numbered-form count says) text at next n
+      (numbered-take count says text (omega arith) ∙ rw (rw ends at e)))
+      (λ other. reading-by-other-width (numbered-form count says) text at next n other)

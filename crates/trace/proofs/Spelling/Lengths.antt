@@ -3,7 +3,7 @@ use mathlib.Core.Path.{_≡_, refl, sym, subst}
 use mathlib.Core.Bool.{true, cond}
 use mathlib.Core.List.{List, [], _∷_}
 use mathlib.Core.Option.{none, some, bind-eq-some-iff}
-use Prim.Native.Nat.{ℕ, suc, _+_, _≤_}
+use Prim.Native.Nat.{ℕ, suc, _+_, _*_, _≤_}
 use native.Mathlib.Omega.{arith}
 use lib.Dec.{eqb}
 use lib.ListN.{length, drop, length-append}
@@ -14,13 +14,13 @@ use Rattle.trace.specs.declared.Record.{Record}
 use Rattle.trace.specs.declared.Record.the-variants.{Set, Remap, Activate, Refresh, Blank}
 use Rattle.trace.specs.Bytes.{letter-A, letter-F, letter-R, letter-S}
 use Rattle.trace.specs.Lines.{line, ended, extent}
-use Rattle.trace.specs.Numbers.{field, fields}
+use Rattle.trace.specs.Numbers.{field}
 use Rattle.trace.specs.Reading.{or-refused, reading, reading-by}
-use Rattle.trace.specs.Records.{as-settings, as-sixteen, sixteen-of, settings, remap, activation, refresh, record-of}
+use Rattle.trace.specs.Records.{as-settings, as-sixteen, sixteen-of, numbered, settings, remap, activation, refresh, record-of}
 use Rattle.trace.specs.Output.{number-columns}
 use Rattle.trace.specs.Spelling.{settings-numbers, spelled-line, record-spelling, answer-spelling}
 use Rattle.trace.proofs.Output.{length-number-columns}
-use Rattle.trace.proofs.Records.{settings-form, remap-form, activation-form}
+use Rattle.trace.proofs.Records.{numbers-of, numbered-form, activation-form}
 
 pub length-settings-line : (s : Settings) → length (spelled-line letter-S (settings-numbers s)) ≡ 44
 unfolding spelled-line settings-numbers
@@ -42,19 +42,19 @@ abbrev No-longer : List ℕ → Record → Type 0
 No-longer bytes r = length (record-spelling r) ≤ suc (suc (length bytes))
 
 -- each kind of record behind its letter, and byte 10
+numbered-no-longer : (count : ℕ) (says : List ℕ → Record) → ((numbers : List ℕ) → length (record-spelling (says numbers)) ≡ 6 * count + 2)
+    → (bytes : List ℕ) (r : Record) → numbered count says bytes ≡ some r → No-longer bytes r
+numbered-no-longer count says long bytes r e =
+    let numbers = numbers-of count says bytes r e in
+    subst (No-longer bytes) (numbers .2) (omega (arith, numbered-form count says .same-length bytes r e, long (numbers .0)))
+
 settings-no-longer : (bytes : List ℕ) (r : Record) → settings bytes ≡ some r → No-longer bytes r
 unfolding settings record-spelling
-settings-no-longer bytes r e =
-    let numbers = bind-eq-some-iff (fields 7 bytes) _ .0 (cond-some (eqb (length bytes) 42) _ r e) in
-    let same : Set (as-settings (numbers .0)) ≡ r = cc in
-    subst (No-longer bytes) same (omega (arith, settings-form .same-length bytes r e, length-settings-line (as-settings (numbers .0))))
+settings-no-longer = numbered-no-longer 7 (λ numbers. Set (as-settings numbers)) (λ numbers. length-settings-line (as-settings numbers))
 
 remap-no-longer : (bytes : List ℕ) (r : Record) → remap bytes ≡ some r → No-longer bytes r
 unfolding remap record-spelling
-remap-no-longer bytes r e =
-    let numbers = bind-eq-some-iff (fields 16 bytes) _ .0 (cond-some (eqb (length bytes) 96) _ r e) in
-    let same : Remap (as-sixteen (numbers .0)) ≡ r = cc in
-    subst (No-longer bytes) same (omega (arith, remap-form .same-length bytes r e, length-remap-line (as-sixteen (numbers .0))))
+remap-no-longer = numbered-no-longer 16 (λ numbers. Remap (as-sixteen numbers)) (λ numbers. length-remap-line (as-sixteen numbers))
 
 activation-no-longer : (bytes : List ℕ) (r : Record) → activation bytes ≡ some r → No-longer bytes r
 unfolding activation record-spelling

@@ -16,7 +16,7 @@ use Rattle.trace.specs.declared.Record.the-variants.{Set, Remap, Activat
 use Rattle.trace.specs.Bytes.{letter-A, letter-F, letter-R, letter-S}
 use Rattle.trace.specs.Lines.{ended}
 use Rattle.trace.specs.Reading.{or-refused, reading, reading-by}
-use Rattle.trace.specs.Records.{as-settings, as-sixteen, sixteen-of, settings, remap, activation, refresh, record-of}
+use Rattle.trace.specs.Records.{as-settings, as-sixteen, sixteen-of, numbered, settings, remap, activation, refresh, record-of}
 use Rattle.trace.specs.Output.{number-columns}
 use Rattle.trace.specs.Spelling.{settings-numbers, spelled-line, record-spelling}
 use Rattle.trace.specs.Texts.{read, outcomes}
@@ -41,13 +41,17 @@ outcomes-letter : (letter : ℕ) (ns rest : List ℕ) (r : Record) → record-of
 unfolding spelled-line
 outcomes-letter letter ns rest r e h = rw (append-assoc (number-columns ns) (10 ∷ []) rest) (outcomes-record (letter ∷ number-columns ns) rest r e h)
 
+numbered-spelled : (says : List ℕ → Record) {numbers : List ℕ} → Narrow numbers → numbered (length numbers) says (number-columns numbers) ≡ some (says numbers)
+unfolding numbered bind
+numbered-spelled says {numbers} h = rw (eq-eqb _ _ (length-number-columns numbers), fields-columns h)
+
 settings-spelled : (s : Settings) → Narrow (settings-numbers s) → settings (number-columns (settings-numbers s)) ≡ some (Set s)
-unfolding settings as-settings settings-numbers bind
-settings-spelled s h = rw (eq-eqb _ _ (length-number-columns (settings-numbers s)), fields-columns h)
+unfolding settings as-settings settings-numbers
+settings-spelled s h = numbered-spelled (λ numbers. Set (as-settings numbers)) h
 
 remap-spelled : (t : Sixteen) → Narrow (sixteen-of t) → remap (number-columns (sixteen-of t)) ≡ some (Remap t)
-unfolding remap as-sixteen sixteen-of bind
-remap-spelled t h = rw (eq-eqb _ _ (length-number-columns (sixteen-of t)), fields-columns h)
+unfolding remap as-sixteen sixteen-of
+remap-spelled t h = numbered-spelled (λ numbers. Remap (as-sixteen numbers)) h
 
 activation-spelled : (row : ℕ) → row < 1000000 → activation (number-columns (row ∷ [])) ≡ some (Activate row)
 unfolding activation bind number-columns

@@ -18,11 +18,11 @@ use Rattle.trace.specs.Bytes.{letter-A, letter-F, letter-R, letter-S}
 use Rattle.trace.specs.Lines.{line, ended}
 use Rattle.trace.specs.Numbers.{is-digit, digits, number, field, fields}
 use Rattle.trace.specs.Reading.{or-refused, reading, reading-by}
-use Rattle.trace.specs.Records.{as-settings, as-sixteen, sixteen-of, settings, remap, activation, refresh, record-of}
+use Rattle.trace.specs.Records.{as-settings, as-sixteen, sixteen-of, numbered, settings, remap, activation, refresh, record-of}
 use Rattle.trace.specs.Spelling.{settings-numbers, unrefused}
 use Rattle.trace.specs.Texts.{lines, read, outcomes}
 use Rattle.trace.proofs.Numbers.Digits.{Room, room-zero, room-digit, room-lt}
-use Rattle.trace.proofs.Records.{places}
+use Rattle.trace.proofs.Records.{numbers-of, places}
 use Rattle.trace.proofs.Spelling.Numbers.{Narrow, no-number, one-more}
 
 is-digit-le : (b : ℕ) → is-digit b ≡ true → b - 48 ≤ 9
@@ -92,19 +92,19 @@ pub data Readables : List (Outcome Record) → Type 0 where
   no-answer : Readables []
   one-answer-more : {o : Outcome Record} {os : List (Outcome Record)} → Readable o → Readables os → Readables (o ∷ os)
 
+numbered-readable : (count : ℕ) (says : List ℕ → Record) → ((numbers : List ℕ) → Narrow numbers → Readable (accepted (says numbers)))
+    → (bytes : List ℕ) (r : Record) → numbered count says bytes ≡ some r → Readable (accepted r)
+numbered-readable count says readable bytes r e =
+    let numbers = numbers-of count says bytes r e in
+    subst (λ (r : Record). Readable (accepted r)) (numbers .2) (readable (numbers .0) (fields-narrow count bytes (numbers .0) (numbers .1)))
+
 settings-readable : (bytes : List ℕ) (r : Record) → settings bytes ≡ some r → Readable (accepted r)
 unfolding settings
-settings-readable bytes r e =
-    let numbers = bind-eq-some-iff (fields 7 bytes) _ .0 (cond-some (eqb (length bytes) 42) _ r e) in
-    let same : Set (as-settings (numbers .0)) ≡ r = cc in
-    subst (λ (r : Record). Readable (accepted r)) same (of-settings (narrow-settings (fields-narrow 7 bytes (numbers .0) (numbers .1))))
+settings-readable = numbered-readable 7 (λ numbers. Set (as-settings numbers)) (λ numbers h. of-settings (narrow-settings h))
 
 remap-readable : (bytes : List ℕ) (r : Record) → remap bytes ≡ some r → Readable (accepted r)
 unfolding remap
-remap-readable bytes r e =
-    let numbers = bind-eq-some-iff (fields 16 bytes) _ .0 (cond-some (eqb (length bytes) 96) _ r e) in
-    let same : Remap (as-sixteen (numbers .0)) ≡ r = cc in
-    subst (λ (r : Record). Readable (accepted r)) same (of-remap (narrow-sixteen (fields-narrow 16 bytes (numbers .0) (numbers .1))))
+remap-readable = numbered-readable 16 (λ numbers. Remap (as-sixteen numbers)) (λ numbers h. of-remap (narrow-sixteen h))
 
 activation-readable : (bytes : List ℕ) (r : Record) → activation bytes ≡ some r → Readable (accepted r)
 unfolding activation

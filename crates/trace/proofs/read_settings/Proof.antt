@@ -1,82 +1,37 @@
 -- `trace::read_settings` meets its contract.
 use mathlib.Core.Path.{_≡_, sym, _∙_}
-use mathlib.Core.Bool.{true, false}
-use mathlib.Core.List.{List}
-use mathlib.Core.Option.{none, some, bind}
-use Prim.Native.Nat.{ℕ, _+_, _<_}
+use mathlib.Core.Option.{none, some}
 use native.Mathlib.Omega.{arith}
 use borrow.Author.Needs.{needs}
 use borrow.Author.Tests.{not-true, not-false}
-use lib.ListN.{length, take, drop, length-drop}
-use Rattle.device.specs.declared.Settings.{Settings}
-use Rattle.trace.specs.declared.Fields.{Fields}
+use lib.ListN.{take, drop}
 use Rattle.trace.specs.declared.Record.the-variants.{Set}
-use Rattle.trace.specs.Contracts.{found-all}
-use Rattle.trace.specs.Numbers.{fields}
+use Rattle.trace.specs.Contracts.{found-all, line-fields}
 use Rattle.trace.specs.Records.{as-settings, settings}
-use Rattle.trace.proofs.Contracts.{ends-after-lt}
-use Rattle.trace.proofs.Reading.OneForm.{reading-by-accepted, reading-by-other-width, reading-by-other-bytes}
-use Rattle.trace.proofs.Records.{settings-form, settings-take, as-settings-take}
+use Rattle.trace.proofs.Reading.OneForm.{reading-numbers, reading-no-numbers}
+use Rattle.trace.proofs.Records.{as-settings-take}
 use Rattle.trace.proofs.read_settings.Statement.{statement}
 use Rattle.trace.proofs.read_settings.Tie as tie
 
 returns : tie.Need-returns
+unfolding settings found-all
 returns c =
-    let a = c .before .before .before .before .args in
-    reading-by-other-width settings-form (drop (a .at) (a .text .now)) (a .at) _ (c .line-end .ensures)
-    (sym (c .before .before .ends-after .ensures) ∙ not-true _ (c .before .if1 .taken))
-
--- the line ends behind 42 columns
-inside : (c : tie.Else1) → 42 < length (drop (c .before .before .before .args .at) (c .before .before .before .args .text .now))
-inside c = ends-after-lt 42 _ (sym (c .before .ends-after .ensures) ∙ not-false _ (c .if1 .left))
-
-read-fields-requires : tie.Need-read-fields-requires
-read-fields-requires c κs = (omega arith, omega (arith, rw length-drop at (inside c)))
-
--- what the numbers found say of the line
-module _ (text : List ℕ) (r : Fields) (long : 42 < length text) (found : found-all 7 r ≡ fields 7 text) where
-  settings-other : r .all ≡ false → settings (take 42 text) ≡ none
-  unfolding found-all bind
-  settings-other e =
-      let there : fields 7 text ≡ none = sym found ∙ rw e in
-      settings-take text (omega arith) ∙ rw there
-
-  settings-numbers : (s : Settings) → s ≡ as-settings (r .values) → r .all ≡ true → settings (take 42 text) ≡ some (Set s)
-  unfolding found-all bind
-  settings-numbers s is e =
-      let there : fields 7 text ≡ some (take 7 (r .values)) = sym found ∙ rw e in
-      settings-take text (omega arith) ∙ rw (there, as-settings-take (r .values), is)
+    let a = c .before .before .before .before .before .args in
+    let text = drop (a .at) (a .text .now) in
+    let f = c .before .before .before .line-fields in
+    let other : line-fields 7 text ≡ none = sym (f .ensures) ∙ rw (not-true (f .result .all) (c .before .if1 .taken)) in
+    reading-no-numbers 7 (λ numbers. Set (as-settings numbers)) text (a .at) _ other (c .line-end .ensures)
 
 returns-2 : tie.Need-returns-2
+unfolding settings found-all
 returns-2 c =
-    let told = c .before .before .before in
-    let else₁ = told .before in
-    let a = else₁ .before .before .before .args in
+    let a = c .before .before .before .before .before .before .args in
     let text = drop (a .at) (a .text .now) in
-    let says = settings-other text _ (inside else₁) (told .read-fields .ensures) (not-true _ (c .before .if2 .taken)) in
-    reading-by-other-bytes settings-form text (a .at) _ (c .line-end2 .ensures) says
-
-returns-3 : tie.Need-returns-3
-returns-3 c =
-    let told = c .before .before .before .before in
-    let else₁ = told .before in
-    let a = else₁ .before .before .before .args in
-    let text = drop (a .at) (a .text .now) in
-    let all = not-false _ (c .before .before .if2 .left) in
-    let says = settings-numbers text _ (inside else₁) (told .read-fields .ensures) _ (c .as-settings .ensures) all in
-    reading-by-accepted settings-form text (a .at) _ (a .at + 43) (omega arith)
-    (sym (else₁ .before .ends-after .ensures) ∙ not-false _ (else₁ .if1 .left)) says
+    let f = c .before .before .before .before .line-fields in
+    let found : line-fields 7 text ≡ some (take 7 (f .result .values)) = sym (f .ensures) ∙ rw (not-false (f .result .all) (c .before .before .if1 .left)) in
+    rw (c .as-settings .ensures, ← as-settings-take (f .result .values)) (reading-numbers 7 (λ numbers. Set (as-settings numbers)) text (a .at) (take 7 (f .result .values)) _ found (omega arith))
 
 pub read-settings-spec : {M : Type 1} → statement M
 read-settings-spec =
     tie.close
-    (tie.spec
-    (λ c κs. search needs)
-    (λ c κs. search needs)
-    returns
-    read-fields-requires
-    (λ c κs. search needs)
-    returns-2
-    (λ c κs. search needs)
-    (λ c. search needs)
-    returns-3)
+    (tie.spec (λ c κs. search needs) (λ c κs. search needs) returns (λ c κs. search needs) (λ c. search needs) returns-2)
