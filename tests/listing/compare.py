@@ -176,8 +176,8 @@ def check_cuts(tally, command):
         whole = line + b"\n" + settings + b"A     5\nR\n", middle + bound + b"R     0     2" + picked
         for rest, listing in (whole, (line, refused)):
             text = settings + rest
-            cuts = range(1, 99) if width == 97 else (1, 44, 64, 96, 97, 98, width)
-            for cut in cuts:
+            every_place = width == 97 and rest != line
+            for cut in range(1, 99) if every_place else (1, 44, 64, 96, 97, 98, width):
                 feed = in_pieces([len(settings) + cut, len(text)])
                 check_listing(tally, command, feed, f"{width} bytes, cut behind {cut}", text,
                               bound + listing)

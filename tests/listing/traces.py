@@ -381,9 +381,16 @@ def exact_size(rng, size):
     return filling(rng, size - len(end)) + end
 
 
+def bytes_before(rng, boundary):
+    """How many bytes of a line stand before the boundary, one number for each trace."""
+    if boundary == 65_536:
+        return (*range(45), *rng.sample(range(45, WIDEST + 2), 15))
+    return rng.sample(range(WIDEST + 2), 15)
+
+
 def boundary_traces(rng):
     for boundary in BOUNDARIES:
-        for before in range(WIDEST + 2) if boundary == 65_536 else rng.sample(range(WIDEST + 2), 20):
+        for before in bytes_before(rng, boundary):
             yield across(rng, boundary * rng.choice((1, 1, 2)), before)
         for difference in range(-3, 4):
             for _ in range(5 if difference == 0 else 2):
