@@ -3,9 +3,9 @@
 
     python3 bench/traces.py [--folder FOLDER] [--blast-diameter B] [--volume V]
 
-Writes PATTERN-COUNTERS.trace for each pattern of rows (uniform, hot, feinting) and for 64, 677 and
-2,048 counters, about 11 MB each, into target/traces/ unless told otherwise. They are the same
-every time.
+Writes PATTERN-COUNTERS.trace for each pattern of rows (uniform, hot, feinting, and remapped, which is
+hot with a remap loaded) and for 64, 677 and 2,048 counters, about 11 MB each, into target/traces/
+unless told otherwise. They are the same every time.
 """
 
 import argparse
@@ -65,13 +65,20 @@ def feinting(_, blast_diameter, volume, counters):
                 aggressors.pop()
 
 
-PATTERNS = (uniform, hot, feinting)
+def remapped(rng, *_):
+    return hot(rng)
+
+
+PATTERNS = (uniform, hot, feinting, remapped)
+LOADED = {remapped: (11, 4, 14, 0, 9, 2, 7, 13, 5, 15, 1, 8, 12, 6, 3, 10)}
 
 
 def write(path, pattern, blast_diameter, volume, counters):
     settings = (ROWS, blast_diameter, volume, counters, INTERVAL, WINDOW, BLOCK)
     intervals = pattern(random.Random(1), blast_diameter, volume, counters)
     with open(path, "w") as file:
+        if pattern in LOADED:
+            file.write("F" + "".join(f"{number:6}" for number in LOADED[pattern]) + "\n")
         file.write("S" + "".join(f"{number:6}" for number in settings) + "\n")
         for _ in range(WINDOW):
             file.write("".join(f"A{row:6}\n" for row in next(intervals)) + "R\n")

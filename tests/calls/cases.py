@@ -1,5 +1,5 @@
 """The calls that are compared: sweeps around limits, runs, states that no run reaches, states that
-break one rule each, and refused calls.
+break one rule each, and refused calls; a set up and an activation with any remap.
 
 A Case is a call with what it is lent, and the number that it has to answer where that is known.
 """
@@ -9,19 +9,21 @@ import collections
 from comparison import (
     BLOCK, COUNTERS, DIAMETER, INTERVAL, MAX_ROWS, ROWS, U32, VOLUME, WINDOW, alike, changed,
 )
+from remaps import (
+    IDENTITY, OURS, REFUSED, REVERSE, ROTATED, accepted_remap, logical_row, refused_remap,
+)
 from states import (
     ACTIVATIONS, BROKEN_RULES, EVENTS, MAX_COUNT, PLACES, SPILLOVER, State, TRACKED, any_settings,
-    bad_value, edges, garbage, large_settings, physical_row, random_logical_row, resize, state_of,
-    valid_state,
+    bad_value, edges, garbage, large_settings, random_physical_row, resize, state_of, valid_state,
 )
 
 # The number that the model has to give is None where only the model knows it.
-Case = collections.namedtuple("Case", "call state argument number kind")
+Case = collections.namedtuple("Case", "call state argument number kind remap")
 
 
-def case(call, state, argument=None, number=None, kind=None):
+def case(call, state, argument=None, number=None, kind=None, remap=OURS):
     """The argument is a logical row, a list of picks or another state, as the call needs."""
-    return Case(call, state, argument, number, kind)
+    return Case(call, state, argument, number, kind, remap)
 
 
 # Sweeps around limits; edges.calls has the edges with answers written by hand
@@ -39,12 +41,13 @@ def sweep_cases():
     for diameter in (2, 4):
         settings = changed(example, (DIAMETER, diameter), (COUNTERS, 12))
         for row in (0, 1, 2, 13, 14, 15):
-            for tracked in ((), range(12), range(4, 16)):
+            for tracked, remap in zip(((), range(12), range(4, 16)), SWEPT):
                 state = state_of(settings, {row: 5 for row in tracked}, 2)
                 kind = f"end of the bank, B {diameter}"
-                yield case("activate", state, physical_row(row), 0, kind)
+                yield case("activate", state, logical_row(remap, row), 0, kind, remap)
 
     yield from subarray_cases()
+    yield from remap_cases(example)
 
     several = changed(example, (VOLUME, 4), (COUNTERS, 6), (WINDOW, 6), (BLOCK, 3))
     for tracked in range(7):
@@ -58,6 +61,25 @@ def sweep_cases():
     full = state_of(example, {4: MAX_COUNT, 6: MAX_COUNT}, MAX_COUNT)
     yield case("activate", full, 5, 0, "counts at the most")
     yield case("refresh", full, [9], 1, "counts at the most")
+
+
+SWEPT = (OURS, REVERSE, IDENTITY, ROTATED)
+
+
+def remap_cases(example):
+    """Every remainder under some remaps; each number from 0 to 15 missing in turn."""
+    settings = changed(example, (ROWS, 48), (WINDOW, 12))
+    for remap in SWEPT:
+        for row in range(16, 32):
+            state = state_of(settings, {15: 2, 24: 2}, 1)
+            yield case("activate", state, row, 0, "every remainder", remap)
+    for remap in (OURS, REVERSE):
+        for place, number in enumerate(remap):
+            for other in ((number + 1) % 16, 15 - number, 16, number + 32, U32):
+                spoiled = changed(remap, (place, other))
+                state = state_of(example, {4: 3}, 1, activations=1)
+                yield case("set_up", state, None, -14, "every number missing", spoiled)
+                yield case("activate", state, 5, -14, "every number missing", spoiled)
 
 
 # The rows of banks, and edges of subarrays and ends in them.
@@ -80,10 +102,11 @@ def subarray_cases():
             kind = f"edge of a subarray, N {rows}, B {diameter}"
             for row in near:
                 like = [place for beside in (row - 1, row, row + 1) for place in alike(rows, beside)]
-                for tracked in ((), range(row - 2, row + 3), range(row - 12, row), like):
+                rows_tracked = (), range(row - 2, row + 3), range(row - 12, row), like
+                for tracked, remap in zip(rows_tracked, SWEPT):
                     counts = {place: 5 for place in tracked if place < rows}
                     state = state_of(settings, counts, 2)
-                    yield case("activate", state, physical_row(row), 0, kind)
+                    yield case("activate", state, logical_row(remap, row), 0, kind, remap)
                 yield case("refresh", state_of(settings, {row: 5}, 2), [U32] * 3, 1, kind)
             for event in sorted({end // block + beside for end in ends for beside in range(-2, 3)}):
                 if event < settings[WINDOW]:
@@ -94,10 +117,14 @@ def subarray_cases():
 
 
 def run_cases(rng, model, steps):
-    """The calls of one run from its set up, each on the memory that the one before left."""
+    """The calls of one run from its set up, each on the memory that the one before left, with one
+    remap for all or another for each."""
     settings = any_settings(rng)
     tables = [garbage(rng, settings[COUNTERS]) for _ in range(2)]
-    first = case("set_up", State(settings, *tables, garbage(rng, 4)), None, 0, "set up of a run")
+    remap = accepted_remap(rng)
+    same = rng.random() < 0.5
+    first = case("set_up", State(settings, *tables, garbage(rng, 4)), None, 0, "set up of a run",
+                 remap)
     yield first
     state = model.ask(first)[1]
     earlier = state
@@ -108,19 +135,24 @@ def run_cases(rng, model, steps):
     elif settings[ROWS] > 65_536:
         hot_rows = [row for hot in hot_rows for row in alike(settings[ROWS], hot)]
     for _ in range(steps):
-        step = run_step(rng, state, earlier, hot_rows)
+        remap = remap if same else accepted_remap(rng)
+        step = run_step(rng, state, earlier, hot_rows, remap)
         yield step
         state = model.ask(step)[1]
         if rng.random() < 0.2:
             earlier = state
 
 
-def run_step(rng, state, earlier, hot_rows):
+def run_step(rng, state, earlier, hot_rows, remap):
     """The number is left to the model, which refuses none of these for the state."""
     settings = state.settings
     chance = rng.random()
-    if chance < 0.03:
-        return case("activate", state, settings[ROWS] + rng.choice((0, 1, 7)), -9, "fault in a run")
+    if chance < 0.02:
+        row = settings[ROWS] + rng.choice((0, 1, 7))
+        return case("activate", state, row, -9, "fault in a run", remap)
+    if chance < 0.04:
+        return case("activate", state, rng.choice(hot_rows), -14, "fault in a run",
+                    refused_remap(rng, U32))
     if chance < 0.06:
         return case("refresh", state, garbage(rng, settings[VOLUME] - 1), -10, "fault in a run")
     if chance < 0.12:
@@ -130,7 +162,8 @@ def run_step(rng, state, earlier, hot_rows):
         picks = garbage(rng, settings[VOLUME] + rng.choice((0, 0, 1, 5)))
         return case("refresh", state, picks, None, "event of a run")
     row = rng.choice(hot_rows) if rng.random() < 0.8 else rng.randrange(settings[ROWS])
-    return case("activate", state, row, -22 if full else 0, "activation of a run")
+    row = logical_row(remap, row)
+    return case("activate", state, row, -22 if full else 0, "activation of a run", remap)
 
 
 # States that no run reaches
@@ -140,7 +173,9 @@ def valid_cases(rng):
     """A case of each call on an accepted state."""
     state = valid_state(rng)
     full = state.position[ACTIVATIONS] == state.settings[INTERVAL]
-    yield case("activate", state, random_logical_row(rng, state), -22 if full else 0, "valid state")
+    remap = accepted_remap(rng)
+    row = logical_row(remap, random_physical_row(rng, state))
+    yield case("activate", state, row, -22 if full else 0, "valid state", remap)
     state = valid_state(rng)
     volume = state.settings[VOLUME]
     picked = min(volume, state.position[TRACKED])
@@ -246,13 +281,14 @@ def broken_cases(rng):
     """Every rule broken in every call that tests it, and in a set up, which does not."""
     for rule, make in BROKEN_RULES.items():
         state = make(rng)
-        yield case("activate", state, random_row(rng, state), -21, f"activate: {rule}")
+        yield case("activate", state, random_row(rng, state), -21, f"activate: {rule}",
+                   accepted_remap(rng))
         state = make(rng)
         yield case("refresh", state, garbage(rng, state.settings[VOLUME]), -21, f"refresh: {rule}")
         state = make(rng)
         yield case("agree", state, valid_state(rng), -21, f"agree, first: {rule}")
         yield case("agree", valid_state(rng), state, -21, f"agree, second: {rule}")
-        yield case("set_up", make(rng), None, 0, "set up on a broken state")
+        yield case("set_up", make(rng), None, 0, "set up on a broken state", accepted_remap(rng))
 
 
 def random_row(rng, state):
@@ -268,9 +304,17 @@ def faulty_case(rng, several):
     decides."""
     call = rng.choice(("set_up", "activate", "refresh", "agree"))
     state = random_broken_state(rng) if several else valid_state(rng)
-    possible = {"set_up": (1, 8), "activate": (1, 8, 9), "refresh": (1, 8, 10), "agree": (1, 8)}
+    possible = {"set_up": (1, 8, 14), "activate": (1, 8, 9, 14), "refresh": (1, 8, 10),
+                "agree": (1, 8)}
     chosen = rng.sample(possible[call], rng.randint(1, len(possible[call])) if several else 1)
     numbers = []
+    kind = "several faults" if several else "one fault"
+    remap = accepted_remap(rng)
+    if 14 in chosen:
+        sort = rng.choice(list(REFUSED))
+        remap = refused_remap(rng, U32, sort)
+        kind = kind if several else f"remap refused, {sort}"
+        numbers.append(14)
     row = random_row(rng, state)
     if 9 in chosen:
         rows = state.settings[ROWS]
@@ -289,8 +333,7 @@ def faulty_case(rng, several):
     if call == "agree":
         return faulty_agreement(rng, state, min(numbers), several)
     argument = {"set_up": None, "activate": row, "refresh": garbage(rng, length)}[call]
-    kind = "several faults" if several else "one fault"
-    return case(call, state, argument, -min(numbers), f"{kind}: {call}")
+    return case(call, state, argument, -min(numbers), f"{kind}: {call}", remap)
 
 
 def spoil_settings(rng, state, several):

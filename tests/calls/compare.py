@@ -25,17 +25,19 @@ sys.dont_write_bytecode = True
 sys.path.insert(0, str(pathlib.Path(__file__).resolve().parents[1]))
 from cases import CUT_BANKS, case, random_cases, sweep_cases
 from comparison import (
-    BLOCK, BUILD_MODEL, COUNTERS, DIAMETER, FIXED_SEED, MODEL, ROOT, ROWS, Run, Tally, TIME_LIMIT,
-    VOLUME, WINDOW, arguments_with_seeds, build, give_up, read_figures,
+    BLOCK, BUILD_MODEL, COUNTERS, DIAMETER, FIXED_SEED, INTERVAL, MODEL, ROOT, ROWS, Run, Tally,
+    TIME_LIMIT, VOLUME, WINDOW, arguments_with_seeds, build, give_up, read_figures,
 )
+from remaps import NAMES, OURS, REFUSED, is_accepted, physical_row
 from states import (
-    BROKEN_RULES, EVENTS, PLACES, SPILLOVER, State, block_of, cuts, edges, listed, physical_row,
+    ACTIVATIONS, BROKEN_RULES, EVENTS, PLACES, SPILLOVER, State, block_of, cuts, edges, listed,
 )
 
 HERE = "tests/calls"
 OUT = "target/calls"
 WRITTEN = {"example": "document 01's example", "edges": "edges"}
 MODEL_CALLS = [MODEL, "calls"]
+WITH_REMAP = ("set_up", "activate")
 
 
 # Queries and answers of the model
@@ -47,6 +49,8 @@ def query(case):
         parts.append(listed(case.argument))
     elif case.argument is not None:
         parts.append(str(case.argument))
+    if case.call in WITH_REMAP:
+        parts += ["remap", *map(str, case.remap)]
     return " ".join(parts)
 
 
@@ -67,16 +71,18 @@ def read_lists(numbers, count):
 
 
 def read_query(text):
-    """The case of a query."""
+    """The case of a query; where a remap is left out, it is our own."""
+    text, _, remap = text.partition(" remap ")
+    remap = tuple(map(int, remap.split())) or OURS
     call, *words = text.split()
     state, rest = read_state([int(word) for word in words])
     if call == "activate":
-        return case(call, state, rest[0])
+        return case(call, state, rest[0], remap=remap)
     if call == "refresh":
         return case(call, state, read_lists(rest, 1)[0][0])
     if call == "agree":
         return case(call, state, read_state(rest)[0])
-    return case(call, state)
+    return case(call, state, remap=remap)
 
 
 def read_state(numbers):
@@ -87,12 +93,13 @@ def read_state(numbers):
 # The program of crates/test_calls: requests and answers of 32-bit words, the lowest byte first
 #
 # A request: the call, settings, position, row, lengths of both tables and of the picks, rows,
-# counts, picks; then the second state of an agreement: settings, position, lengths, rows, counts.
+# counts, picks; then the second state of an agreement: settings, position, lengths, rows, counts;
+# then the remap, which is not looked at in an event or an agreement.
 # An answer: the refusal or 0, the value, the position, rows, counts, picks, all as after the call.
 
 CALLS = ("set_up", "activate", "refresh", "agree")
 PICKS = 32  # places for the picks
-REQUEST = struct.Struct(f"<{16 + 2 * PLACES + PICKS + 13 + 2 * PLACES}I")
+REQUEST = struct.Struct(f"<{16 + 2 * PLACES + PICKS + 13 + 2 * PLACES + 16}I")
 ANSWER = struct.Struct(f"<{6 + 2 * PLACES + PICKS}I")
 MARGIN = 0xb5a2c3d4  # stands behind every list and has to stay there
 
@@ -114,10 +121,11 @@ def request(case):
     other = case.argument if case.call == "agree" else State((0,) * 7, [], [], [0] * 4)
     lengths, tables = lengths_and_tables(case.state)
     lengths2, tables2 = lengths_and_tables(other)
+    remap = case.remap if case.call in WITH_REMAP else [MARGIN] * 16
     return REQUEST.pack(
         CALLS.index(case.call), *case.state.settings, *case.state.position, row, *lengths,
         len(picks), *tables, *padded(picks, PICKS),
-        *other.settings, *other.position, *lengths2, *tables2)
+        *other.settings, *other.position, *lengths2, *tables2, *remap)
 
 
 def answer_line(case, answer):
@@ -196,8 +204,12 @@ def kinds_of(case, answer):
         yield case.kind
     if number < 0:
         yield f"{case.call} refused with {-number}"
+        if not is_accepted(case.remap):
+            yield from order_kinds(case, -number)
         return
     yield f"{case.call} accepted"
+    if case.call in WITH_REMAP:
+        yield f"{case.call} accepted, remap: {NAMES.get(case.remap, 'another')}"
     if case.state.settings[ROWS] > 65_536:
         yield f"{case.call} accepted, large bank"
     if case.call == "activate":
@@ -206,9 +218,19 @@ def kinds_of(case, answer):
         yield from event_kinds(case)
 
 
+def order_kinds(case, number):
+    """Of a refused remap and another fault, which one decides."""
+    if number < 14:
+        yield f"{case.call}: {number} before 14"
+    elif case.kind == "several faults: activate":
+        yield "activate: 14 before 21"
+    elif case.call == "activate" and case.state.position[ACTIVATIONS] == case.state.settings[INTERVAL]:
+        yield "activate: 14 before 22"
+
+
 def activation_kinds(case, after):
     settings, before, now = case.state.settings, case.state.tracked(), after.tracked()
-    row = physical_row(case.argument)
+    row = physical_row(case.remap, case.argument)
     if row in before:
         yield "activation: the row itself was tracked"
         del before[row]
@@ -263,8 +285,15 @@ ENDS = ("row 0", "the last row", "a subarray's first row", "a subarray's last ro
 EXPECTED_KINDS = (
     *(f"{call} accepted{bank}" for call in ("set_up", "activate", "refresh", "agree")
       for bank in ("", ", large bank")),
-    *(f"set_up refused with {k}" for k in (1, 2, 3, 4, 5, 6, 7, 8)),
-    *(f"activate refused with {k}" for k in (1, 2, 3, 4, 5, 6, 7, 8, 9, 21, 22)),
+    *(f"{call} accepted, remap: {name}" for call in WITH_REMAP
+      for name in (*NAMES.values(), "another")),
+    *(f"set_up refused with {k}" for k in (1, 2, 3, 4, 5, 6, 7, 8, 14)),
+    *(f"activate refused with {k}" for k in (1, 2, 3, 4, 5, 6, 7, 8, 9, 14, 21, 22)),
+    *(f"set_up: {k} before 14" for k in (1, 2, 3, 4, 5, 6, 7, 8)),
+    *(f"activate: {k} before 14" for k in (1, 2, 3, 4, 5, 6, 7, 8, 9)),
+    *(f"activate: 14 before {k}" for k in (21, 22)),
+    *(f"remap refused, {sort}: {call}" for sort in REFUSED for call in WITH_REMAP),
+    "every remainder", "every number missing",
     *(f"refresh refused with {k}" for k in (1, 2, 3, 4, 5, 6, 7, 8, 10, 21)),
     *(f"agree refused with {k}" for k in (1, 2, 3, 4, 5, 6, 7, 8, 21)),
     *(f"{call}: {rule}" for rule in BROKEN_RULES
@@ -283,8 +312,7 @@ EXPECTED_KINDS = (
     "counts at the most", *(f"end of the bank, B {diameter}" for diameter in (2, 4)),
     *(f"edge of a subarray, N {rows}, B {diameter}" for rows in CUT_BANKS for diameter in (2, 4)),
     *(f"activation: cut at {end}, B {diameter}" for end in ENDS for diameter in (2, 4)),
-    # the remap leaves remainders 0 and 1 where they are, so no remapped row is cut at a lower end
-    *(f"activation: remapped row cut at {end}" for end in ENDS if "last" in end),
+    *(f"activation: remapped row cut at {end}" for end in ENDS),
     *(f"event: picked row cut at {end}" for end in ENDS),
     "event: block across an edge of subarrays",
     "activation: the row itself was tracked", "activation: a count rises",

@@ -52,11 +52,6 @@ def state_of(settings, counts_by_row, spillover, events=0, activations=0):
     return State(settings, rows + unused, counts + unused, position)
 
 
-def physical_row(logical_row):
-    """Remainders 2 and 3, 6 and 7, 10 and 11, 14 and 15 change places; so it is its own inverse."""
-    return logical_row ^ 1 if logical_row % 4 >= 2 else logical_row
-
-
 def edges(settings):
     """The rows at which a subarray other than the first begins."""
     return range(SUBARRAY_ROWS, settings[ROWS], SUBARRAY_ROWS)
@@ -169,7 +164,7 @@ def rows_alike(rng, settings, count):
     return [row for first in firsts for row in alike(rows, first)][:count]
 
 
-def random_logical_row(rng, state):
+def random_physical_row(rng, state):
     """A row of the bank: any one, one at an end or at an edge of a subarray, or one at or beside a
     tracked row, or beside one that is alike."""
     rows = state.settings[ROWS]
@@ -180,7 +175,7 @@ def random_logical_row(rng, state):
     elif tracked and rng.random() < 0.6:
         row = rng.choice(alike(rows, rng.choice(tracked))) + rng.randint(-2, 2)
         row = min(rows - 1, max(0, row))
-    return physical_row(row)
+    return row
 
 
 def garbage(rng, length):

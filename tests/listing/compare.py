@@ -4,7 +4,7 @@
     python3 tests/listing/compare.py [--seed N] [--program COMMAND]
 
 Builds the model, then compares on document 01's example (example.*), on edges with a listing
-written by hand (edges.*, subarrays.*, large.*), on traces with the listings that are kept (kept/),
+written by hand (edges.*, subarrays.*, large.*, remaps.*), on traces with the listings that are kept (kept/),
 and on random traces (traces.py), with one fixed and one fresh seed (--seed repeats a fresh one).
 Traces come from a file, through a pipe, or in small pieces through a pipe. What differs stays in
 target/listing/.
@@ -29,21 +29,24 @@ from failures import (
     check_failures, input_fails_after_lines, input_unreadable, output_fills, output_full, reader_leaves,
 )
 from programs import difference, from_file, in_pieces, random_pieces, through_pipe
-from traces import KINDS, long_lines, long_trace, plain_trace, random_traces
+from remaps import REVERSE
+from traces import (
+    KINDS, loaded_remaps, long_lines, long_trace, plain_trace, random_traces, wide_lines,
+)
 
 HERE = "tests/listing"
 OUT = "target/listing"
 MODEL_LISTING = [MODEL, "listing"]
 
-WRITTEN = ("example", "edges", "subarrays", "large")
+WRITTEN = ("example", "edges", "subarrays", "large", "remaps")
 KEPT = ("smallest_bank", "bank_of_1040", "bank_of_65520", "bank_of_65536", "many_counters",
         "refused_lines", "almost_good_lines", "long_lines_cut_off")
 
-TRICKLES = 15  # traces in small pieces for each seed
+TRICKLES = 20  # traces in small pieces for each seed
 MOST_BYTE_BY_BYTE = 5000  # bytes of a trace
 
 FAILURES = (output_full, reader_leaves, output_fills, input_unreadable, input_fails_after_lines)
-REFUSALS = (1, 2, 3, 4, 5, 6, 7, 9, 11, 22)  # those that a trace can earn
+REFUSALS = (1, 2, 3, 4, 5, 6, 7, 9, 11, 14, 22)  # those that a trace can earn
 
 
 # Comparing
@@ -79,7 +82,8 @@ def compare(tally, kinds, command, seed, name):
         count += 1
         compare_one(tally, kinds, command, feed, f"{name} {count} ({kind})", text, kind)
     for _ in range(TRICKLES):
-        text = plain_trace(rng, rng.randint(1, 60)) if rng.random() < 0.8 else long_lines(rng)
+        make = rng.choice((plain_trace, plain_trace, loaded_remaps, wide_lines, long_lines))
+        text = make(rng)
         feed = in_pieces(random_pieces(rng, len(text)))
         count += 1
         compare_one(tally, kinds, command, feed, f"{name} {count} (in pieces)", text, "in pieces")
@@ -159,6 +163,26 @@ def events_alone(rows, window, left):
     return text.encode(), listing.encode()
 
 
+def check_cuts(tally, command):
+    """An `F` line in two pieces, cut at every place; lines about as wide; both with byte 10, and
+    then a tracker that shows whether the remap was loaded, and without."""
+    tally.begin("lines about as wide as an F line, in two pieces")
+    settings, bound = b"S    32     2     4     4     4     4     8\n", b"B        35        70\n"
+    remap_line = b"F" + b"".join(b"%6d" % number for number in REVERSE)
+    refused = b"X         2    11\n"
+    for width in (96, 97, 98, 99, 130):
+        line = remap_line.ljust(width)[:width]
+        middle, picked = (b"", b"     9    11\n") if width == 97 else (refused, b"     4     6\n")
+        whole = line + b"\n" + settings + b"A     5\nR\n", middle + bound + b"R     0     2" + picked
+        for rest, listing in (whole, (line, refused)):
+            text = settings + rest
+            every_place = width == 97 and rest != line
+            for cut in range(1, 99) if every_place else (1, 44, 64, 96, 97, 98, width):
+                feed = in_pieces([len(settings) + cut, len(text)])
+                check_listing(tally, command, feed, f"{width} bytes, cut behind {cut}", text,
+                              bound + listing)
+
+
 def check_kept(tally, command):
     tally.begin("listings that are kept")
     check_files(tally, command, [f"kept/{name}" for name in KEPT])
@@ -187,6 +211,7 @@ def main():
     tally = Tally()
     kinds = collections.Counter()
     check_written(tally, command)
+    check_cuts(tally, command)
     check_kept(tally, command)
     check_broken(tally, command)
     compare(tally, kinds, command, FIXED_SEED, "fixed")

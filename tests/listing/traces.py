@@ -4,11 +4,13 @@ from comparison import (
     INTERVAL, MAX_ROWS, MAX_WINDOW, ROWS, WINDOW, accepted_settings, alike, changed,
     faulty_settings, limit_values, spread,
 )
+from remaps import OURS, accepted_remap, logical_row, refused_remap
 
 MOST = 999_999  # in six columns
-SPECIAL_BYTES = b"\x00\x01\t\n\r +-09ARSX\x7f\x80\xff"
-LINE_SIZES = (0, 1, 2, 6, 7, 8, 9, 42, 43, 44, 45, 63, 64, 65, 4095, 4096, 4097, 65_535, 65_536,
-              65_537, 131_072, 200_000)
+SPECIAL_BYTES = b"\x00\x01\t\n\r +-09AFRSX\x7f\x80\xff"
+LINE_SIZES = (0, 1, 2, 6, 7, 8, 9, 42, 43, 44, 45, 63, 64, 65, 96, 97, 98, 99, 4095, 4096, 4097,
+              65_535, 65_536, 65_537, 131_072, 200_000)
+WIDEST = 97  # bytes of an `F` line, byte 10 not counted
 BOUNDARIES = (64, 4096, 65_536)
 
 
@@ -28,6 +30,25 @@ def settings_line(rng, settings):
 
 def activation_line(rng, row):
     return b"A" + field(rng, row) + b"\n"
+
+
+def remap_line(rng, remap):
+    return b"F" + b"".join(field(rng, number) for number in remap) + b"\n"
+
+
+def remap_lines(rng, most):
+    """At most so many `F` lines, of which one in three is refused."""
+    return b"".join(
+        remap_line(rng, refused_remap(rng, MOST) if rng.random() < 0.3 else accepted_remap(rng))
+        for _ in range(rng.randint(0, most)))
+
+
+def loaded(rng):
+    """A remap and the lines that load it; half the time our own, which needs none."""
+    if rng.random() < 0.5:
+        return OURS, b""
+    remap = accepted_remap(rng)
+    return remap, remap_line(rng, remap)
 
 
 def small_settings(rng):
@@ -53,8 +74,10 @@ def body(rng, settings, count, hot_rows=None):
     lines, activations = [], 0
     for _ in range(count):
         chance = rng.random()
-        if chance < 0.03:
+        if chance < 0.02:
             lines.append(b"\n")
+        elif chance < 0.03:
+            lines.append(remap_lines(rng, 2))
         elif chance < 0.05:
             row = min(MOST, rng.choice((rows, rows + 1, MOST)))
             lines.append(activation_line(rng, row))
@@ -72,9 +95,10 @@ def body(rng, settings, count, hot_rows=None):
 
 
 def plain_trace(rng, count=None):
-    """An `S` line and what follows it."""
+    """An `S` line and what follows it, at times behind `F` lines."""
     settings = any_settings(rng)
-    return settings_line(rng, settings) + body(rng, settings, count or spread(rng, 1, 400))
+    text = remap_lines(rng, rng.choice((0, 0, 2))) + settings_line(rng, settings)
+    return text + body(rng, settings, count or spread(rng, 1, 400))
 
 
 def many_settings(rng):
@@ -83,9 +107,25 @@ def many_settings(rng):
     for _ in range(rng.randint(2, 12)):
         settings = rng.choice((any_settings, faulty_settings))(rng)
         settings = tuple(min(number, MOST) for number in settings)
-        text += settings_line(rng, settings)
+        text += remap_lines(rng, rng.choice((0, 1, 2))) + settings_line(rng, settings)
         text += body(rng, changed(any_settings(rng), (ROWS, max(1, settings[ROWS]))),
                      rng.randint(0, 20))
+    return text
+
+
+def loaded_remaps(rng):
+    """`F` lines before, behind and between `S` lines, and events soon after activations: the rows
+    picked show which remap a tracker has."""
+    text = b""
+    for _ in range(rng.randint(3, 12)):
+        settings = small_settings(rng)
+        if rng.random() < 0.2:
+            settings = changed(settings, (rng.randrange(7), 0))
+        text += remap_lines(rng, rng.choice((0, 1, 3))) + settings_line(rng, settings)
+        for _ in range(rng.randint(1, 3)):
+            text += remap_lines(rng, rng.choice((0, 0, 1)))
+            rows = rng.choices(range(max(16, settings[ROWS])), k=rng.randint(1, 3))
+            text += b"".join(activation_line(rng, row) for row in rows) + b"R\n"
     return text
 
 
@@ -113,8 +153,9 @@ def subarray_edges(rng):
                 rng.choice((4, 9, 30)), -(-rows // block) + rng.choice((0, 2)), block)
     possible = (512, 1024, rows) if rows <= 65_536 else (65_536, 131_072, rows, rows)
     edge = rng.choice([edge for edge in possible if edge <= rows])
-    near = [row for row in range(edge - 4, edge + 4) if row < rows]
-    text = settings_line(rng, settings) + b"R\n" * (edge // block - rng.randint(1, 3))
+    remap, text = loaded(rng)
+    near = [logical_row(remap, row) for row in range(edge - 4, edge + 4) if row < rows]
+    text += settings_line(rng, settings) + b"R\n" * (edge // block - rng.randint(1, 3))
     for _ in range(rng.randint(4, 12)):
         hammered = rng.choices(near, k=rng.randint(1, settings[INTERVAL]))
         text += b"".join(activation_line(rng, row) for row in hammered) + b"R\n"
@@ -139,22 +180,28 @@ def large_banks(rng):
         alike(rows, rng.randrange(rows)),
         [row + rng.randint(0, 3) for row in alike(rows - 3, rng.randrange(rows - 3))],
     ))
-    return settings_line(rng, settings) + body(rng, settings, rng.randint(100, 600), hot_rows)
+    remap, text = loaded(rng)
+    hot_rows = [logical_row(remap, row) for row in hot_rows]
+    text += settings_line(rng, settings)
+    return text + body(rng, settings, rng.randint(100, 600), hot_rows)
 
 
 def long_trace(rng):
-    """A whole window of the largest bank and the start of the next: in each interval a few hot
-    rows, and rows of the whole bank. With 40 and 64 rows a block, the last ones are empty."""
-    rows, edges = MAX_ROWS, near_edges(MAX_ROWS)
+    """A whole window of the largest bank and the start of the next, under a loaded remap: in each
+    interval a few hot rows, and rows of the whole bank. With 40 and 64 rows a block, the last ones
+    are empty."""
+    rows, remap = MAX_ROWS, accepted_remap(rng)
+    edges = [logical_row(remap, row) for row in near_edges(rows)]
     settings = (rows, rng.choice((2, 4)), 4, 64, 40, MAX_WINDOW, rng.choice((32, 40, 64)))
-    lines = [settings_line(rng, settings)]
+    lines = [remap_line(rng, remap), settings_line(rng, settings)]
     for _ in range(settings[WINDOW] + 200):
         hot_rows = rng.choice((rng.choices(edges, k=2), alike(rows, rng.randrange(rows))))
         chosen = rng.choices(hot_rows, k=20) + rng.choices(range(rows), k=rng.randint(10, 21))
         lines += [activation_line(rng, row) for row in chosen]
         if rng.random() < 0.05:
             lines.append(rng.choice((activation_line(rng, rows), activation_line(rng, rows + 1),
-                                     b"A 65536 \n", b"A0262143\n", b"R 1\n", b"\n")))
+                                     b"A 65536 \n", b"A0262143\n", b"R 1\n", b"\n",
+                                     remap_lines(rng, 2))))
         lines.append(b"R\n")
     return b"".join(lines)
 
@@ -170,14 +217,27 @@ def bad_field(rng):
     )).encode()
 
 
+def bad_remap_line(rng):
+    """Almost an `F` line of the right form, without byte 10."""
+    fields = [field(rng, number) for number in accepted_remap(rng)]
+    good = b"F" + b"".join(fields)
+    fields[rng.choice((0, 15, rng.randrange(16)))] = bad_field(rng)
+    return rng.choice((
+        b"F" + b"".join(fields), b"F" + b"".join(fields), good[:-6], good + b"     1", good + b" ",
+        good + b"0", good[:-1], good.lower(), b" " + good, b"S" + good[1:], b"F", good[:43], good[:7],
+    ))
+
+
 def bad_line(rng, good):
     """Almost a good line; `good` is the line of accepted settings. Both are without byte 10."""
     fields = [good[1 + 6 * place:7 + 6 * place] for place in range(7)]
     fields[rng.randrange(7)] = bad_field(rng)
+    if rng.random() < 0.2:
+        return bad_remap_line(rng)
     return rng.choice((
         b"A" + bad_field(rng), b"A" + bad_field(rng), b"S" + b"".join(fields),
         good[:-6], good + b"     1", good + b" ", good[:-1], good.lower(), b" " + good,
-        b"a     1", b" A     1", b"A     1 ", b"A     1     1", b"A", b"S", b"r", b" R", b"R ",
+        b"F" + good[1:], b"a     1", b" A     1", b"A     1 ", b"A     1     1", b"A", b"S", b"r", b" R", b"R ",
         b"R     1", b" ", b"      ", b"B        30        60",
     ))
 
@@ -197,7 +257,7 @@ def no_settings(rng):
 
 
 def damaged(rng):
-    text = bytearray(rng.choice((plain_trace, many_settings))(rng))
+    text = bytearray(rng.choice((plain_trace, many_settings, loaded_remaps))(rng))
     for _ in range(rng.choice((1, 1, 3, 10, 40))):
         place = rng.randrange(len(text))
         byte = rng.choice((rng.choice(SPECIAL_BYTES), rng.randrange(256)))
@@ -230,7 +290,7 @@ def crlf(rng):
 
 def cut_off(rng):
     """Ends anywhere, mostly within a line."""
-    text = plain_trace(rng)
+    text = rng.choice((plain_trace, plain_trace, loaded_remaps))(rng)
     return text[:rng.randint(1, len(text))] if rng.random() < 0.7 else text[:-1]
 
 
@@ -240,7 +300,8 @@ def noise(rng):
 
 def long_line(rng, size):
     """A line of so many bytes, byte 10 not counted: at times good ones, and more behind."""
-    good = rng.choice((b"R", b"A     1", b"A000000", settings_line(rng, small_settings(rng))[:-1]))
+    good = rng.choice((b"R", b"A     1", b"A000000", settings_line(rng, small_settings(rng))[:-1],
+                       remap_line(rng, accepted_remap(rng))[:-1]))
     filling = rng.choice((b" ", b"0", b"1", b"R", b"\x00", b"\xff", b"\r"))
     return rng.choice((good, b"S", b"A", filling)).ljust(size, filling)[:size] + b"\n"
 
@@ -251,6 +312,17 @@ def long_lines(rng):
         size = rng.choice((rng.choice(LINE_SIZES), rng.randint(0, 200_000)))
         text += long_line(rng, size) + body(rng, small_settings(rng), 5)
     return text if rng.random() < 0.7 else text + long_line(rng, rng.choice(LINE_SIZES))[:-1]
+
+
+def wide_lines(rng):
+    """Lines about as wide as an `F` line, good or not, and the last one at times without byte 10."""
+    text = plain_trace(rng, 2)
+    for _ in range(rng.randint(1, 5)):
+        width = WIDEST + rng.choice((0, 0, -2, -1, 1, 2, 3, rng.randint(-60, 60)))
+        line = rng.choice((remap_line(rng, accepted_remap(rng))[:-1], bad_remap_line(rng)))
+        text += line.ljust(width, rng.choice((b" ", b"0", b"5")))[:width] + b"\n"
+        text += rng.choice((b"", plain_trace(rng, 5)))
+    return text if rng.random() < 0.5 else text[:-1]
 
 
 def much_output(rng):
@@ -288,7 +360,11 @@ def filling(rng, size):
 def across(rng, boundary, before):
     """A line with so many of its bytes before the boundary, and some behind it."""
     settings = small_settings(rng)
-    line = settings_line(rng, settings) if before > 7 or rng.random() < 0.5 else b"A     5\n"
+    line = settings_line(rng, settings)
+    if before > 43 or rng.random() < 0.3:
+        line = remap_line(rng, accepted_remap(rng)) + line
+    elif before < 8 and rng.random() < 0.5:
+        line = b"A     5\n"
     before = min(before, len(line), boundary)
     return filling(rng, boundary - before) + line + body(rng, settings, 6)
 
@@ -296,7 +372,8 @@ def across(rng, boundary, before):
 def exact_size(rng, size):
     """So many bytes, the last one at times no byte 10 though all else is good."""
     start = settings_line(rng, small_settings(rng))
-    end = start + rng.choice((b"R\n", b"A     5\n", b"A     5\nR\n", b"R\n" + start, b"\n"))
+    end = start + rng.choice((b"R\n", b"A     5\n", b"A     5\nR\n", b"R\n" + start, b"\n",
+                              remap_line(rng, accepted_remap(rng))))
     if rng.random() < 0.6:
         end = end[:-1]
     if len(end) > size:
@@ -304,9 +381,16 @@ def exact_size(rng, size):
     return filling(rng, size - len(end)) + end
 
 
+def bytes_before(rng, boundary):
+    """How many bytes of a line stand before the boundary, one number for each trace."""
+    if boundary == 65_536:
+        return (*range(45), *rng.sample(range(45, WIDEST + 2), 15))
+    return rng.sample(range(WIDEST + 2), 15)
+
+
 def boundary_traces(rng):
     for boundary in BOUNDARIES:
-        for before in range(0, 45) if boundary == 65_536 else rng.sample(range(45), 15):
+        for before in bytes_before(rng, boundary):
             yield across(rng, boundary * rng.choice((1, 1, 2)), before)
         for difference in range(-3, 4):
             for _ in range(5 if difference == 0 else 2):
@@ -318,6 +402,7 @@ def boundary_traces(rng):
 PLANS = (  # how a trace is made, its kind, and how many
     (plain_trace, "plain", 100),
     (many_settings, "several S", 40),
+    (loaded_remaps, "loaded remaps", 60),
     (limit_settings, "settings at their limits", 30),
     (subarray_edges, "edges of subarrays", 80),
     (large_banks, "large banks", 60),
@@ -329,6 +414,7 @@ PLANS = (  # how a trace is made, its kind, and how many
     (cut_off, "cut off", 40),
     (noise, "noise", 10),
     (long_lines, "long lines", 40),
+    (wide_lines, "lines as wide as F", 30),
     (much_output, "much output", 3),
 )
 KINDS = ("empty input", "single byte", *(kind for _, kind, _ in PLANS), "buffer boundary")
@@ -338,7 +424,7 @@ def random_traces(rng):
     """Some hundred pairs of a kind and a trace."""
     yield "empty input", b""
     yield "single byte", b"\n"
-    yield "single byte", rng.choice((b"R", b"S", b"A", b" ", b"\x00", b"\r", b"\xff"))
+    yield "single byte", rng.choice((b"R", b"S", b"A", b"F", b" ", b"\x00", b"\r", b"\xff"))
     for make, kind, count in PLANS:
         for _ in range(count):
             yield kind, make(rng)

@@ -13,9 +13,10 @@ from records import (
     EXTREMES, FAULTS, before_settings, faulty_case, good_records, refused_first, respelled,
     settings_that_count, spelled, unfinished,
 )
+from remaps import REVERSE
 from traces import (
-    cut_off, damaged, large_banks, limit_settings, many_settings, near_misses, noise, plain_trace,
-    special_bytes,
+    cut_off, damaged, large_banks, limit_settings, loaded_remaps, many_settings, near_misses, noise,
+    plain_trace, special_bytes, wide_lines,
 )
 
 MOST_LINES = 64
@@ -98,11 +99,12 @@ def blank_calls():
             yield Call(kind, b"\n" * count, length, 0, b"")
 
 
-def full_call():
-    """A trace that fills its places, 46 settings and 12 events."""
-    records = [("S", EXTREMES[1])] * 46 + [("R", ())] * 12
-    for length, number in ((2047, -13), (2048, 2048), (2049, 2048)):
-        yield Call("all places for the trace", spelled(records), length, number, spelled(records))
+def full_calls():
+    """Traces that fill their places: 46 settings and 12 events; 20 remaps and 2 settings."""
+    for records in ([("S", EXTREMES[1])] * 46 + [("R", ())] * 12,
+                    [("F", REVERSE)] * 20 + [("S", EXTREMES[1])] * 2):
+        for length, number in ((2047, -13), (2048, 2048), (2049, 2048)):
+            yield Call("all places for the trace", spelled(records), length, number, spelled(records))
 
 
 def faulty_calls(rng, make):
@@ -123,8 +125,8 @@ def with_fault(kind, make):
 
 def any_text(rng):
     """A text of which only the model knows the answer."""
-    make = rng.choice((plain_trace, many_settings, limit_settings, large_banks, near_misses,
-                       damaged, special_bytes, cut_off, noise))
+    make = rng.choice((plain_trace, many_settings, loaded_remaps, limit_settings, large_banks,
+                       near_misses, damaged, special_bytes, cut_off, noise, wide_lines))
     text = make(rng)[:rng.randint(1, TRACE_PLACES)]
     first = text.split(b"\n")[:MOST_LINES]
     text = b"\n".join(first) + (b"\n" if len(first) == MOST_LINES else b"")
@@ -136,7 +138,7 @@ def any_text(rng):
 def random_calls(rng):
     """Some thousand calls."""
     yield from blank_calls()
-    yield from full_call()
+    yield from full_calls()
     for _ in range(150):
         yield from accepted_calls(rng)
     for _ in range(15):
@@ -153,8 +155,8 @@ EXPECTED_KINDS = (
                                   "without room for the last record", "short", "empty")),
     *(f"{kind}, text {room}" for kind in ("blank lines", "no line") for room in ("longer", "empty")),
     "all places for the trace", "any text",
-    *(f"refusal {number}, text {room}" for number in (1, 2, 3, 4, 5, 6, 7, 9, 11)
+    *(f"refusal {number}, text {room}" for number in (1, 2, 3, 4, 5, 6, 7, 9, 11, 14)
       for room in ("short", "long enough")),
     "call accepted",
-    *(f"call refused with {number}" for number in (1, 2, 3, 4, 5, 6, 7, 9, 11, 13)),
+    *(f"call refused with {number}" for number in (1, 2, 3, 4, 5, 6, 7, 9, 11, 13, 14)),
 )

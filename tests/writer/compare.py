@@ -51,7 +51,7 @@ TRICKLES = 15  # traces in small pieces for each seed
 PAIRS = 30  # pairs of traces, and traces that are listed, for each seed
 MEGABYTE = 10**6
 MOST_GROWTH = 1000  # kilobytes by which a long input may raise the program's memory
-REFUSALS = (1, 2, 3, 4, 5, 6, 7, 9, 11)  # those that a line can earn
+REFUSALS = (1, 2, 3, 4, 5, 6, 7, 9, 11, 14)  # those that a line can earn
 
 
 # What tracefmt writes

@@ -10,7 +10,10 @@ import itertools
 from comparison import (
     BLOCK, COUNTERS, DIAMETER, INTERVAL, MAX_ROWS, ROWS, VOLUME, WINDOW, changed, spread,
 )
-from traces import BOUNDARIES, MOST, any_settings, bad_line, long_line, random_traces, small_settings
+from remaps import IDENTITY, accepted_remap, refused_remap
+from traces import (
+    BOUNDARIES, MOST, any_settings, bad_line, bytes_before, long_line, random_traces, small_settings,
+)
 
 # The spelling is what tracefmt has to write, and the fault may be None. Where only the model knows
 # them, the spelling is None.
@@ -21,7 +24,7 @@ EXTREMES = (
     (MAX_ROWS, 2, 1, 1, 1, 4096, 64),
 )
 STYLES = ((0, 0), (0.1, 0.1), (1, 0), (0, 0.5), (1, 1))  # how many leading zeros and blank lines
-LONG_SIZES = (44, 45, 63, 64, 65, 4095, 4096, 4097, 65_535, 65_536, 65_537, 131_072, 200_000)
+LONG_SIZES = (44, 45, 63, 64, 65, 96, 98, 99, 4095, 4096, 4097, 65_535, 65_536, 65_537, 131_072, 200_000)
 
 
 # Spelling
@@ -64,20 +67,28 @@ def settings_record(rng):
     return "S", rng.choice(EXTREMES) if rng.random() < 0.1 else any_settings(rng)
 
 
+def remap_record(rng):
+    return "F", accepted_remap(rng)
+
+
 def row_record(rng, settings):
     rows = settings[ROWS]
     return "A", (rng.choice((0, rows - 1, rng.randrange(rows), rng.randrange(rows))),)
 
 
 def good_records(rng, count):
-    """Settings first; rows are held against those last before them, and no tracker is."""
-    records = [settings_record(rng)]
-    last = records[0][1]
+    """Settings first, at times behind remaps; rows are held against the settings last before them,
+    and no tracker is."""
+    records = [remap_record(rng) for _ in range(rng.choice((0, 0, 0, 1, 2)) if count > 3 else 0)]
+    records.append(settings_record(rng))
+    last = records[-1][1]
     while len(records) < count:
         chance = rng.random()
         if chance < 0.06:
             records.append(rng.choice((settings_record(rng), ("S", last))))
             last = records[-1][1]
+        elif chance < 0.1:
+            records.append(remap_record(rng))
         elif chance < 0.25:
             records.append(("R", ()))
         else:
@@ -92,18 +103,25 @@ def last_settings(records):
 def one_record_changed(rng, records):
     """Another list of records, without a fault too."""
     records = list(records)
-    place = rng.randrange(1, len(records))
+    place = rng.randrange(len(records))
     letter, numbers = records[place]
     change = rng.choice(("put in", "number", "number", "drop", "append"))
     if change == "drop" and letter != "S":
         del records[place]
     elif change == "number" and letter == "A":
         records[place] = "A", (numbers[0] ^ 1,)
+    elif change == "number" and letter == "F":
+        records[place] = "F", two_exchanged(rng, numbers)
     elif change == "append":
         records.append(("R", ()))
     else:
-        records.insert(place, ("R", ()))
+        records.insert(place, remap_record(rng))
     return records
+
+
+def two_exchanged(rng, remap):
+    one, other = rng.sample(range(16), 2)
+    return changed(remap, (one, remap[other]), (other, remap[one]))
 
 
 def good_cases(rng, kind, count):
@@ -121,6 +139,9 @@ def every_width():
         for width in range(len(str(number)), 7):
             records.append(("A", (number,)))
             text += b"A" + str(number).zfill(width).rjust(6).encode() + b"\n"
+    for width in range(1, 7):
+        records.append(("F", IDENTITY))
+        text += b"F" + b"".join(str(number).zfill(width).rjust(6).encode() for number in IDENTITY) + b"\n"
     return Case("every width", text, spelled(records), None)
 
 
@@ -171,6 +192,10 @@ def row_fault(rng, settings):
     return respelled(rng, [("A", (row,))], (0.2, 0)), 9
 
 
+def remap_fault(rng, _):
+    return respelled(rng, [("F", refused_remap(rng, MOST))], (0.2, 0)), 14
+
+
 def form_fault(rng, settings):
     return bad_line(rng, spelled([("S", settings)])[:-1]) + b"\n", 11
 
@@ -186,6 +211,7 @@ def long_fault(rng, _):
 FAULTS = {
     **{f"settings refused with {number}": settings_fault(number) for number in range(1, 8)},
     "row not in the bank": row_fault,
+    "remap refused": remap_fault,
     "line of another form": form_fault,
 }
 
@@ -200,31 +226,41 @@ def faulty_case(rng, kind, make, count):
 
 
 def settings_that_count(rng):
-    """A row that a bank before, or behind, would have, and the last one has not."""
+    """A row that a bank before, or behind, would have, and the last one has not, at times with a
+    remap since."""
     large = changed(rng.choice(EXTREMES[1:]), (ROWS, rng.choice((1024, 65_536, 131_072, MAX_ROWS))))
     small = changed(large, (ROWS, rng.choice((16, 512, large[ROWS] // 2))))
     row = rng.randint(small[ROWS], large[ROWS] - 1)
     before = [("S", large), ("A", (row,))] if rng.random() < 0.7 else []
     records = before + [("S", small), ("A", (0,)), ("R", ())]
+    if rng.random() < 0.5:
+        records.append(remap_record(rng))
     text = respelled(rng, records)
     rest = spelled([("A", (row,)), ("S", large), ("A", (row,))])
     return Case("row of another bank", text + rest, spelled(records), (line_count(text) + 1, 9))
 
 
 def before_settings(rng):
-    """A row or an event with at most blank lines before it."""
+    """A row or an event with at most blank lines and remaps before it."""
     line = rng.choice((b"R\n", b"A     0\n", b"A     5\n", b"A999999\n"))
-    blanks = b"\n" * rng.choice((0, 0, 1, 5))
-    return Case("before any settings", blanks + line + spelled(good_records(rng, 5)), b"",
-                (len(blanks) + 1, 11))
+    records, text = nothing_but_remaps(rng)
+    return Case("before any settings", text + line + spelled(good_records(rng, 5)), spelled(records),
+                (line_count(text) + 1, 11))
+
+
+def nothing_but_remaps(rng):
+    """Some remaps or none, and a text of them with blank lines."""
+    records = [remap_record(rng) for _ in range(rng.choice((0, 0, 1, 3)))]
+    return records, b"\n" * rng.choice((0, 0, 1, 5)) + respelled(rng, records)
 
 
 def refused_first(rng):
     """Refused settings before all others; rows behind them must not be tried."""
     number = rng.randint(1, 7)
-    blanks = b"\n" * rng.choice((0, 0, 1, 5))
-    text = blanks + spelled([("S", refused_settings(rng, number)), ("A", (0,)), ("R", ())])
-    return Case("refused settings first", text, b"", (len(blanks) + 1, number))
+    records, text = nothing_but_remaps(rng)
+    rest = spelled([("S", refused_settings(rng, number)), ("A", (0,)), ("R", ())])
+    return Case("refused settings first", text + rest, spelled(records),
+                (line_count(text) + 1, number))
 
 
 def unfinished(rng):
@@ -276,8 +312,10 @@ def across_boundary(rng, boundary, before, of_output):
         size = max(44, boundary - before - before % 2)
     records = records_of_size(rng, size)
     text = with_blank_lines(rng, records, blanks)
-    following = [settings_record(rng)]
-    following += [("R", ())] * 3 + [row_record(rng, following[0][1])] * 3
+    settings = settings_record(rng)
+    following = [settings] + [("R", ())] * 3 + [row_record(rng, settings[1])] * 3
+    if before > 43 or rng.random() < 0.3:
+        following = [remap_record(rng)] + following
     chance = rng.random()
     if chance < 0.2:
         line, refusal = form_fault(rng, small_settings(rng))
@@ -305,7 +343,7 @@ def exact_size(rng, size):
 
 def boundary_cases(rng):
     for boundary in BOUNDARIES:
-        for before in range(45) if boundary == 65_536 else rng.sample(range(45), 15):
+        for before in bytes_before(rng, boundary):
             for of_output in (False, True):
                 yield across_boundary(rng, boundary * rng.choice((1, 1, 2)), before, of_output)
         for size in range(boundary - 3, boundary + 4):

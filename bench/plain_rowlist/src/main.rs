@@ -6,7 +6,7 @@ mod tracker;
 
 use std::io::{self, BufRead, BufReader, BufWriter, Write};
 
-use tracker::{Settings, Tracker};
+use tracker::{is_permutation, Settings, Tracker, OUR_REMAP};
 
 const MALFORMED: u32 = 11;
 
@@ -14,11 +14,12 @@ fn main() -> io::Result<()> {
     let mut input = BufReader::new(io::stdin().lock());
     let mut output = BufWriter::new(io::stdout().lock());
     let mut tracker = None;
+    let mut remap = OUR_REMAP;
     let mut line = Vec::new();
     let mut line_number: u64 = 0;
     while input.read_until(b'\n', &mut line)? > 0 {
         line_number += 1;
-        if let Err(refusal) = take(&line, &mut tracker, &mut output)? {
+        if let Err(refusal) = take(&line, &mut tracker, &mut remap, &mut output)? {
             let printed = line_number % 10_000_000_000;
             writeln!(output, "X{printed:10}{refusal:6}")?;
         }
@@ -27,10 +28,12 @@ fn main() -> io::Result<()> {
     output.flush()
 }
 
-/// Does what a line says; the inner error is the number of its refusal.
+/// Does what a line says; `remap` is the one for every later `S`. The inner error is the number of
+/// the line's refusal.
 fn take(
     line: &[u8],
     tracker: &mut Option<Tracker>,
+    remap: &mut [u32; 16],
     output: &mut impl Write,
 ) -> io::Result<Result<(), u32>> {
     match line {
@@ -64,7 +67,16 @@ fn take(
             }
             let bound = settings.bound();
             writeln!(output, "B{:10}{:10}", bound, 2 * bound)?;
-            *tracker = Some(Tracker::new(settings));
+            *tracker = Some(Tracker::new(settings, *remap));
+        }
+        [b'F', fields @ .., b'\n'] => {
+            let Some(numbers) = numbers(fields) else {
+                return Ok(Err(MALFORMED));
+            };
+            if !is_permutation(&numbers) {
+                return Ok(Err(14));
+            }
+            *remap = numbers;
         }
         _ => return Ok(Err(MALFORMED)),
     }

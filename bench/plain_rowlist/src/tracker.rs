@@ -3,7 +3,14 @@
 use std::cmp::Reverse;
 use std::collections::BTreeMap;
 
-const REMAP: [u32; 16] = [0, 1, 3, 2, 4, 5, 7, 6, 8, 9, 11, 10, 12, 13, 15, 14];
+/// What replaces a row's remainder by 16, unless another one is loaded.
+pub const OUR_REMAP: [u32; 16] = [0, 1, 3, 2, 4, 5, 7, 6, 8, 9, 11, 10, 12, 13, 15, 14];
+
+pub fn is_permutation(remap: &[u32; 16]) -> bool {
+    let mut sorted = *remap;
+    sorted.sort_unstable();
+    sorted.into_iter().eq(0..16)
+}
 
 /// Disturbance stays in a row's own subarray.
 const SUBARRAY_ROWS: u32 = 512;
@@ -64,6 +71,7 @@ impl Settings {
 
 pub struct Tracker {
     settings: Settings,
+    remap: [u32; 16],
     counts: BTreeMap<u32, u32>,
     spillover: u32,
     pub events: u32,
@@ -71,9 +79,10 @@ pub struct Tracker {
 }
 
 impl Tracker {
-    pub fn new(settings: Settings) -> Tracker {
+    pub fn new(settings: Settings, remap: [u32; 16]) -> Tracker {
         Tracker {
             settings,
+            remap,
             counts: BTreeMap::new(),
             spillover: 0,
             events: 0,
@@ -89,7 +98,7 @@ impl Tracker {
         if self.activations == self.settings.interval {
             return Err(22);
         }
-        let row = logical_row / 16 * 16 + REMAP[logical_row as usize % 16];
+        let row = logical_row / 16 * 16 + self.remap[logical_row as usize % 16];
         self.counts.remove(&row);
         self.disturb_victims(row);
         self.activations += 1;

@@ -6,8 +6,8 @@ use std::io::{self, BufRead, BufReader, BufWriter, Read, Write};
 
 const MALFORMED: u32 = 11;
 
-/// An `S` line with its byte 10. Of a longer line, which is refused, no more is read.
-const LONGEST_LINE: u64 = 44;
+/// An `F` line with its byte 10. Of a longer line, which is refused, no more is read.
+const LONGEST_LINE: u64 = 98;
 
 fn main() {
     // Where input or output fails it just ends, as tracefmt does.
@@ -69,15 +69,30 @@ fn take(
                 return Ok(Err(refusal));
             }
             *rows = Some(settings[0]);
-            write!(output, "S")?;
-            for setting in settings {
-                write!(output, "{setting:6}")?;
+            write_numbers(output, b'S', &settings)?;
+        }
+        [b'F', fields @ .., b'\n'] => {
+            let Some(remap) = numbers::<16>(fields) else {
+                return Ok(Err(MALFORMED));
+            };
+            let mut sorted = remap;
+            sorted.sort_unstable();
+            if !sorted.into_iter().eq(0..16) {
+                return Ok(Err(14));
             }
-            writeln!(output)?;
+            write_numbers(output, b'F', &remap)?;
         }
         _ => return Ok(Err(MALFORMED)),
     }
     Ok(Ok(()))
+}
+
+fn write_numbers(output: &mut impl Write, letter: u8, numbers: &[u32]) -> io::Result<()> {
+    output.write_all(&[letter])?;
+    for number in numbers {
+        write!(output, "{number:6}")?;
+    }
+    writeln!(output)
 }
 
 /// The error is the number of the first refusal.

@@ -2,7 +2,7 @@
 
 use std::collections::BTreeSet;
 
-use crate::remap::physical_row;
+use crate::remap::{physical_row, Remap};
 use crate::settings::Settings;
 use crate::victims::{regular_block, victims};
 
@@ -28,8 +28,9 @@ impl Disturbance {
         }
     }
 
-    pub fn activate(&mut self, logical_row: u32) {
-        let row = physical_row(logical_row);
+    /// `remap` is the call's own.
+    pub fn activate(&mut self, logical_row: u32, remap: &Remap) {
+        let row = physical_row(remap, logical_row);
         self.disturbed.clear();
         self.counts[row as usize] = 0;
         self.disturb_victims(row);

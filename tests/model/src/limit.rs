@@ -6,7 +6,7 @@ use crate::bound::bound;
 use crate::disturbance::Disturbance;
 use crate::random::Random;
 use crate::refusal::Refusal;
-use crate::remap::physical_row;
+use crate::remap::{check_remap, Remap, OUR_REMAP};
 use crate::settings::{Settings, MAX_ROWS};
 use crate::tracker::{activate, refresh, set_up, Position};
 use crate::victims::{victims, SUBARRAY_ROWS};
@@ -24,10 +24,10 @@ pub struct Report {
     pub later_percent: u64,
 }
 
-/// How a run chooses the rows that it activates.
+/// How a run chooses the physical rows that it activates.
 enum Plan {
     Uniform,
-    /// Logical rows, in random order.
+    /// Some rows, in random order.
     Few(Vec<u32>),
     /// Keeps that many of the most disturbed rows equally high.
     Unison(usize),
@@ -46,6 +46,8 @@ pub fn play(seed: u64) -> Result<Report, String> {
     let plan = random_plan(&mut random, &settings);
     let early = random.choose(&[HARDLY_EVER, HARDLY_EVER, 20, 3]);
     let faults = random.choose(&[HARDLY_EVER, 20]);
+    // Either every call brings the same remap or each a new one.
+    let same = random.once_in(2).then(|| random_remap(&mut random));
     let windows: &[u32] = if is_large(&settings) {
         &[1, 2]
     } else {
@@ -54,19 +56,24 @@ pub fn play(seed: u64) -> Result<Report, String> {
     let windows = random.choose(windows);
     let describe = |what: &str| format!("seed {seed}, {settings:?}: {what}");
 
-    let mut run = Run::set_up(settings, &mut random).map_err(|what| describe(&what))?;
+    let remap = same.unwrap_or_else(|| random_remap(&mut random));
+    let mut run = Run::set_up(settings, &remap, &mut random).map_err(|what| describe(&what))?;
     for _ in 0..windows * settings.window * (settings.interval + 1) {
         let full = run.position.activations == settings.interval;
+        let mut remap = same.unwrap_or_else(|| random_remap(&mut random));
+        if random.once_in(faults) {
+            spoil(&mut remap, &mut random);
+        }
         let step = if random.once_in(faults) {
             let logical_row = random.choose(&[settings.rows, settings.rows + 1, u32::MAX]);
-            run.activate(logical_row)
+            run.activate(logical_row, &remap)
         } else if random.once_in(faults) {
             run.refresh(settings.volume - 1)
         } else if random.once_in(early) || full && !random.once_in(faults) {
             run.refresh(settings.volume + random.between(0, 2))
         } else {
-            let logical_row = run.next_row(&plan, &mut random);
-            run.activate(logical_row)
+            let row = run.next_row(&plan, &mut random);
+            run.activate(logical_row(&remap, row), &remap)
         };
         step.map_err(|what| describe(&what))?;
     }
@@ -84,11 +91,11 @@ struct Run {
 }
 
 impl Run {
-    fn set_up(settings: Settings, random: &mut Random) -> Result<Run, String> {
+    fn set_up(settings: Settings, remap: &Remap, random: &mut Random) -> Result<Run, String> {
         let garbage = random.next() as u32;
         let mut rows = vec![garbage; settings.counters as usize];
         let mut counts = rows.clone();
-        let position = set_up(&settings, &mut rows, &mut counts)
+        let position = set_up(&settings, &mut rows, &mut counts, remap)
             .map_err(|refusal| format!("set up refused: {refusal:?}"))?;
         let mut run = Run {
             settings,
@@ -103,9 +110,11 @@ impl Run {
         Ok(run)
     }
 
-    fn activate(&mut self, logical_row: u32) -> Result<(), String> {
+    fn activate(&mut self, logical_row: u32, remap: &Remap) -> Result<(), String> {
         let expected = if logical_row >= self.settings.rows {
             Err(Refusal::LogicalRow)
+        } else if check_remap(remap).is_err() {
+            Err(Refusal::Remap)
         } else if self.position.activations == self.settings.interval {
             Err(Refusal::IntervalFull)
         } else {
@@ -117,11 +126,12 @@ impl Run {
             &mut self.counts,
             self.position,
             logical_row,
+            remap,
         );
         self.check_answer("activation", answer.map(|_| ()), expected)?;
         if let Ok(position) = answer {
             self.position = position;
-            self.disturbance.activate(logical_row);
+            self.disturbance.activate(logical_row, remap);
         }
         self.check()
     }
@@ -148,7 +158,8 @@ impl Run {
         self.check()
     }
 
-    /// The only refusals on a run are those of the row, the list of picks and a full interval.
+    /// The only refusals on a run are those of the row, the remap, the list of picks and a full
+    /// interval.
     fn check_answer(
         &mut self,
         call: &str,
@@ -208,8 +219,8 @@ impl Run {
         }
     }
 
-    /// The logical row of the least disturbed victim of the row that is the `rank`th in
-    /// disturbance: to activate it costs the least.
+    /// The least disturbed victim of the row that is the `rank`th in disturbance: to activate it
+    /// costs the least.
     fn row_beside_rank(&self, rank: usize) -> u32 {
         let counts = self.disturbance.counts();
         let mut order: Vec<u32> = (0..self.settings.rows).collect();
@@ -218,11 +229,34 @@ impl Run {
         let beside = victims(&self.settings, target)
             .into_iter()
             .min_by_key(|row| counts[*row as usize]);
-        let wanted = beside.unwrap_or(target);
-        (0..self.settings.rows)
-            .find(|logical_row| physical_row(*logical_row) == wanted)
-            .unwrap_or(wanted)
+        beside.unwrap_or(target)
     }
+}
+
+/// The logical row of a physical one; a refused remap may have none, and then it is any row.
+fn logical_row(remap: &Remap, row: u32) -> u32 {
+    match remap.iter().position(|number| *number == row % 16) {
+        Some(remainder) => row / 16 * 16 + remainder as u32,
+        None => row,
+    }
+}
+
+fn random_remap(random: &mut Random) -> Remap {
+    let mut remap = OUR_REMAP;
+    if random.once_in(8) {
+        return remap;
+    }
+    for last in (1..16).rev() {
+        remap.swap(last as usize, random.between(0, last) as usize);
+    }
+    remap
+}
+
+/// Replaces a number by one above 15 or by another of the 16, so that the remap is refused.
+fn spoil(remap: &mut Remap, random: &mut Random) {
+    let place = random.between(0, 15) as usize;
+    let other = remap[(place + random.between(1, 15) as usize) % 16];
+    remap[place] = random.choose(&[other, other, 16, 16 + remap[place], u32::MAX]);
 }
 
 fn random_settings(random: &mut Random) -> Settings {

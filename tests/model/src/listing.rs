@@ -2,6 +2,7 @@
 
 use crate::bound::bound;
 use crate::refusal::Refusal;
+use crate::remap::{check_remap, Remap, OUR_REMAP};
 use crate::settings::Settings;
 use crate::trace::{read_line, Record};
 use crate::tracker::{activate, refresh, set_up, Position};
@@ -9,9 +10,10 @@ use crate::tracker::{activate, refresh, set_up, Position};
 /// Line numbers are printed modulo this.
 const LINE_NUMBERS: u64 = 10_000_000_000;
 
-/// A tracker with its own memory.
+/// A tracker with its own memory, and the remap that was loaded when it was set up.
 struct Tracker {
     settings: Settings,
+    remap: Remap,
     rows: Vec<u32>,
     counts: Vec<u32>,
     position: Position,
@@ -21,13 +23,14 @@ struct Tracker {
 pub fn listing(text: &[u8]) -> String {
     let mut output = String::new();
     let mut tracker = None;
+    let mut loaded = OUR_REMAP;
     let mut place = 0;
     let mut line_number = 0;
     while place < text.len() {
         let (read, behind) = read_line(text, place);
         place = behind;
         line_number += 1;
-        match read.and_then(|record| take(record, &mut tracker)) {
+        match read.and_then(|record| take(record, &mut tracker, &mut loaded)) {
             Ok(printed) => output += &printed,
             Err(refusal) => output += &refused_line(line_number, refusal),
         }
@@ -35,15 +38,25 @@ pub fn listing(text: &[u8]) -> String {
     output
 }
 
-/// Does what a record says; the answer is what it prints.
-fn take(record: Record, tracker: &mut Option<Tracker>) -> Result<String, Refusal> {
+/// Does what a record says; the answer is what it prints. `loaded` is the remap for every later
+/// set up.
+fn take(
+    record: Record,
+    tracker: &mut Option<Tracker>,
+    loaded: &mut Remap,
+) -> Result<String, Refusal> {
     match record {
         Record::Blank => Ok(String::new()),
         Record::Settings(settings) => {
             *tracker = None;
-            let (accepted, printed) = begin(settings)?;
+            let (accepted, printed) = begin(settings, *loaded)?;
             *tracker = Some(accepted);
             Ok(printed)
+        }
+        Record::Remap(remap) => {
+            check_remap(&remap)?;
+            *loaded = remap;
+            Ok(String::new())
         }
         Record::Activation(logical_row) => {
             let tracker = tracker.as_mut().ok_or(Refusal::Line)?;
@@ -53,6 +66,7 @@ fn take(record: Record, tracker: &mut Option<Tracker>) -> Result<String, Refusal
                 &mut tracker.counts,
                 tracker.position,
                 logical_row,
+                &tracker.remap,
             )?;
             Ok(String::new())
         }
@@ -73,13 +87,14 @@ fn take(record: Record, tracker: &mut Option<Tracker>) -> Result<String, Refusal
     }
 }
 
-fn begin(settings: Settings) -> Result<(Tracker, String), Refusal> {
+fn begin(settings: Settings, remap: Remap) -> Result<(Tracker, String), Refusal> {
     let bound = bound(&settings)?;
     let mut rows = vec![0; settings.counters as usize];
     let mut counts = vec![0; settings.counters as usize];
-    let position = set_up(&settings, &mut rows, &mut counts)?;
+    let position = set_up(&settings, &mut rows, &mut counts, &remap)?;
     let tracker = Tracker {
         settings,
+        remap,
         rows,
         counts,
         position,

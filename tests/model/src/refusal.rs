@@ -22,6 +22,8 @@ pub enum Refusal {
     Threshold = 12,
     /// The lent text is too short for the whole trace.
     TextLength = 13,
+    /// A remap in which one of 0 to 15 is missing.
+    Remap = 14,
     /// The tables or the position break a rule.
     State = 21,
     /// An activation in an interval that has had all of its activations.

@@ -1,6 +1,7 @@
 //! The reader of trace lines.
 
 use crate::refusal::Refusal;
+use crate::remap::Remap;
 use crate::settings::Settings;
 
 const COLUMNS: usize = 6;
@@ -12,6 +13,8 @@ pub enum Record {
     /// An activation of a logical row.
     Activation(u32),
     Refresh,
+    /// The numbers of an `F` line, untested.
+    Remap(Remap),
     Blank,
 }
 
@@ -53,6 +56,7 @@ fn record(line: &[u8]) -> Option<Record> {
             let [logical_row] = numbers(fields)?;
             Some(Record::Activation(logical_row))
         }
+        b'F' => Some(Record::Remap(numbers(fields)?)),
         b'R' if fields.is_empty() => Some(Record::Refresh),
         _ => None,
     }

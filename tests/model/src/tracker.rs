@@ -2,7 +2,7 @@
 //! A refused call leaves the tables, the position and the picks as they came.
 
 use crate::refusal::Refusal;
-use crate::remap::physical_row;
+use crate::remap::{check_remap, physical_row, Remap};
 use crate::settings::Settings;
 use crate::summary::{Entry, Summary};
 use crate::victims::{regular_block, victims};
@@ -27,9 +27,11 @@ pub fn set_up(
     settings: &Settings,
     rows: &mut [u32],
     counts: &mut [u32],
+    remap: &Remap,
 ) -> Result<Position, Refusal> {
     settings.check()?;
     check_lengths(settings, rows, counts)?;
+    check_remap(remap)?;
     rows.fill(0);
     counts.fill(0);
     Ok(Position::default())
@@ -41,19 +43,21 @@ pub fn activate(
     counts: &mut [u32],
     position: Position,
     logical_row: u32,
+    remap: &Remap,
 ) -> Result<Position, Refusal> {
     settings.check()?;
     check_lengths(settings, rows, counts)?;
     if logical_row >= settings.rows {
         return Err(Refusal::LogicalRow);
     }
+    check_remap(remap)?;
     check_state(settings, rows, counts, position)?;
     if position.activations == settings.interval {
         return Err(Refusal::IntervalFull);
     }
 
     let mut summary = read(rows, counts, position);
-    let row = physical_row(logical_row);
+    let row = physical_row(remap, logical_row);
     summary.drop_row(row);
     disturb_victims(settings, &mut summary, row);
     let activations = position.activations + 1;

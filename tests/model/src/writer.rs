@@ -1,6 +1,7 @@
-//! The writer of traces (document 02, C-11): from records to text, one spelling for each trace.
+//! The writer of traces (document 02, C-11 and C-15): from records to text, one spelling for each trace.
 
 use crate::refusal::Refusal;
+use crate::remap::check_remap;
 use crate::settings::Settings;
 use crate::trace::{read_line, Record};
 
@@ -24,6 +25,10 @@ pub fn spelling(record: &Record) -> String {
         }
         Record::Activation(logical_row) => format!("A{logical_row:6}\n"),
         Record::Refresh => "R\n".to_string(),
+        Record::Remap(remap) => {
+            let numbers: String = remap.iter().map(|number| format!("{number:6}")).collect();
+            format!("F{numbers}\n")
+        }
         Record::Blank => String::new(),
     }
 }
@@ -97,6 +102,7 @@ fn tested(
         Record::Refresh => {
             settings.ok_or(Refusal::Line)?;
         }
+        Record::Remap(remap) => check_remap(&remap)?,
         Record::Blank => {}
     }
     Ok(record)

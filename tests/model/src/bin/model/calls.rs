@@ -2,10 +2,12 @@
 //!
 //! A list is its length and its numbers, STATE is the seven settings and the lists of rows,
 //! counts and position (events, activations, tracked, spillover). Queries:
-//! `set_up STATE`, `activate STATE ROW`, `refresh STATE PICKS`, `agree STATE STATE`.
+//! `set_up STATE [remap REMAP]`, `activate STATE ROW [remap REMAP]`, `refresh STATE PICKS`,
+//! `agree STATE STATE`. REMAP is 16 numbers, and where it is left out it is our own.
 //! The answer is the call's number and then every lent list as it is afterwards.
 
 use row_tracker_model::refusal::Refusal;
+use row_tracker_model::remap::{Remap, OUR_REMAP};
 use row_tracker_model::settings::Settings;
 use row_tracker_model::tracker::{activate, agree, refresh, set_up, Position};
 
@@ -24,13 +26,15 @@ pub fn answer(line: &str) -> Option<String> {
     } = &mut state;
     let answer = match call {
         "set_up" => {
-            let result = set_up(settings, rows, counts);
+            let result = set_up(settings, rows, counts, &read_remap(&mut words)?);
             let number = signed(result.map(|_| 0));
             *position = result.unwrap_or(*position);
             format!("{number}{}", state.lists())
         }
         "activate" => {
-            let result = activate(settings, rows, counts, *position, words.number()?);
+            let logical_row = words.number()?;
+            let remap = read_remap(&mut words)?;
+            let result = activate(settings, rows, counts, *position, logical_row, &remap);
             let number = signed(result.map(|_| 0));
             *position = result.unwrap_or(*position);
             format!("{number}{}", state.lists())
@@ -60,6 +64,20 @@ pub fn answer(line: &str) -> Option<String> {
         _ => return None,
     };
     words.last(answer)
+}
+
+/// The remap at the end of a query, or our own.
+fn read_remap(words: &mut Words) -> Option<Remap> {
+    let mut remap = OUR_REMAP;
+    match words.word() {
+        None => return Some(remap),
+        Some("remap") => {}
+        Some(_) => return None,
+    }
+    for number in &mut remap {
+        *number = words.number()?;
+    }
+    Some(remap)
 }
 
 struct State {

@@ -1,9 +1,9 @@
 //! Queries with one number as answer; refusal k is -k:
-//! `bound N B V C T n P`, `least N B V T n P THRESHOLD`, `physical ROW`.
+//! `bound N B V C T n P`, `least N B V T n P THRESHOLD`, `physical ROW` (by our remap).
 
 use row_tracker_model::bound::{bound, least_counters};
 use row_tracker_model::refusal::Refusal;
-use row_tracker_model::remap::physical_row;
+use row_tracker_model::remap::{physical_row, OUR_REMAP};
 use row_tracker_model::settings::Settings;
 
 use crate::numbers::Words;
@@ -25,7 +25,7 @@ pub fn answer(line: &str) -> Option<String> {
             };
             signed(least_counters(&settings, words.number()?).map(u64::from))
         }
-        "physical" => i64::from(physical_row(words.number()?)),
+        "physical" => i64::from(physical_row(&OUR_REMAP, words.number()?)),
         _ => return None,
     };
     words.last(number.to_string())
