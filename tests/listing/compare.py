@@ -4,7 +4,7 @@
     python3 tests/listing/compare.py [--seed N] [--program COMMAND]
 
 Builds the model, then compares on document 01's example (example.*), on edges with a listing
-written by hand (edges.*, subarrays.*, large.*, remaps.*), on traces with the listings that are kept (kept/),
+written by hand (edges.*, subarrays.*, large.*, remaps.*, loaded.*), on traces with the listings that are kept (kept/),
 and on random traces (traces.py), with one fixed and one fresh seed (--seed repeats a fresh one).
 Traces come from a file, through a pipe, or in small pieces through a pipe. What differs stays in
 target/listing/.
@@ -38,7 +38,7 @@ HERE = "tests/listing"
 OUT = "target/listing"
 MODEL_LISTING = [MODEL, "listing"]
 
-WRITTEN = ("example", "edges", "subarrays", "large", "remaps")
+WRITTEN = ("example", "edges", "subarrays", "large", "remaps", "loaded")
 KEPT = ("smallest_bank", "bank_of_1040", "bank_of_65520", "bank_of_65536", "many_counters",
         "refused_lines", "almost_good_lines", "long_lines_cut_off")
 

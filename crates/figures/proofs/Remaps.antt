@@ -12,7 +12,7 @@ use Rattle.tracker.specs.State.{summary-of, state-of, zeros, ascending, counts-
 use Rattle.tracker.specs.Calls.{victims-in, block-rows, ends-window, next-event, tables-long, set-up-tests-to, activation-tests-to, refresh-tests-to, kept-unless, set-up-to, activation-to, refresh-to}
 use Rattle.trace.specs.Numbers.{is-digit, digits, number, field, fields, digit-or-blank, columns-before, printed, written}
 use Rattle.trace.specs.Lines.{line, ended, extent}
-use Rattle.trace.specs.Records.{as-settings, settings, as-sixteen, sixteen-of, remap as remap-record, activation as activation-record, refresh as refresh-record, record-of}
+use Rattle.trace.specs.Records.{as-settings, numbered, settings, as-sixteen, sixteen-of, remap as remap-record, activation as activation-record, refresh as refresh-record, record-of}
 use Rattle.trace.specs.Reading.{or-refused, reading-by, reading}
 use Rattle.trace.specs.Output.{number-columns, refusal-line}
 use Rattle.trace.specs.Spelling.{settings-numbers, spelled-line, record-spelling, answer-spelling, spelling}
@@ -24,15 +24,15 @@ use Rattle.listing.specs.Texts.{listed-to, listing-to}
 use Rattle.bound.specs.Totals.{size, total, disturbers, bound-at, bound-of}
 use Rattle.bound.specs.Answers.{settings-of}
 use Rattle.figures.specs.Table.{numbers, state-numbers, shown}
-use Rattle.figures.specs.Edges.{small, two-places, untracked, refusal-of, set-up-numbers, activation-numbers}
+use Rattle.figures.specs.Edges.{small, two-places, untracked, refusal-of, set-up-numbers, activation-numbers, wide, fresh}
 use Rattle.figures.specs.Spellings.{set, row, writing-figure, refused-figure}
-use Rattle.figures.specs.Remaps.{identity, reverse, doubled, too-high, set-up-with, activation-with, remap-calls, loaded-input, loaded-output, remap, reverse-line, remap-writing, remaps}
+use Rattle.figures.specs.Remaps.{identity, reverse, rotated, doubled, too-high, set-up-with, activation-with, at-an-edge, remap-calls, loaded-input, loaded-output, remap, reverse-line, remap-writing, remaps}
 use Rattle.figures.proofs.Tests.{same, every}
 
 pub remaps-pass : T (every remaps)
 unfolding
-    every same remaps remap-calls remap-writing identity reverse doubled too-high set-up-with activation-with loaded-input loaded-output remap reverse-line
-    numbers state-numbers shown small two-places untracked refusal-of set-up-numbers activation-numbers set row writing-figure refused-figure
+    every same remaps remap-calls remap-writing identity reverse rotated doubled too-high set-up-with activation-with at-an-edge loaded-input loaded-output remap reverse-line
+    numbers state-numbers shown small two-places untracked refusal-of set-up-numbers activation-numbers wide fresh set row writing-figure refused-figure
     first-failed unless refuse tested within rows-allowed-to diameter-allowed block-allowed settings-tests-with settings-tests-to settings-of
     own-remap occurs-in all-occur remap-allowed physical rows-from rows-between within-reach victims
     size total disturbers bound-at bound-of
@@ -41,7 +41,7 @@ unfolding
     table entries-of read summary-of state-of zeros ascending counts-allowed valid
     victims-in block-rows ends-window next-event tables-long set-up-tests-to activation-tests-to refresh-tests-to kept-unless set-up-to activation-to refresh-to
     is-digit digits number field fields digit-or-blank columns-before printed written line ended extent
-    bind as-settings settings as-sixteen sixteen-of remap-record activation-record refresh-record record-of or-refused reading-by reading
+    bind as-settings numbered settings as-sixteen sixteen-of remap-record activation-record refresh-record record-of or-refused reading-by reading
     number-columns settings-numbers spelled-line record-spelling answer-spelling spelling
     standing-behind row-fault fault-to first-fault-to room-fault writing-fault-to writing-by writing-to
     bound-line refresh-line refusal-line

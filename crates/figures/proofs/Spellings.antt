@@ -5,7 +5,7 @@ use Rattle.device.specs.Refusal.{first-failed, unless, refuse}
 use Rattle.device.specs.Acceptance.{within, rows-allowed-to, diameter-allowed, block-allowed, settings-tests-with, settings-tests-to}
 use Rattle.trace.specs.Numbers.{is-digit, digits, number, field, fields, digit-or-blank, columns-before, printed, written}
 use Rattle.trace.specs.Lines.{line, ended, extent}
-use Rattle.trace.specs.Records.{as-settings, settings, activation, refresh, record-of}
+use Rattle.trace.specs.Records.{as-settings, numbered, settings, activation, refresh, record-of}
 use Rattle.trace.specs.Reading.{or-refused, reading-by, reading}
 use Rattle.trace.specs.Texts.{in-front, lines, read, outcomes}
 use Rattle.trace.specs.Output.{number-columns}
@@ -21,7 +21,7 @@ unfolding
     every same spellings numbers shown respelled-input respelled-output set row event blank set-16 writing-figure refused-figure
     first-failed unless refuse within rows-allowed-to diameter-allowed block-allowed settings-tests-with settings-tests-to settings-of
     is-digit digits number field fields digit-or-blank columns-before printed written line ended extent
-    bind as-settings settings activation refresh record-of or-refused reading-by reading in-front lines read outcomes
+    bind as-settings numbered settings activation refresh record-of or-refused reading-by reading in-front lines read outcomes
     number-columns settings-numbers spelled-line record-spelling answer-spelling spelling
     standing-behind row-fault event-fault fault-to first-fault-to before-fault-to room-fault writing-fault-to writing-by writing-to
 spellings-pass = tt

@@ -12,7 +12,7 @@ use Rattle.tracker.specs.State.{summary-of, state-of, zeros, ascending, counts-
 use Rattle.tracker.specs.Calls.{victims-in, block-rows, ends-window, next-event, tables-long, set-up-tests-to, activation-tests-to, refresh-tests-to, kept-unless, set-up-to, activation-to, refresh-to}
 use Rattle.trace.specs.Numbers.{is-digit, digits, number, field, fields, digit-or-blank, columns-before, printed}
 use Rattle.trace.specs.Lines.{line, ended, extent}
-use Rattle.trace.specs.Records.{as-settings, settings, activation as activation-record, refresh as refresh-record, record-of}
+use Rattle.trace.specs.Records.{as-settings, numbered, settings, activation as activation-record, refresh as refresh-record, record-of}
 use Rattle.trace.specs.Reading.{or-refused, reading-by, reading}
 use Rattle.trace.specs.Output.{number-columns, refusal-line}
 use Rattle.listing.specs.Output.{bound-line, refresh-line}
@@ -38,7 +38,7 @@ unfolding
     victims-in block-rows ends-window next-event tables-long set-up-tests-to activation-tests-to refresh-tests-to kept-unless set-up-to activation-to refresh-to
     left-by state-after
     is-digit digits number field fields digit-or-blank columns-before printed line ended extent
-    bind as-settings settings activation-record refresh-record record-of or-refused reading-by reading
+    bind as-settings numbered settings activation-record refresh-record record-of or-refused reading-by reading
     bound-line number-columns refresh-line refusal-line
     start refused-step set-up-step answered activation-step refresh-step record-step-to line-step-to loaded-behind step-to next-to
     in-front lines read-line outcomes listed-to listing-to

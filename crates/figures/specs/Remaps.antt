@@ -11,15 +11,18 @@ use Rattle.tracker.specs.Calls.{set-up, activation-on}
 use Rattle.listing.specs.Steps.{start}
 use Rattle.listing.specs.Texts.{listing}
 use Rattle.figures.specs.Table.{Figure, shown}
-use Rattle.figures.specs.Edges.{small, untracked, set-up-numbers, activation-numbers}
+use Rattle.figures.specs.Edges.{small, two-places, untracked, set-up-numbers, activation-numbers, wide, fresh}
 use Rattle.figures.specs.Spellings.{set, row, writing-figure, refused-figure}
 
--- remaps: each number at its own place, the reverse; and two with 'a number missing': 0 'repeated' for 1, and 16 for 15
+-- remaps: each number at its own place, the reverse, and one that does not undo itself; and two with 'a number missing': 0 'repeated' for 1, and 16 for 15
 unfoldable pub identity : List ℕ
 identity = 0 ∷ 1 ∷ 2 ∷ 3 ∷ 4 ∷ 5 ∷ 6 ∷ 7 ∷ 8 ∷ 9 ∷ 10 ∷ 11 ∷ 12 ∷ 13 ∷ 14 ∷ 15 ∷ []
 
 unfoldable pub reverse : List ℕ
 reverse = 15 ∷ 14 ∷ 13 ∷ 12 ∷ 11 ∷ 10 ∷ 9 ∷ 8 ∷ 7 ∷ 6 ∷ 5 ∷ 4 ∷ 3 ∷ 2 ∷ 1 ∷ 0 ∷ []
+
+unfoldable pub rotated : List ℕ
+rotated = 1 ∷ 2 ∷ 3 ∷ 4 ∷ 5 ∷ 6 ∷ 7 ∷ 8 ∷ 9 ∷ 10 ∷ 11 ∷ 12 ∷ 13 ∷ 14 ∷ 15 ∷ 0 ∷ []
 
 unfoldable pub doubled : List ℕ
 doubled = 0 ∷ 0 ∷ 2 ∷ 3 ∷ 4 ∷ 5 ∷ 6 ∷ 7 ∷ 8 ∷ 9 ∷ 10 ∷ 11 ∷ 12 ∷ 13 ∷ 14 ∷ 15 ∷ []
@@ -34,7 +37,11 @@ set-up-with remap given = shown given (set-up-numbers (set-up (small 2 1) remap 
 unfoldable pub activation-with : List ℕ → State → ℕ → List ℕ → Figure
 activation-with remap st bus given = shown given (activation-numbers (activation-on (small 2 1) remap st bus))
 
--- 14 comes after 8 where a tracker is set up, and in an activation after 9 and before 21 and 22
+-- a first activation in a bank of 1,024 rows under the reverse, with B = 4
+unfoldable pub at-an-edge : ℕ → List ℕ → Figure
+at-an-edge bus given = shown given (activation-numbers (activation-on (wide 1024 4) reverse (fresh (wide 1024 4) 0) bus))
+
+-- 14 comes after 8 where a tracker is set up, and in an activation after 9 and before 21 and 22; rows that a remap puts at the edge of a subarray
 unfoldable pub remap-calls : List Figure
 remap-calls =
     set-up-with identity (0 ∷ 0 ∷ 0 ∷ 0 ∷ 0 ∷ []) ∷
@@ -44,6 +51,11 @@ remap-calls =
     shown (8 ∷ 7 ∷ 7 ∷ 7 ∷ 7 ∷ 7 ∷ []) (set-up-numbers (set-up (small 2 1) doubled (7 ∷ 7 ∷ 7 ∷ []) (7 ∷ 7 ∷ []))) ∷
     activation-with identity (untracked 0 0) 2 (0 ∷ 1 ∷ 3 ∷ 1 ∷ 1 ∷ 0 ∷ 1 ∷ 2 ∷ 0 ∷ []) ∷
     activation-with reverse (untracked 0 0) 5 (0 ∷ 9 ∷ 11 ∷ 1 ∷ 1 ∷ 0 ∷ 1 ∷ 2 ∷ 0 ∷ []) ∷
+    activation-with rotated (untracked 0 0) 5 (0 ∷ 5 ∷ 7 ∷ 1 ∷ 1 ∷ 0 ∷ 1 ∷ 2 ∷ 0 ∷ []) ∷
+    activation-with rotated (untracked 0 0) 15 (0 ∷ 1 ∷ 0 ∷ 1 ∷ 0 ∷ 0 ∷ 1 ∷ 1 ∷ 0 ∷ []) ∷
+    activation-with reverse (two-places 4 6 1 1 0 1 2) 5 (0 ∷ 6 ∷ 11 ∷ 1 ∷ 2 ∷ 0 ∷ 2 ∷ 2 ∷ 1 ∷ []) ∷
+    at-an-edge 496 (0 ∷ 509 ∷ 510 ∷ 0 ∷ 0 ∷ 1 ∷ 1 ∷ 0 ∷ 0 ∷ 0 ∷ 1 ∷ 2 ∷ 0 ∷ []) ∷
+    at-an-edge 527 (0 ∷ 513 ∷ 514 ∷ 0 ∷ 0 ∷ 1 ∷ 1 ∷ 0 ∷ 0 ∷ 0 ∷ 1 ∷ 2 ∷ 0 ∷ []) ∷
     activation-with doubled (untracked 0 0) 5 (14 ∷ 0 ∷ 0 ∷ 0 ∷ 0 ∷ 0 ∷ 0 ∷ 0 ∷ 0 ∷ []) ∷
     activation-with too-high (untracked 0 0) 5 (14 ∷ 0 ∷ 0 ∷ 0 ∷ 0 ∷ 0 ∷ 0 ∷ 0 ∷ 0 ∷ []) ∷
     activation-with doubled (untracked 0 0) 16 (9 ∷ 0 ∷ 0 ∷ 0 ∷ 0 ∷ 0 ∷ 0 ∷ 0 ∷ 0 ∷ []) ∷
