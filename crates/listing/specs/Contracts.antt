@@ -41,6 +41,11 @@ pub record Leaves (step : Step) (loaded : List ℕ) (line : ℕ) (m m′ : Memor
   pub printed : Prints before at (step .prints) after end
   pub left : m′ ≡ stored (step .tracker) loaded line m
 
+-- a place with another position of the tracker and another loaded remap, at a line
+abbrev pub at-line : Place → Position → List ℕ → ℕ → Place
+at-line p position loaded line =
+    record { active = p .active; settings = p .settings; remap = p .remap; position = position; loaded = loaded; lines = line }
+
 -- the state in the first C places of lent tables
 abbrev pub front : Settings → Slice → Slice → Position → State
 front s rows counts p = given (take (s .counters) (now rows)) (take (s .counters) (now counts)) p

@@ -17,12 +17,12 @@ ghost use Rattle.trace.specs.Reading.{said};
 ghost use Rattle.trace.specs.Output.{Prints-into};
 ghost use Rattle.listing.specs.Steps.{remap-step, record-step, loaded-by, loaded-behind};
 ghost use Rattle.listing.specs.Memory.{memory-of, tracker-of, Ready};
-ghost use Rattle.listing.specs.Contracts.{Lists-line};
+ghost use Rattle.listing.specs.Contracts.{at-line, Lists-line};
 ghost use Rattle.listing.specs.Chunks.{next-number, step-in};
 
 // A place with the tracker's position and the loaded remap as given, and so many lines.
 fn at_line(p: Place, position: Position, loaded: [u32; 16], lines: u64) -> Place
-    ensures { λ r. ⌜ r ≡ record { active = p .active; settings = p .settings; remap = p .remap; position = position; loaded = loaded; lines = lines } ⌝ }
+    ensures { λ r. ⌜ r ≡ at-line p position loaded lines ⌝ }
 {
     let settings = p.settings;
     let remap = p.remap;
@@ -39,7 +39,7 @@ fn at_line(p: Place, position: Position, loaded: [u32; 16], lines: u64) -> Place
 // The line of a remap: accepted, it is loaded for the next settings; refused, the one before it stays.
 fn remap_line(p: Place, remap: [u32; 16], line: u64, out: &mut [u8], at: usize) -> Listed
     requires { ⌜ at + 200 ≤ length (now out) ⌝ }
-    ensures { λ r. ⌜ r .place ≡ record { active = p .active; settings = p .settings; remap = p .remap; position = p .position; loaded = loaded-by (p .loaded) remap; lines = line } ⌝ }
+    ensures { λ r. ⌜ r .place ≡ at-line p (p .position) (loaded-by (p .loaded) remap) line ⌝ }
     ensures { λ r. ⌜ Prints-into out at (remap-step line remap none .prints) (r .end) ⌝ }
 {
     let position = p.position;

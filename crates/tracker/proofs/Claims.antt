@@ -1,5 +1,4 @@
 -- The claims of specs/Claims.antt, each under its own name.
-use mathlib.Core.Path.{refl}
 use mathlib.Core.List.{append-assoc}
 use Prim.Native.Nat.{ℕ, _<_}
 use Rattle.device.specs.declared.Settings.{Settings}

@@ -21,7 +21,7 @@ use Rattle.listing.specs.declared.Place.{Place}
 use Rattle.trace.specs.Output.{Prints}
 use Rattle.listing.specs.Steps.{Tracker, Step}
 use Rattle.listing.specs.Memory.{Memory, memory, tracker-in, tracker-of, stored, Running, Ready}
-use Rattle.listing.specs.Contracts.{Lists, Behind, Leaves}
+use Rattle.listing.specs.Contracts.{Lists, Behind, Leaves, at-line}
 
 module _ (m : Memory) where
   pub tracker-active : m .place .active ≡ true → tracker-of m ≡ tracker-in (m .place .settings) (m .place .remap) (take (m .place .settings .counters) (m .rows)) (take (m .place .settings .counters) (m .counts)) (m .place .position)
@@ -39,11 +39,6 @@ module _ (m : Memory) where
 -- C is at most 2,048
 pub counters-le : {s : Settings} {st : State} (t : List ℕ) → Reached s st → length t ≡ most-counters → s .counters ≤ length t
 counters-le {s} t r e = omega (arith, e, accepted-settings s (reached-accepted r) .counters .most)
-
--- a place with another position and loaded remap, at a line
-abbrev at-line : Place → Position → List ℕ → ℕ → Place
-at-line p position loaded line =
-    record { active = p .active; settings = p .settings; remap = p .remap; position = position; loaded = loaded; lines = line }
 
 -- a table whose first places hold something, and the others what they had
 pub table-parts : (n : ℕ) (t t′ : List ℕ) → drop n t′ ≡ drop n t → t′ ≡ take n t′ ++ drop n t

@@ -2,7 +2,6 @@
 use mathlib.Core.Path.{_∙_, sym}
 use native.Mathlib.Omega.{arith}
 use borrow.Author.Needs.{needs}
-use borrow.Author.Tests.{not-false}
 use lib.ListN.{length-drop}
 use Rattle.trace.specs.Contracts.{found-all, line-fields}
 use Rattle.trace.proofs.Contracts.{ends-after-lt}
