@@ -1,16 +1,22 @@
 -- The claims of specs/Claims.antt, each under its own name.
-use mathlib.Core.Path.{refl, ap, sym, _∙_}
-use mathlib.Core.List.{List, _++_, append-assoc, append-nil}
+use mathlib.Core.Path.{_≡_, refl, ap, sym, _∙_}
+use mathlib.Core.Bool.{true}
+use mathlib.Core.List.{List, [], _∷_, _++_, append-assoc, append-nil}
 use Prim.Native.Nat.{ℕ}
 use lib.ListN.{length, take, drop}
 use lib.Seq.{take-at, length-take-le}
-use Rattle.listing.specs.Texts.{listing-to, listing, after}
+use Rattle.device.specs.Refusal.{Outcome}
+use Rattle.device.specs.Remap.{remap-allowed}
+use Rattle.device.proofs.Remap.{own-allowed}
+use Rattle.trace.specs.declared.Record.{Record}
+use Rattle.listing.specs.Texts.{passed, listing-to, listing, after}
 use Rattle.trace.specs.Texts.{outcomes, most-kept, kept-bytes, joined}
 use Rattle.listing.specs.Chunks.{part, chunk}
 use Rattle.listing.specs.Parts.{comes, lists, keeps, ends}
-use Rattle.listing.specs.Steps.{start}
-use Rattle.listing.specs.Claims.{Parts-joined, Part-moves, Chunk-moves, End-moves, Listings-stay}
+use Rattle.listing.specs.Steps.{Progress, start, next-to, next}
+use Rattle.listing.specs.Claims.{Parts-joined, Part-moves, Chunk-moves, End-moves, Loaded-allowed, Listings-stay}
 use Rattle.listing.proofs.Steps.Alike.{Standing-alike, listed-alike, step-above}
+use Rattle.listing.proofs.Memory.Progress.{loadable-behind}
 use Rattle.listing.proofs.Texts.{listing-cut, listing-kept}
 use Rattle.listing.proofs.Chunks.Lines.{done-part}
 use Rattle.listing.proofs.Chunks.LastLine.{last-line-listing}
@@ -55,6 +61,15 @@ chunk-moves m g text len buffer r h room =
           printed-taken (d .took) parts out
           (keeps rest unended (rw (take-at (take most-kept rest) (drop (length (take most-kept rest)) text) (length (take most-kept rest)) refl) at later));
     }
+
+passed-loadable : (g : Progress) (os : List (Outcome Record)) → remap-allowed (g .loaded) ≡ true → remap-allowed (passed g os .loaded) ≡ true
+unfolding passed next-to
+passed-loadable g [] ok = ok
+passed-loadable g (o ∷ os) ok = passed-loadable (next g o) os (loadable-behind (g .loaded) o ok)
+
+pub loaded-allowed : Loaded-allowed
+unfolding Loaded-allowed after start
+loaded-allowed text = passed-loadable start (outcomes text) own-allowed
 
 pub listings-stay : Listings-stay
 unfolding Listings-stay listing-to start Standing-alike

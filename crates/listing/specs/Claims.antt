@@ -1,17 +1,18 @@
 -- What is claimed of the listing, besides the calls' contracts. proofs/Claims.antt proves each under the same name.
 use Prim.Native.Nat.{ℕ, suc, _+_, _*_, _≤_, _<_}
 use mathlib.Core.Path.{_≡_}
-use mathlib.Core.Bool.{false}
+use mathlib.Core.Bool.{true, false}
 use mathlib.Core.List.{List, [], _++_}
 use mathlib.Core.Option.{none}
 use lib.ListN.{length, take, drop}
 use Rattle.trace.specs.Lines.{ended}
 use Rattle.device.specs.declared.Settings.{Settings}
 use Rattle.device.specs.Refusal.{accepted}
+use Rattle.device.specs.Remap.{remap-allowed}
 use Rattle.trace.specs.declared.Record.the-variants.{Set}
 use Rattle.trace.specs.Claims.{All-alike}
 use Rattle.listing.specs.Steps.{Progress, start, refused-step, step-to}
-use Rattle.listing.specs.Texts.{listing-to, listing}
+use Rattle.listing.specs.Texts.{listing-to, listing, after}
 use Rattle.listing.specs.Memory.{Memory, Represents}
 use Rattle.listing.specs.Chunks.{next-number, line-room, part, chunk, last-line}
 use Rattle.trace.specs.Texts.{outcomes, joined}
@@ -41,6 +42,10 @@ unfoldable pub End-moves : Type 0
 End-moves =
     (m : Memory) (g : Progress) (text : List ℕ) (room : ℕ) → Represents m g → ended text ≡ false → 18 ≤ room →
     Printed g text [] (last-line (next-number (m .place .lines)) text room)
+
+-- whatever lines came before, the remap for the next `S` is an accepted one: no `S` is refused with 14
+unfoldable pub Loaded-allowed : Type 0
+Loaded-allowed = (text : List ℕ) → remap-allowed (after start text .loaded) ≡ true
 
 -- 'settings that were valid give the listings they gave': a trace has the listing that it has where N may be up to another most, if that judges N of all
 -- its settings lines alike, as it does every N up to its most and above `most-rows` (`Settings-stay`); a settings line with N above that most is refused with 1 there

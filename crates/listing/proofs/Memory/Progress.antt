@@ -36,7 +36,7 @@ stored-lines none loaded lines m = (refl, refl)
 stored-lines (some t) loaded lines m = (refl, refl)
 
 -- the loaded remap stays an accepted one
-loadable-behind : (loaded : List ℕ) (o : Outcome Record) → remap-allowed loaded ≡ true → remap-allowed (loaded-behind loaded o) ≡ true
+pub loadable-behind : (loaded : List ℕ) (o : Outcome Record) → remap-allowed loaded ≡ true → remap-allowed (loaded-behind loaded o) ≡ true
 unfolding loaded-behind loaded-by
 loadable-behind loaded (accepted (Set s)) ok = ok
 loadable-behind loaded (accepted (Remap table)) ok =
