@@ -4,10 +4,10 @@
     python3 tests/listing/compare.py [--seed N] [--program COMMAND]
 
 Builds the model, then compares on document 01's example (example.*), on edges with a listing
-written by hand (edges.*, subarrays.*, large.*, remaps.*, loaded.*), on traces with the listings that are kept (kept/),
-and on random traces (traces.py), with one fixed and one fresh seed (--seed repeats a fresh one).
-Traces come from a file, through a pipe, or in small pieces through a pipe. What differs stays in
-target/listing/.
+written by hand (edges.*, subarrays.*, large.*, remaps.*, loaded.*), on traces with the listings
+that are kept (kept/), and on random traces (traces.py), with one fixed and one fresh seed (--seed
+repeats a fresh one). Traces come from a file, through a pipe, or in small pieces through a pipe.
+What differs stays in target/listing/.
 Exit status: 0 all equal; 1 a difference; 2 something is missing or cannot be built.
 """
 
