@@ -1,4 +1,5 @@
--- 'Bus row and die row': where a logical row lies on the die, by a remap ('fold') of 16 numbers.
+-- 'Bus row and die row': where a logical row lies on the die, by a remap ('fold') of 16 numbers. Of any other list the first 16 places count, with 0 behind
+-- its end, so that no definition asks how long it is; the code's remaps have 16.
 use Prim.Native.Nat.{ℕ, zero, suc, _+_, _*_, _/_, _%_}
 use mathlib.Core.Bool.{Bool, true, false, _&&_, _||_}
 use mathlib.Core.List.{List, [], _∷_}

@@ -11,14 +11,14 @@ use Rattle.tracker.specs.State.{summary-of, state-of, zeros, ascending, counts-
 use Rattle.tracker.specs.Calls.{victims-in, block-rows, ends-window, next-event, tables-long, set-up-tests-to, activation-tests-to, refresh-tests-to, agreement-tests-to, kept-unless, set-up-to, activation-to, refresh-to, same-estimates, agreement-to}
 use Rattle.bound.specs.Answers.{settings-of}
 use Rattle.figures.specs.Table.{state-numbers, shown}
-use Rattle.figures.specs.Edges.{small, whole, two-places, untracked, refusal-of, set-up-numbers, activation-numbers, event-numbers, agreement-numbers, set-up-figure, activation-figure, event-figure, agreement-figure, set-up-edges, activation-edges, event-edges, agreement-edges, wide, fresh, wide-figure, across, behind-all, tracks-one, subarray-edges, large, large-figure, large-edges, edges}
+use Rattle.figures.specs.Edges.{small, whole, two-places, untracked, refusal-of, set-up-numbers, activation-numbers, event-numbers, agreement-numbers, set-up-under, set-up-figure, activation-under, activation-figure, event-figure, agreement-figure, set-up-edges, activation-edges, event-edges, agreement-edges, wide, fresh, wide-figure, across, behind-all, tracks-one, subarray-edges, large, large-figure, large-edges, edges}
 use Rattle.figures.proofs.Tests.{same, every}
 
 pub edges-pass : T (every edges)
 unfolding
     every same edges set-up-edges activation-edges event-edges agreement-edges subarray-edges large-edges shown state-numbers settings-of
     small whole two-places untracked refusal-of set-up-numbers activation-numbers event-numbers agreement-numbers
-    set-up-figure activation-figure event-figure agreement-figure wide fresh wide-figure across behind-all tracks-one large large-figure
+    set-up-under set-up-figure activation-under activation-figure event-figure agreement-figure wide fresh wide-figure across behind-all tracks-one large large-figure
     first-failed unless refuse tested within rows-allowed-to diameter-allowed block-allowed settings-tests-with settings-tests-to
     own-remap occurs-in all-occur remap-allowed physical rows-from rows-between within-reach victims
     rows-of counts-of has count-or without without-all raised entered has-count without-count top picks

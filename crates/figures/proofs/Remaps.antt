@@ -24,7 +24,7 @@ use Rattle.listing.specs.Texts.{listed-to, listing-to}
 use Rattle.bound.specs.Totals.{size, total, disturbers, bound-at, bound-of}
 use Rattle.bound.specs.Answers.{settings-of}
 use Rattle.figures.specs.Table.{numbers, state-numbers, shown}
-use Rattle.figures.specs.Edges.{small, two-places, untracked, refusal-of, set-up-numbers, activation-numbers, wide, fresh}
+use Rattle.figures.specs.Edges.{small, two-places, untracked, refusal-of, set-up-numbers, activation-numbers, set-up-under, activation-under, wide, fresh}
 use Rattle.figures.specs.Spellings.{set, row, writing-figure, refused-figure}
 use Rattle.figures.specs.Remaps.{identity, reverse, rotated, doubled, too-high, set-up-with, activation-with, at-an-edge, remap-calls, loaded-input, loaded-output, remap, reverse-line, remap-writing, remaps}
 use Rattle.figures.proofs.Tests.{same, every}
@@ -32,7 +32,7 @@ use Rattle.figures.proofs.Tests.{same, every}
 pub remaps-pass : T (every remaps)
 unfolding
     every same remaps remap-calls remap-writing identity reverse rotated doubled too-high set-up-with activation-with at-an-edge loaded-input loaded-output remap reverse-line
-    numbers state-numbers shown small two-places untracked refusal-of set-up-numbers activation-numbers wide fresh set row writing-figure refused-figure
+    numbers state-numbers shown small two-places untracked refusal-of set-up-numbers activation-numbers set-up-under activation-under wide fresh set row writing-figure refused-figure
     first-failed unless refuse tested within rows-allowed-to diameter-allowed block-allowed settings-tests-with settings-tests-to settings-of
     own-remap occurs-in all-occur remap-allowed physical rows-from rows-between within-reach victims
     size total disturbers bound-at bound-of

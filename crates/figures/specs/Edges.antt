@@ -55,13 +55,19 @@ unfoldable pub agreement-numbers : Outcome Bool → List ℕ
 agreement-numbers (accepted same) = 0 ∷ cond same 1 0 ∷ []
 agreement-numbers (refused k) = k ∷ []
 
--- setting up on tables that hold 7
-unfoldable pub set-up-figure : Settings → List ℕ → Figure
-set-up-figure s given = shown given (set-up-numbers (set-up s own-remap (7 ∷ 7 ∷ []) (7 ∷ 7 ∷ [])))
+-- setting up with a remap on tables that hold 7, and with our own
+unfoldable pub set-up-under : List ℕ → Settings → List ℕ → Figure
+set-up-under remap s given = shown given (set-up-numbers (set-up s remap (7 ∷ 7 ∷ []) (7 ∷ 7 ∷ [])))
 
--- an activation of a 'bus row'
+unfoldable pub set-up-figure : Settings → List ℕ → Figure
+set-up-figure s given = set-up-under own-remap s given
+
+-- an activation of a 'bus row' with a remap, and with our own
+unfoldable pub activation-under : List ℕ → Settings → State → ℕ → List ℕ → Figure
+activation-under remap s st row given = shown given (activation-numbers (activation-on s remap st row))
+
 unfoldable pub activation-figure : Settings → State → ℕ → List ℕ → Figure
-activation-figure s st row given = shown given (activation-numbers (activation-on s own-remap st row))
+activation-figure s st row given = activation-under own-remap s st row given
 
 -- an event with a list of two places that hold 7
 unfoldable pub event-figure : Settings → State → List ℕ → Figure

@@ -7,11 +7,11 @@ use Rattle.trace.specs.declared.Record.{Record}
 use Rattle.trace.specs.declared.Record.the-variants.{Remap}
 use Rattle.trace.specs.Records.{as-sixteen}
 use Rattle.tracker.specs.State.{State}
-use Rattle.tracker.specs.Calls.{set-up, activation-on}
+use Rattle.tracker.specs.Calls.{set-up}
 use Rattle.listing.specs.Steps.{start}
 use Rattle.listing.specs.Texts.{listing}
 use Rattle.figures.specs.Table.{Figure, shown}
-use Rattle.figures.specs.Edges.{small, two-places, untracked, set-up-numbers, activation-numbers, wide, fresh}
+use Rattle.figures.specs.Edges.{small, two-places, untracked, set-up-numbers, set-up-under, activation-under, wide, fresh}
 use Rattle.figures.specs.Spellings.{set, row, writing-figure, refused-figure}
 
 -- remaps: each number at its own place, the reverse, and one that does not undo itself; and two with 'a number missing': 0 'repeated' for 1, and 16 for 15
@@ -30,16 +30,16 @@ doubled = 0 ∷ 0 ∷ 2 ∷ 3 ∷ 4 ∷ 5 ∷ 6 ∷ 7 ∷ 8 ∷ 9 ∷ 10 ∷ 11 
 unfoldable pub too-high : List ℕ
 too-high = 0 ∷ 1 ∷ 2 ∷ 3 ∷ 4 ∷ 5 ∷ 6 ∷ 7 ∷ 8 ∷ 9 ∷ 10 ∷ 11 ∷ 12 ∷ 13 ∷ 14 ∷ 16 ∷ []
 
--- setting up on tables that hold 7, and an activation, with the settings 16 2 1 2 4 4 4
+-- both calls with the settings 16 2 1 2 4 4 4
 unfoldable pub set-up-with : List ℕ → List ℕ → Figure
-set-up-with remap given = shown given (set-up-numbers (set-up (small 2 1) remap (7 ∷ 7 ∷ []) (7 ∷ 7 ∷ [])))
+set-up-with remap given = set-up-under remap (small 2 1) given
 
 unfoldable pub activation-with : List ℕ → State → ℕ → List ℕ → Figure
-activation-with remap st bus given = shown given (activation-numbers (activation-on (small 2 1) remap st bus))
+activation-with remap st logical given = activation-under remap (small 2 1) st logical given
 
 -- a first activation in a bank of 1,024 rows under the reverse, with B = 4
 unfoldable pub at-an-edge : ℕ → List ℕ → Figure
-at-an-edge bus given = shown given (activation-numbers (activation-on (wide 1024 4) reverse (fresh (wide 1024 4) 0) bus))
+at-an-edge logical given = activation-under reverse (wide 1024 4) (fresh (wide 1024 4) 0) logical given
 
 -- 14 comes after 8 where a tracker is set up, and in an activation after 9 and before 21 and 22; rows that a remap puts at the edge of a subarray
 unfoldable pub remap-calls : List Figure

@@ -59,8 +59,8 @@ renewed s named block x =
 unfoldable pub one-event-more : Exact → Exact
 one-event-more x = record { disturbance = x .disturbance; refreshes = x .refreshes + 1 }
 
--- one call: an activation renews 'the die row of its bus row' by its own remap; an event the rows it named and the regular block, which 'the remainder of f by n
--- as e' gives; 'a refused call changes nothing'
+-- one call: an activation renews 'the die row of its bus row' by its own remap; an event the rows it named and the regular block, which 'the remainder of
+-- f by n as e' gives; 'a refused call changes nothing'
 unfoldable pub after : Settings → Happened → Exact → Exact
 after s (activated remap row true) x = renewed s (physical remap row ∷ []) [] x
 after s (activated remap row false) x = x

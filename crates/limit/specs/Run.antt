@@ -19,8 +19,8 @@ unfoldable pub left-by : Settings → Command → State → State
 left-by s (activation-of remap row) st = activation-on s remap st row .state
 left-by s (refresh-into picks) st = refresh-on s st picks .state
 
--- what the counter 'is fed' of a call: its remap and row, 'whether the call was accepted, and the rows that an accepted event named: from the lent list's front,
--- as many as its answer says'
+-- what the counter 'is fed' of a call: its remap and row, 'whether the call was accepted, and the rows that an accepted event named: from the lent list's
+-- front, as many as its answer says'
 unfoldable pub told-by : Settings → Command → State → Happened
 told-by s (activation-of remap row) st = activated remap row (activation-on s remap st row .accepts)
 told-by s (refresh-into picks) st =

@@ -10,7 +10,8 @@ use lib.Seq.{length-take-le, getD-at, take-at}
 use Rattle.laws.proofs.Cases.{split, clash, missing, either, cond-test, cond-some}
 use Rattle.trace.specs.declared.Read.the-variants.{Line, Refused}
 use Rattle.trace.specs.declared.Record.{Record}
-use Rattle.trace.specs.Contracts.{ends-after, line-fields}
+use Rattle.trace.specs.Contracts.{found-all, ends-after, line-fields}
+use Rattle.trace.specs.declared.Fields.{Fields}
 use Rattle.trace.specs.Numbers.{fields}
 use Rattle.trace.specs.Records.{numbered}
 use Rattle.trace.specs.Lines.{line, ended, extent}
@@ -62,25 +63,27 @@ module _ {says : List ℕ → Option Record} {w : ℕ} (form : Form says w) (tex
   pub reading-by-other-bytes : (next : ℕ) → next ≡ at + extent text → says (take w text) ≡ none → said (Refused next) ≡ reading-by says text at
   reading-by-other-bytes next n h = reading-by-refused next n (says-none (λ r e s. missing (sym h ∙ s)))
 
--- a line of so many fields
-module _ (count : ℕ) (says : List ℕ → Record) (text : List ℕ) (at : ℕ) where
-  pub reading-numbers : (numbers : List ℕ) (next : ℕ) → line-fields count text ≡ some numbers → next ≡ at + (6 * count + 1)
-      → said (Line (says numbers) next) ≡ reading-by (numbered count says) text at
-  unfolding line-fields bind
-  reading-numbers numbers next e n =
+-- a line of so many fields, by what they were found to hold
+module _ (count : ℕ) (says : List ℕ → Record) (text : List ℕ) (at : ℕ) (f : Fields) (found : found-all count f ≡ line-fields count text) where
+  pub reading-numbers : (next : ℕ) → f .all ≡ true → next ≡ at + (6 * count + 1)
+      → said (Line (says (take count (f .values))) next) ≡ reading-by (numbered count says) text at
+  unfolding found-all line-fields bind
+  reading-numbers next all n =
+      let numbers : List ℕ = take count (f .values) in
+      let e : line-fields count text ≡ some numbers = sym found ∙ rw all in
       let ends = cond-test (ends-after (6 * count) text) (fields count text) numbers e in
-      let found = cond-some (ends-after (6 * count) text) (fields count text) numbers e in
+      let holds = cond-some (ends-after (6 * count) text) (fields count text) numbers e in
       let inside = ends-after-lt (6 * count) text ends in
       reading-by-accepted (numbered-form count says) text at (says numbers) next n ends
-      (numbered-take count says text (omega arith) ∙ rw found)
+      (numbered-take count says text (omega arith) ∙ rw holds)
 
-  pub reading-no-numbers : (next : ℕ) → line-fields count text ≡ none → next ≡ at + extent text
-      → said (Refused next) ≡ reading-by (numbered count says) text at
-  unfolding line-fields bind
-  reading-no-numbers next e n =
+  pub reading-no-numbers : (next : ℕ) → f .all ≡ false → next ≡ at + extent text → said (Refused next) ≡ reading-by (numbered count says) text at
+  unfolding found-all line-fields bind
+  reading-no-numbers next other n =
+      let e : line-fields count text ≡ none = sym found ∙ rw other in
       split (ends-after (6 * count) text)
       (λ ends.
       let inside = ends-after-lt (6 * count) text ends in
       reading-by-other-bytes (numbered-form count says) text at next n
       (numbered-take count says text (omega arith) ∙ rw (rw ends at e)))
-      (λ other. reading-by-other-width (numbered-form count says) text at next n other)
+      (λ elsewhere. reading-by-other-width (numbered-form count says) text at next n elsewhere)
