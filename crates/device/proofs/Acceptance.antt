@@ -39,7 +39,7 @@ or-true-either : (a b : Bool) → (a || b) ≡ true → (a ≡ true) ⊎ (b ≡ 
 or-true-either true b e = inl refl
 or-true-either false b e = inr e
 
-within-between : (low high x : ℕ) → within low high x ≡ true → Between low high x
+pub within-between : (low high x : ℕ) → within low high x ≡ true → Between low high x
 unfolding within
 within-between low high x e =
     let parts = and-both (leb low x) (leb x high) e in

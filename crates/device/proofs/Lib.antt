@@ -2,6 +2,7 @@
 pub mod Refusal
 pub mod Acceptance
 pub mod Remap
+pub mod Hold
 pub mod Victims
 pub mod Occurrences
 pub mod Claims

@@ -1,4 +1,5 @@
-// A device: its settings with their tests, where a logical row lies on the die, and how far a row reaches in its subarray.
+// A device: its settings with their tests, where a logical row lies on the die, for how many units it may be held open, and how far a row reaches in
+// its subarray.
 ghost use mathlib.Core.Path.{_≡_};
 ghost use Prim.Native.Nat.{_<_, _+_, _-_, _*_, min, max};
 ghost use mathlib.Core.Bool.{not, true};
@@ -6,6 +7,7 @@ ghost use lib.Dec.{leb};
 ghost use Rattle.device.specs.Refusal.{refuse, first-failed};
 ghost use Rattle.device.specs.Acceptance.{most-rows, within, rows-allowed, diameter-allowed, block-allowed, settings-tests, settings-tests-with, settings-tests-but-counters};
 ghost use Rattle.device.specs.Remap.{own-remap, occurs-in, remap-allowed, physical};
+ghost use Rattle.device.specs.Hold.{hold-allowed};
 ghost use Rattle.device.specs.Victims.{subarray-rows, subarray-start};
 
 // The most rows of a bank and the most counters that settings may name.
@@ -157,6 +159,16 @@ pub fn physical_row(remap: [u32; 16], row: u32) -> u32
     ensures { λ r. ⌜ r ≡ physical remap row ⌝ }
 {
     row / 16 * 16 + remap[(row % 16) as usize]
+}
+
+// The most units of a hold.
+const MOST_UNITS: u32 = 16;
+
+// Whether a hold is accepted.
+pub fn hold_allowed(hold: u32) -> bool
+    ensures { λ r. ⌜ r ≡ hold-allowed hold ⌝ }
+{
+    is_within(1, MOST_UNITS, hold)
 }
 
 // The smaller of two numbers.

@@ -48,10 +48,10 @@ answered-run (set-up-answered r p remap rows₀ counts₀ rows counts meets read
       leads = refl;
       tells = refl;
     }
-answered-run (activation-answered a remap row r rows counts meets) =
-    run-of-call (activation-of remap row) (answered-run a) _ _
+answered-run (activation-answered a remap row hold r rows counts meets) =
+    run-of-call (activation-of remap row hold) (answered-run a) _ _
     (ap (λ (c : Activation-call). c .state) meets)
-    (ap (λ (c : Activation-call). activated remap row (c .accepts)) meets)
+    (ap (λ (c : Activation-call). activated remap row hold (c .accepts)) meets)
 answered-run (refresh-answered a list₀ r rows counts list meets) =
     run-of-call (refresh-into list₀) (answered-run a) _ _
     (ap (λ (c : Refresh-call). c .state) meets)

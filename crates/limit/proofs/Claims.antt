@@ -1,11 +1,13 @@
 -- The claims, each under its statement's name.
 use mathlib.Core.Path.{_≡_, sym}
 use mathlib.Core.Bool.{Bool, true, false, not}
+use Prim.Native.Nat.{_+_}
 use native.Mathlib.Omega.{arith}
 use lib.Dec.{ltb, leb}
 use lib.ListN.{length}
 use Rattle.device.specs.Refusal.{refuse}
 use Rattle.device.specs.Remap.{remap-allowed}
+use Rattle.device.specs.Hold.{hold-allowed}
 use Rattle.device.proofs.Acceptance.{accepted-settings}
 use Rattle.bound.specs.Totals.{bound-of}
 use Rattle.tracker.specs.State.{state-of}
@@ -30,12 +32,13 @@ demand-3-of-answers s st told a row inside =
     let k = answered-run a in
     rw (k .tells) (demand-3 s (k .begun) (k .starts) (k .calls) row inside)
 
-not-21 : (outside other full : Bool) → refuse outside 9 (refuse other 14 (refuse full 22 0)) ≡ 21 → ⊥
+not-21 : (outside short other full : Bool) → refuse outside 9 (refuse short 15 (refuse other 14 (refuse full 22 0))) ≡ 21 → ⊥
 unfolding refuse
-not-21 true other full e = omega arith
-not-21 false true full e = omega arith
-not-21 false false true e = omega arith
-not-21 false false false e = omega arith
+not-21 true short other full e = omega arith
+not-21 false true other full e = omega arith
+not-21 false false true full e = omega arith
+not-21 false false false true e = omega arith
+not-21 false false false false e = omega arith
 
 pub never-21 : Never-21
 unfolding Never-21 activation-to refresh-to refuse
@@ -43,9 +46,9 @@ never-21 s st b calls =
     let k = state-inv-run b calls in
     let ok = begun-accepted b in
     let sound = plain-held s ok (k .inv) in (
-      (λ remap row e.
-          not-21 (not (ltb row (s .rows))) (not (remap-allowed remap)) (not (ltb (k .activations) (s .interval)))
-          (rw (k .stored, activation-refusals s (k .events) (k .activations) (k .sum) ok sound remap row) at e)),
+      (λ remap row hold e.
+          not-21 (not (ltb row (s .rows))) (not (hold-allowed hold)) (not (remap-allowed remap)) (not (leb (k .activations + hold) (s .interval)))
+          (rw (k .stored, activation-refusals s (k .events) (k .activations) (k .sum) ok sound remap row hold) at e)),
       (λ picks e.
           short-21 (not (leb (s .volume) (length picks)))
           (rw (k .stored, refresh-refusals s (k .events) (k .activations) (k .sum) ok sound picks) at e)),

@@ -3,13 +3,14 @@
 use mathlib.Core.Path.{_≡_, refl}
 use mathlib.Core.Bool.{true, false}
 use mathlib.Core.List.{List, [], _∷_, _++_}
-use Prim.Native.Nat.{ℕ, suc, _+_, _-_, _*_, _%_, _≤_, _<_}
-use native.Mathlib.Nat.{le-trans, suc-mod, mod-eq-of-lt, mod-self, mod-le, zero-mod}
+use Prim.Native.Nat.{ℕ, zero, suc, _+_, _-_, _*_, _%_, _≤_, _<_}
+use native.Mathlib.Nat.{add-zero, add-suc, le-trans, suc-mod, mod-eq-of-lt, mod-self, mod-le, zero-mod}
 use native.Mathlib.Numerals.{add-one}
 use native.Mathlib.Omega.{arith}
 use borrow.Author.Tests.{eqb-true, eqb-false}
 use lib.ListN.{length}
 use Rattle.device.specs.declared.Settings.{Settings}
+use Rattle.device.specs.Hold.{repeated}
 use Rattle.device.proofs.Acceptance.{Accepted}
 use Rattle.device.proofs.Victims.{Ascends}
 use Rattle.bound.specs.Totals.{bound-at}
@@ -93,10 +94,10 @@ module _ (s : Settings) (ok : Accepted s) {all e k a : ℕ} {sum : Summary} {x y
   pub inv-first : x .refreshes < s .window → (v : ℕ) → v < s .rows → x .disturbance v ≤ bound-at s all
   inv-first first v h = omega (arith, i .carry .split v h, i .carry .first first v h, inv-window v)
 
-  -- a physical row is activated
-  pub inv-activated : (row : ℕ) → row < s .rows → a < s .interval → Inv s all e k (a + 1) (activation (s .counters) (victims-in s) row sum) (renewed s (row ∷ []) [] x) (renewed s (row ∷ []) [] y)
+  -- a unit of an activation of a physical row
+  inv-unit : (row : ℕ) → row < s .rows → a < s .interval → Inv s all e k (a + 1) (activation (s .counters) (victims-in s) row sum) (renewed s (row ∷ []) [] x) (renewed s (row ∷ []) [] y)
   unfolding renewed once besides Renewed
-  inv-activated row h free =
+  inv-unit row h free =
       record {
         since = i .since + 1;
         old = restored (row ∷ []) [] (i .old);
@@ -173,3 +174,17 @@ module _ (s : Settings) (ok : Accepted s) {all e k a : ℕ} {sum : Summary} {x y
             (omega (arith, mod-le (x .refreshes) (s .window), i .counted))
             inv-window;
       })
+
+-- all units of an activation, one after the other
+inv-unit-more : (s : Settings) (ok : Accepted s) (all e k a units : ℕ) (sum : Summary) (x y : Exact) → Inv s all e k (a + units) sum x y → (row : ℕ) → row < s .rows → a + suc units ≤ s .interval → Inv s all e k (a + suc units) (activation (s .counters) (victims-in s) row sum) (renewed s (row ∷ []) [] x) (renewed s (row ∷ []) [] y)
+inv-unit-more s ok all e k a units sum x y i row h spare =
+    rw (add-suc a units, ← add-one (a + units)) (inv-unit s ok i row h (omega arith))
+
+inv-no-unit : (s : Settings) (all e k a : ℕ) (sum : Summary) (x y : Exact) → Inv s all e k a sum x y → Inv s all e k (a + 0) sum x y
+inv-no-unit s all e k a sum x y i = rw (add-zero a) i
+
+pub inv-units : (s : Settings) → Accepted s → {all e k a : ℕ} {sum : Summary} {x y : Exact} → Inv s all e k a sum x y → (row : ℕ) → row < s .rows → (units : ℕ) → a + units ≤ s .interval → Inv s all e k (a + units) (repeated units (activation (s .counters) (victims-in s) row) sum) (repeated units (renewed s (row ∷ []) []) x) (repeated units (renewed s (row ∷ []) []) y)
+unfolding repeated
+inv-units s ok {all} {e} {k} {a} {sum} {x} {y} i row h zero spare = inv-no-unit s all e k a sum x y i
+inv-units s ok {all} {e} {k} {a} {sum} {x} {y} i row h (suc units) spare =
+    inv-unit-more s ok all e k a units _ _ _ (inv-units s ok i row h units (omega arith)) row h spare

@@ -1,8 +1,8 @@
--- Reachable states: setting up reaches one, and so does one more call; their calls are refused with 9, 14, 22 or 10 only, and their tables have C places.
+-- Reachable states: setting up reaches one, and so does one more call; their calls are refused with 9, 15, 14, 22 or 10 only, and their tables have C places.
 use mathlib.Core.Path.{_≡_, refl, sym, _∙_, ap}
 use mathlib.Core.Bool.{not}
 use mathlib.Core.List.{List, [], _∷_, _++_}
-use Prim.Native.Nat.{ℕ}
+use Prim.Native.Nat.{ℕ, _+_, _≤_}
 use native.Mathlib.Omega.{arith}
 use lib.Dec.{ltb, leb}
 use lib.ListN.{length}
@@ -10,6 +10,7 @@ use Rattle.device.specs.declared.Settings.{Settings}
 use Rattle.device.specs.Refusal.{first-failed, refuse}
 use Rattle.device.specs.Acceptance.{settings-tests}
 use Rattle.device.specs.Remap.{remap-allowed}
+use Rattle.device.specs.Hold.{hold-allowed}
 use Rattle.summary.specs.Entries.{rows-of, counts-of}
 use Rattle.summary.specs.Steps.{Summary}
 use Rattle.summary.proofs.Entries.Lengths.{length-rows, length-counts}
@@ -35,9 +36,9 @@ reached-call {s} {st} c r =
       leads = ap (λ (x : State). left-by s c x) (r .leads) ∙ sym (state-after-append s (r .calls) (c ∷ []) (r .begun));
     }
 
-pub reached-activation : {s : Settings} {st : State} (remap : List ℕ) (row : ℕ) → Reached s st → Reached s (activation-on s remap st row .state)
+pub reached-activation : {s : Settings} {st : State} (remap : List ℕ) (row hold : ℕ) → Reached s st → Reached s (activation-on s remap st row hold .state)
 unfolding left-by
-reached-activation remap row r = reached-call (activation-of remap row) r
+reached-activation remap row hold r = reached-call (activation-of remap row hold) r
 
 pub reached-refresh : {s : Settings} {st : State} (picks : List ℕ) → Reached s st → Reached s (refresh-on s st picks .state)
 unfolding left-by
@@ -65,11 +66,18 @@ reached-sum {s} {st} r =
       holds = plain-held s (reached-accepted r) (k .inv);
     }
 
-pub activation-refused-with : {s : Settings} {st : State} → Reached s st → (remap : List ℕ) (row : ℕ) → first-failed (activation-tests s remap st row) ≡ refuse (not (ltb row (s .rows))) 9 (refuse (not (remap-allowed remap)) 14 (refuse (not (ltb (st .position .activations) (s .interval))) 22 0))
+pub activation-refused-with : {s : Settings} {st : State} → Reached s st → (remap : List ℕ) (row hold : ℕ) → first-failed (activation-tests s remap st row hold) ≡ refuse (not (ltb row (s .rows))) 9 (refuse (not (hold-allowed hold)) 15 (refuse (not (remap-allowed remap)) 14 (refuse (not (leb (st .position .activations + hold) (s .interval))) 22 0)))
 unfolding state-of
-activation-refused-with {s} r remap row =
+activation-refused-with {s} r remap row hold =
     let k = reached-sum r in
-    rw (k .stored) (activation-refusals s (k .events) (k .activations) (k .sum) (reached-accepted r) (k .holds) remap row)
+    rw (k .stored) (activation-refusals s (k .events) (k .activations) (k .sum) (reached-accepted r) (k .holds) remap row hold)
+
+-- no more activations than the interval has
+pub reached-within : {s : Settings} {st : State} → Reached s st → st .position .activations ≤ s .interval
+unfolding state-of
+reached-within r =
+    let k = reached-sum r in
+    rw (k .stored) (k .holds .within)
 
 pub refresh-refused-with : {s : Settings} {st : State} → Reached s st → (picks : List ℕ) → first-failed (refresh-tests s st picks) ≡ refuse (not (leb (s .volume) (length picks))) 10 0
 refresh-refused-with {s} r picks =

@@ -5,7 +5,7 @@ use mathlib.Core.Bool.{true, false}
 use mathlib.Core.List.{List, [], _∷_, _++_}
 use Prim.Native.Nat.{ℕ, zero, suc, _+_, _%_}
 use native.Mathlib.Omega.{arith}
-use borrow.Author.Tests.{ltb-true}
+use borrow.Author.Tests.{ltb-true, leb-true}
 use lib.Dec.{ltb, leb}
 use lib.ListN.{length, take, drop}
 use lib.Seq.{take-at}
@@ -13,6 +13,7 @@ use Rattle.device.specs.declared.Settings.{Settings}
 use Rattle.device.specs.Refusal.{first-failed, refuse, accepted, tested}
 use Rattle.device.specs.Acceptance.{settings-tests}
 use Rattle.device.specs.Remap.{remap-allowed, physical}
+use Rattle.device.specs.Hold.{hold-allowed, repeated}
 use Rattle.laws.proofs.Cases.{split, zero-one}
 use Rattle.device.proofs.Remap.{physical-below}
 use Rattle.device.proofs.Acceptance.{Accepted, accepted-settings as accepted-facts}
@@ -26,7 +27,7 @@ use Rattle.tracker.proofs.Calls.SoundTests.{Held, activation-refusals, refresh-
 use Rattle.limit.specs.Exact.{Happened, Exact, at-rest, after, after-all, exact}
 use Rattle.limit.specs.Present.{cleared, next-window, present-after-all, present}
 use Rattle.limit.specs.Run.{Command, activation-of, refresh-into, left-by, told-by, state-after, happened, Begun}
-use Rattle.limit.proofs.Invariant.{Inv, inv-begins, inv-held, inv-activated, inv-refreshed, inv-ended}
+use Rattle.limit.proofs.Invariant.{Inv, inv-begins, inv-held, inv-units, inv-refreshed, inv-ended}
 
 -- a list of calls behind another: the state that it leaves, and what happened
 pub state-after-append : (s : Settings) (cs ds : List Command) (st : State) → state-after s (cs ++ ds) st ≡ state-after s ds (state-after s cs st)
@@ -67,27 +68,30 @@ module _ (s : Settings) (ok : first-failed (settings-tests s) ≡ 0) where
   state-inv-refused : {e a : ℕ} {sum : Summary} {x y : Exact} → Plain-inv s e a sum x y → State-inv s (state-of s e a sum) x y
   state-inv-refused {e} {a} {sum} i = record { events = e; activations = a; sum = sum; stored = refl; inv = i }
 
-  state-inv-activation : (remap : List ℕ) (row e a : ℕ) (sum : Summary) (x y : Exact) → Plain-inv s e a sum x y → Call-inv s (activation-of remap row) (state-of s e a sum) x y
+  state-inv-activation : (remap : List ℕ) (row hold e a : ℕ) (sum : Summary) (x y : Exact) → Plain-inv s e a sum x y → Call-inv s (activation-of remap row hold) (state-of s e a sum) x y
   unfolding left-by told-by activation-to kept-unless refuse after next-window state-of
-  state-inv-activation remap row e a sum x y i =
-      let refusals = activation-refusals s e a sum ok (plain-held i) remap row in
+  state-inv-activation remap row hold e a sum x y i =
+      let refusals = activation-refusals s e a sum ok (plain-held i) remap row hold in
       split (ltb row (s .rows))
       (λ inside.
+      split (hold-allowed hold)
+      (λ held.
       split (remap-allowed remap)
       (λ allowed.
       let below = physical-below remap allowed (s .rows) row (facts .others .rows-whole) (ltb-true row (s .rows) inside) in
-      split (ltb a (s .interval))
-      (λ free.
-      rw (refusals, inside, allowed, free, read-back s e a sum)
+      split (leb (a + hold) (s .interval))
+      (λ spare.
+      rw (refusals, inside, held, allowed, spare, read-back s e a sum)
       (record {
         events = e;
-        activations = a + 1;
-        sum = activation (s .counters) (victims-in s) (physical remap row) sum;
+        activations = a + hold;
+        sum = repeated hold (activation (s .counters) (victims-in s) (physical remap row)) sum;
         stored = refl;
-        inv = inv-activated s facts i (physical remap row) below (ltb-true a (s .interval) free);
+        inv = inv-units s facts i (physical remap row) below hold (leb-true (a + hold) (s .interval) spare);
       }))
-      (λ full. rw (refusals, inside, allowed, full) (state-inv-refused i)))
-      (λ other. rw (refusals, inside, other) (state-inv-refused i)))
+      (λ full. rw (refusals, inside, held, allowed, full) (state-inv-refused i)))
+      (λ other. rw (refusals, inside, held, other) (state-inv-refused i)))
+      (λ short. rw (refusals, inside, short) (state-inv-refused i)))
       (λ outside. rw (refusals, outside) (state-inv-refused i))
 
   state-inv-refresh : (picks : List ℕ) (e a : ℕ) (sum : Summary) (x y : Exact) → Plain-inv s e a sum x y → Call-inv s (refresh-into picks) (state-of s e a sum) x y
@@ -122,7 +126,7 @@ module _ (s : Settings) (ok : first-failed (settings-tests s) ≡ 0) where
 
   -- any call, and any list of calls
   state-inv-call : (c : Command) {st : State} {x y : Exact} → State-inv s st x y → Call-inv s c st x y
-  state-inv-call (activation-of remap row) {st} {x} {y} k = rw (k .stored) (state-inv-activation remap row (k .events) (k .activations) (k .sum) x y (k .inv))
+  state-inv-call (activation-of remap row hold) {st} {x} {y} k = rw (k .stored) (state-inv-activation remap row hold (k .events) (k .activations) (k .sum) x y (k .inv))
   state-inv-call (refresh-into picks) {st} {x} {y} k = rw (k .stored) (state-inv-refresh picks (k .events) (k .activations) (k .sum) x y (k .inv))
 
   state-inv-calls : (calls : List Command) {st : State} {x y : Exact} → State-inv s st x y → State-inv s (state-after s calls st) (after-all s (happened s calls st) x) (present-after-all s (happened s calls st) y)

@@ -21,10 +21,10 @@ pub data Answered (s : Settings) : State → List Happened → Type 0 where
   set-up-answered : (r : SetUp) (p : Position) (remap rows₀ counts₀ rows counts : List ℕ)
       → set-up-call r rows counts ≡ set-up s remap rows₀ counts₀ → set-up-outcome r ≡ accepted p
       → Answered s (given rows counts p) []
-  -- an activation of any logical row with any remap: the counter is told both and 'whether the call was accepted'
-  activation-answered : {st : State} {told : List Happened} → Answered s st told → (remap : List ℕ) (row : ℕ) (r : Activation) (rows counts : List ℕ)
-      → activation-call r rows counts ≡ activation-on s remap st row
-      → Answered s (given rows counts (activation-position r)) (told ++ activated remap row (activation-accepts r) ∷ [])
+  -- an activation of any logical row with any remap and hold: the counter is told all three and 'whether the call was accepted'
+  activation-answered : {st : State} {told : List Happened} → Answered s st told → (remap : List ℕ) (row hold : ℕ) (r : Activation) (rows counts : List ℕ)
+      → activation-call r rows counts ≡ activation-on s remap st row hold
+      → Answered s (given rows counts (activation-position r)) (told ++ activated remap row hold (activation-accepts r) ∷ [])
   -- an event with any lent list: it is told 'whether the call was accepted' and 'the rows .. from the lent list's front, as many as its answer says'
   refresh-answered : {st : State} {told : List Happened} → Answered s st told → (list₀ : List ℕ) (r : Refreshed) (rows counts list : List ℕ)
       → refresh-call r rows counts list ≡ refresh-on s st list₀

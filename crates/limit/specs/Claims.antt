@@ -32,7 +32,7 @@ Demand-3-of-answers =
 unfoldable pub Never-21 : Type 0
 Never-21 =
     (s : Settings) (st : State) → Begun s st → (calls : List Command) →
-    ((remap : List ℕ) (row : ℕ) → activation-on s remap (state-after s calls st) row .refusal ≡ 21 → ⊥) ×
+    ((remap : List ℕ) (row hold : ℕ) → activation-on s remap (state-after s calls st) row hold .refusal ≡ 21 → ⊥) ×
     ((picks : List ℕ) → refresh-on s (state-after s calls st) picks .refusal ≡ 21 → ⊥)
 
 -- the position's e, 'events so far in this window', is 'the remainder of f by n'

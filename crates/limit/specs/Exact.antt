@@ -5,13 +5,14 @@ use mathlib.Core.List.{List, [], _∷_, _++_}
 use lib.Dec.{eqb}
 use Rattle.device.specs.declared.Settings.{Settings}
 use Rattle.device.specs.Remap.{physical}
+use Rattle.device.specs.Hold.{repeated}
 use Rattle.summary.specs.Steps.{besides}
 use Rattle.tracker.specs.Calls.{victims-in, block-rows}
 
--- a call, as the counter is told of it: an activation's own remap ('fed each call's own') and logical row, and whether it was accepted; whether an
--- event was, and the rows it named
+-- a call, as the counter is told of it: an activation's own remap ('fed each call's own'), logical row and hold ('fed each call's hold too'), and whether it
+-- was accepted; whether an event was, and the rows it named
 pub data Happened : Type 0 where
-  activated : List ℕ → ℕ → Bool → Happened
+  activated : List ℕ → ℕ → ℕ → Bool → Happened
   refreshed : Bool → List ℕ → Happened
 
 -- 'one number for each die row, and f, the accepted events so far'
@@ -59,11 +60,11 @@ renewed s named block x =
 unfoldable pub one-event-more : Exact → Exact
 one-event-more x = record { disturbance = x .disturbance; refreshes = x .refreshes + 1 }
 
--- one call: an activation renews 'the die row of its bus row' by its own remap; an event the rows it named and the regular block, which 'the remainder of
--- f by n as e' gives; 'a refused call changes nothing'
+-- one call: an activation renews 'the die row of its bus row' by its own remap, once for each unit ('true disturbance counts units'); an event the rows it
+-- named and the regular block, which 'the remainder of f by n as e' gives; 'a refused call changes nothing'
 unfoldable pub after : Settings → Happened → Exact → Exact
-after s (activated remap row true) x = renewed s (physical remap row ∷ []) [] x
-after s (activated remap row false) x = x
+after s (activated remap row hold true) x = repeated hold (renewed s (physical remap row ∷ []) []) x
+after s (activated remap row hold false) x = x
 after s (refreshed true named) x = one-event-more (renewed s named (block-rows s (x .refreshes % s .window)) x)
 after s (refreshed false named) x = x
 

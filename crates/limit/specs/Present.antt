@@ -12,7 +12,7 @@ cleared x = record { disturbance = λ row. 0; refreshes = x .refreshes }
 
 -- an accepted event at 'e = n − 1' 'begins the next window' (step 4) before its own rows disturb (step 5)
 unfoldable pub next-window : Settings → Happened → Exact → Exact
-next-window s (activated remap row ok) x = x
+next-window s (activated remap row hold ok) x = x
 next-window s (refreshed false named) x = x
 next-window s (refreshed true named) x = cond (ends-window s (x .refreshes % s .window)) (cleared x) x
 

@@ -9,20 +9,20 @@ use Rattle.tracker.specs.State.{State}
 use Rattle.tracker.specs.Calls.{set-up, activation-on, refresh-on}
 use Rattle.limit.specs.Exact.{Happened, activated, refreshed}
 
--- a call of the list: an activation with any remap ('each call may bring any fold') and any logical row ('bus row'), or an event with any lent list
+-- a call of the list: an activation with any remap ('each call may bring any fold'), any logical row ('bus row') and any hold, or an event with any lent list
 pub data Command : Type 0 where
-  activation-of : List ℕ → ℕ → Command
+  activation-of : List ℕ → ℕ → ℕ → Command
   refresh-into : List ℕ → Command
 
 -- the state that a call leaves
 unfoldable pub left-by : Settings → Command → State → State
-left-by s (activation-of remap row) st = activation-on s remap st row .state
+left-by s (activation-of remap row hold) st = activation-on s remap st row hold .state
 left-by s (refresh-into picks) st = refresh-on s st picks .state
 
--- what the counter 'is fed' of a call: its remap and row, 'whether the call was accepted, and the rows that an accepted event named: from the lent list's
+-- what the counter 'is fed' of a call: its remap, row and hold, 'whether the call was accepted, and the rows that an accepted event named: from the lent list's
 -- front, as many as its answer says'
 unfoldable pub told-by : Settings → Command → State → Happened
-told-by s (activation-of remap row) st = activated remap row (activation-on s remap st row .accepts)
+told-by s (activation-of remap row hold) st = activated remap row hold (activation-on s remap st row hold .accepts)
 told-by s (refresh-into picks) st =
     let call = refresh-on s st picks in
     refreshed (call .accepts) (take (call .count) (call .picks))

@@ -81,16 +81,16 @@ refresh-step number s remap e call =
       tracker = some (record { settings = s; remap = remap; state = call .state });
     }
 
--- a record where N may be up to the most, by the remap that is loaded and the tracker that stands; 11: '`A` or `R` while no tracker stands'. An event is
--- lent a list of V places
+-- a record where N may be up to the most, by the remap that is loaded and the tracker that stands; 11: '`A` or `R` while no tracker stands', and `H`. An
+-- event is lent a list of V places
 unfoldable pub record-step-to : ℕ → ℕ → List ℕ → Option Tracker → Record → Step
 record-step-to most number loaded t (Set s) =
     let call = set-up-to most s loaded (replicate (s .counters) 0) (replicate (s .counters) 0) in
     set-up-step number s loaded call (call .answer)
 record-step-to most number loaded t (Remap table) = remap-step number (sixteen-of table) t
-record-step-to most number loaded none (Activate row) = refused-step number 11 none
-record-step-to most number loaded (some t) (Activate row) =
-    activation-step number (t .settings) (t .remap) (activation-to most (t .settings) (t .remap) (t .state) row)
+record-step-to most number loaded none (Activate row hold) = refused-step number 11 none
+record-step-to most number loaded (some t) (Activate row hold) =
+    activation-step number (t .settings) (t .remap) (activation-to most (t .settings) (t .remap) (t .state) row hold)
 record-step-to most number loaded none Refresh = refused-step number 11 none
 record-step-to most number loaded (some t) Refresh =
     refresh-step number (t .settings) (t .remap) (t .state .position .events)
@@ -110,7 +110,7 @@ loaded-by loaded remap = cond (remap-allowed remap) remap loaded
 unfoldable pub loaded-behind : List ℕ → Outcome Record → List ℕ
 loaded-behind loaded (accepted (Set s)) = loaded
 loaded-behind loaded (accepted (Remap table)) = loaded-by loaded (sixteen-of table)
-loaded-behind loaded (accepted (Activate row)) = loaded
+loaded-behind loaded (accepted (Activate row hold)) = loaded
 loaded-behind loaded (accepted Refresh) = loaded
 loaded-behind loaded (accepted Blank) = loaded
 loaded-behind loaded (refused k) = loaded

@@ -31,22 +31,27 @@ fn list_activation(
     counts: &mut [u32],
     p: Position,
     row: u32,
+    hold: u32,
     line: u64,
     out: &mut [u8],
     at: usize,
 ) -> Moved
     requires { ⌜ Reached s (lent rows counts p) × (at + 200 ≤ length (now out)) × (remap-allowed remap ≡ true) ⌝ }
-    ensures { λ r. ⌜ Lists-whole (activation-step line s remap (activation-on s remap (lent (rows .entry) (counts .entry) p) row)) s remap rows counts out at r ⌝ }
+    ensures { λ r. ⌜ Lists-whole (activation-step line s remap (activation-on s remap (lent (rows .entry) (counts .entry) p) row hold)) s remap rows counts out at r ⌝ }
 {
     if s.rows <= row {
         let end = trace::print_refusal(out, at, line, 9);
         return Moved { position: p, end };
     }
-    if s.interval <= p.activations {
+    if !device::hold_allowed(hold) {
+        let end = trace::print_refusal(out, at, line, 15);
+        return Moved { position: p, end };
+    }
+    if s.interval < p.activations + hold {
         let end = trace::print_refusal(out, at, line, 22);
         return Moved { position: p, end };
     }
-    let position = tracker::activate_accepted(s, remap, rows, counts, p, row);
+    let position = tracker::activate_accepted(s, remap, rows, counts, p, row, hold);
     Moved { position, end: at }
 }
 
@@ -78,12 +83,13 @@ pub fn front_activation(
     counts: &mut [u32],
     p: Position,
     row: u32,
+    hold: u32,
     line: u64,
     out: &mut [u8],
     at: usize,
 ) -> Moved
     requires { ⌜ Reached s (front s rows counts p) × (at + 200 ≤ length (now out)) × (s .counters ≤ length (now rows)) × (s .counters ≤ length (now counts)) × (remap-allowed remap ≡ true) ⌝ }
-    ensures { λ r. ⌜ Lists-front (activation-step line s remap (activation-on s remap (front s (rows .entry) (counts .entry) p) row)) s remap rows counts out at r ⌝ }
+    ensures { λ r. ⌜ Lists-front (activation-step line s remap (activation-on s remap (front s (rows .entry) (counts .entry) p) row hold)) s remap rows counts out at r ⌝ }
     ensures { λ r. ⌜ Keeps-behind s rows counts ⌝ }
 {
     let c = s.counters as usize;
@@ -94,6 +100,7 @@ pub fn front_activation(
         &mut counts[0..c],
         p,
         row,
+        hold,
         line,
         out,
         at,

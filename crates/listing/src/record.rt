@@ -63,19 +63,22 @@ fn activation_line(
     rows: &mut [u32],
     counts: &mut [u32],
     row: u32,
+    hold: u32,
     line: u64,
     out: &mut [u8],
     at: usize,
 ) -> Listed
     requires { ⌜ Ready (memory-of p rows counts) × (at + 200 ≤ length (now out)) ⌝ }
-    ensures { λ r. ⌜ Lists-line (record-step line (p .loaded) (tracker-of (memory-of p (rows .entry) (counts .entry))) (Activate row)) (p .loaded) line p rows counts out at r ⌝ }
+    ensures { λ r. ⌜ Lists-line (record-step line (p .loaded) (tracker-of (memory-of p (rows .entry) (counts .entry))) (Activate row hold)) (p .loaded) line p rows counts out at r ⌝ }
 {
     let position = p.position;
     let loaded = p.loaded;
     if p.active {
         let s = p.settings;
         let remap = p.remap;
-        let moved = line::front_activation(s, remap, rows, counts, position, row, line, out, at);
+        let moved = line::front_activation(
+            s, remap, rows, counts, position, row, hold, line, out, at,
+        );
         let after = moved.position;
         return Listed {
             place: at_line(p, after, loaded, line),
@@ -137,7 +140,7 @@ fn list_record(
     match what {
         Record::Set(s) => line::list_settings(p, s, rows, counts, line, out, at),
         Record::Remap(t) => remap_line(p, trace::sixteen_of(t), line, out, at),
-        Record::Activate(row) => activation_line(p, rows, counts, row, line, out, at),
+        Record::Activate(row, hold) => activation_line(p, rows, counts, row, hold, line, out, at),
         Record::Refresh => event_line(p, rows, counts, line, out, at),
         Record::Blank => Listed {
             place: at_line(p, came, loaded, line),

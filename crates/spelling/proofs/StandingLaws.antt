@@ -11,7 +11,7 @@ pub standing-stood : (s : Standing) (o : Outcome Record) → standing-of (stood 
 unfolding stood standing-of standing-behind
 standing-stood s (accepted (Set t)) = refl
 standing-stood s (accepted (Remap t)) = refl
-standing-stood s (accepted (Activate row)) = refl
+standing-stood s (accepted (Activate row hold)) = refl
 standing-stood s (accepted Refresh) = refl
 standing-stood s (accepted Blank) = refl
 standing-stood s (refused k) = refl

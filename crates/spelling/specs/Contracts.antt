@@ -19,7 +19,7 @@ standing-of s = cond (s .active) (some (s .rows)) none
 unfoldable pub stood : Standing → Outcome Record → Standing
 stood s (accepted (Set t)) = record { active = true; rows = t .rows }
 stood s (accepted (Remap t)) = s
-stood s (accepted (Activate row)) = s
+stood s (accepted (Activate row hold)) = s
 stood s (accepted Refresh) = s
 stood s (accepted Blank) = s
 stood s (refused k) = s

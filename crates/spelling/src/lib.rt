@@ -4,17 +4,19 @@ use trace::Read;
 use trace::Record;
 use trace::Sixteen;
 ghost use mathlib.Core.Path.{_≡_};
+ghost use mathlib.Core.Bool.{cond};
 ghost use mathlib.Core.List.{[], _∷_};
+ghost use lib.Dec.{eqb};
 ghost use Prim.Native.Nat.{_+_, _*_, _≤_};
 ghost use lib.ListN.{length, take};
-ghost use Rattle.trace.specs.Bytes.{letter-A, letter-F, letter-R, letter-S};
+ghost use Rattle.trace.specs.Bytes.{letter-A, letter-F, letter-H, letter-R, letter-S};
 ghost use Rattle.device.specs.Refusal.{unless, first-failed};
 ghost use Rattle.device.specs.Remap.{remap-allowed};
 ghost use Rattle.trace.specs.Records.{sixteen-of};
 ghost use Rattle.trace.specs.Reading.{said};
 ghost use Rattle.trace.specs.Output.{Prints-into};
-ghost use Rattle.trace.specs.Spelling.{settings-numbers, spelled-line, record-spelling, answer-spelling};
-ghost use Rattle.trace.specs.Writing.{row-fault, event-fault, fault};
+ghost use Rattle.trace.specs.Spelling.{settings-numbers, spelled-line, activation-spelling, record-spelling, answer-spelling};
+ghost use Rattle.trace.specs.Writing.{activation-fault, event-fault, fault};
 ghost use Rattle.spelling.specs.Contracts.{no-settings, standing-of, stood};
 
 // N of the settings last before a record, if any stand.
@@ -40,12 +42,13 @@ fn remap_fault(t: Sixteen) -> u32
     device::refuse_unless(device::remap_allowed(trace::sixteen_of(t)), 14, 0)
 }
 
-// The refusal of a row, or 0.
-fn row_fault(standing: Standing, row: u32) -> u32
-    ensures { λ r. ⌜ r ≡ row-fault (standing-of standing) row ⌝ }
+// The refusal of an activation, or 0.
+fn activation_fault(standing: Standing, row: u32, hold: u32) -> u32
+    ensures { λ r. ⌜ r ≡ activation-fault (standing-of standing) row hold ⌝ }
 {
     if standing.active {
-        return device::refuse_unless(row < standing.rows, 9, 0);
+        let held = device::refuse_unless(device::hold_allowed(hold), 15, 0);
+        return device::refuse_unless(row < standing.rows, 9, held);
     }
     11
 }
@@ -65,7 +68,7 @@ pub fn fault(standing: Standing, answer: Read) -> u32
         Read::Line(record, _) => match record {
             Record::Set(s) => device::settings_refusal(s),
             Record::Remap(t) => remap_fault(t),
-            Record::Activate(row) => row_fault(standing, row),
+            Record::Activate(row, hold) => activation_fault(standing, row, hold),
             Record::Refresh => event_fault(standing),
             Record::Blank => 0,
         },
@@ -84,12 +87,19 @@ pub fn standing_behind(standing: Standing, answer: Read) -> Standing
                 rows: s.rows,
             },
             Record::Remap(_) => standing,
-            Record::Activate(_) => standing,
+            Record::Activate(_, _) => standing,
             Record::Refresh => standing,
             Record::Blank => standing,
         },
         Read::Refused(_) => standing,
     }
+}
+
+// The bytes of an activation's spelling.
+fn activation_width(hold: u32) -> usize
+    ensures { λ r. ⌜ r ≡ cond (eqb hold 1) 8 14 ⌝ }
+{
+    if hold == 1 { 8 } else { 14 }
 }
 
 // The bytes of an answer's spelling.
@@ -100,7 +110,7 @@ pub fn width(answer: Read) -> usize
         Read::Line(record, _) => match record {
             Record::Set(_) => 44,
             Record::Remap(_) => 98,
-            Record::Activate(_) => 8,
+            Record::Activate(_, hold) => activation_width(hold),
             Record::Refresh => 2,
             Record::Blank => 0,
         },
@@ -144,14 +154,34 @@ fn print_remap(out: &mut [u8], at: usize, t: Sixteen) -> usize
     print_line(out, at, b'F', &numbers, 16)
 }
 
-// The line of an activation.
-fn print_activation(out: &mut [u8], at: usize, row: u32) -> usize
+// The line of an activation of one unit.
+fn print_one_unit(out: &mut [u8], at: usize, row: u32) -> usize
     requires { ⌜ at + 8 ≤ length (now out) ⌝ }
     ensures { λ r. ⌜ Prints-into out at (spelled-line letter-A (row ∷ [])) r ⌝ }
 {
     let place = trace::print_byte(out, at, b'A');
     let end = trace::print_columns(out, place, 6, row as u64);
     trace::print_byte(out, end, b'\n')
+}
+
+// The line of an activation held open.
+fn print_held(out: &mut [u8], at: usize, row: u32, hold: u32) -> usize
+    requires { ⌜ at + 14 ≤ length (now out) ⌝ }
+    ensures { λ r. ⌜ Prints-into out at (spelled-line letter-H (row ∷ hold ∷ [])) r ⌝ }
+{
+    let numbers = [row, hold];
+    print_line(out, at, b'H', &numbers, 2)
+}
+
+// The line of an activation.
+fn print_activation(out: &mut [u8], at: usize, row: u32, hold: u32) -> usize
+    requires { ⌜ at + length (activation-spelling row hold) ≤ length (now out) ⌝ }
+    ensures { λ r. ⌜ Prints-into out at (activation-spelling row hold) r ⌝ }
+{
+    if hold == 1 {
+        return print_one_unit(out, at, row);
+    }
+    print_held(out, at, row, hold)
 }
 
 // The line of a refresh event.
@@ -171,7 +201,7 @@ fn print_record(out: &mut [u8], at: usize, line: Record) -> usize
     match line {
         Record::Set(s) => print_settings(out, at, s),
         Record::Remap(t) => print_remap(out, at, t),
-        Record::Activate(row) => print_activation(out, at, row),
+        Record::Activate(row, hold) => print_activation(out, at, row, hold),
         Record::Refresh => print_event(out, at),
         Record::Blank => at,
     }

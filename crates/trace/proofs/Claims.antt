@@ -4,9 +4,10 @@ use mathlib.Core.Option.{none}
 use lib.ListN.{drop-of-length-le}
 use Rattle.device.proofs.Acceptance.{settings-above}
 use Rattle.trace.specs.Writing.{fault-to}
-use Rattle.trace.specs.Claims.{Read-in-turn, Round-trip, Read-back, One-spelling, Rewritten-stays, Writer-spells, Written-stays, Before-sound, Writing-stays}
+use Rattle.trace.specs.Claims.{Read-in-turn, Round-trip, Read-back, One-record, One-spelling, Rewritten-stays, Writer-spells, Written-stays, Before-sound, Writing-stays}
 use Rattle.trace.specs.Spelling.{spelling, unblank}
 use Rattle.trace.specs.Texts.{outcomes}
+use Rattle.trace.proofs.Records.{one-unit-record}
 use Rattle.trace.proofs.Texts.FirstLine.{outcomes-none, outcomes-turn}
 use Rattle.trace.proofs.Spelling.Readable.{outcomes-readable}
 use Rattle.trace.proofs.Spelling.Texts.{outcomes-spelling, unrefused-unblank, spelling-unblank}
@@ -27,6 +28,10 @@ round-trip os text n e =
 pub read-back : Read-back
 unfolding Read-back
 read-back text h = outcomes-spelling (outcomes-readable text h)
+
+pub one-record : One-record
+unfolding One-record
+one-record columns row long e = one-unit-record columns row long e
 
 pub one-spelling : One-spelling
 unfolding One-spelling Read-back

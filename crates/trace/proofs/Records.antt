@@ -7,15 +7,15 @@ use Prim.Native.Nat.{ℕ, zero, suc, _+_, _*_, _≤_}
 use native.Mathlib.Omega.{arith}
 use borrow.Author.Tests.{eqb-true, eq-eqb}
 use lib.Dec.{eqb}
-use lib.ListN.{length, getD, take}
+use lib.ListN.{length, getD, take, drop}
 use lib.Seq.{length-take-le, getD-take}
 use Rattle.laws.proofs.Cases.{split, missing, cond-test, cond-some}
 use Rattle.trace.specs.declared.Record.{Record}
 use Rattle.trace.specs.declared.Record.the-variants.{Set, Remap, Activate}
-use Rattle.trace.specs.Bytes.{letter-A, letter-F, letter-R, letter-S}
+use Rattle.trace.specs.Bytes.{letter-A, letter-F, letter-H, letter-R, letter-S}
 use Rattle.trace.specs.Lines.{ended}
 use Rattle.trace.specs.Numbers.{field, fields}
-use Rattle.trace.specs.Records.{as-settings, as-sixteen, numbered, settings, remap, activation, refresh, record-of}
+use Rattle.trace.specs.Records.{as-settings, as-sixteen, numbered, settings, remap, activation, held-activation, refresh, record-of}
 use Rattle.trace.proofs.Lines.{ended-drop-length}
 use Rattle.trace.proofs.Numbers.Fields.{field-take, fields-take, ended-field, ended-fields}
 
@@ -78,14 +78,32 @@ pub remap-form : Form remap 96
 unfolding remap
 remap-form = numbered-form 16 (λ numbers. Remap (as-sixteen numbers))
 
+pub held-activation-form : Form held-activation 12
+unfolding held-activation
+held-activation-form = numbered-form 2 (λ numbers. Activate (getD numbers 0 0) (getD numbers 1 0))
+
 -- what the first bytes of a text say
-pub activation-take : (text : List ℕ) → 6 ≤ length text → activation (take 6 text) ≡ bind (field 0 text) λ row. some (Activate row)
+pub activation-take : (text : List ℕ) → 6 ≤ length text → activation (take 6 text) ≡ bind (field 0 text) λ row. some (Activate row 1)
 unfolding activation
 activation-take text h = rw (eq-eqb _ _ (length-take-le 6 text h), field-take 0 6 text (omega arith))
 
 pub numbered-take : (count : ℕ) (says : List ℕ → Record) (text : List ℕ) → 6 * count ≤ length text → numbered count says (take (6 * count) text) ≡ bind (fields count text) λ ns. some (says ns)
 unfolding numbered
 numbered-take count says text h = rw (eq-eqb _ _ (length-take-le (6 * count) text h), fields-take count text)
+
+-- a row and a hold of 1 behind an `H` say what the row says behind an `A`
+first-field : (columns : List ℕ) (row hold : ℕ) → fields 2 columns ≡ some (row ∷ hold ∷ []) → field 0 columns ≡ some row
+unfolding fields
+first-field columns row hold e =
+    let first = bind-eq-some-iff (field 0 columns) _ .0 e in
+    let others = bind-eq-some-iff (fields 1 (drop 6 columns)) _ .0 (first .2) in
+    let same : first .0 ≡ row = cc in
+    rw same at (first .1)
+
+pub one-unit-record : (columns : List ℕ) (row : ℕ) → length columns ≡ 12 → fields 2 columns ≡ some (row ∷ 1 ∷ []) → record-of (letter-H ∷ columns) ≡ record-of (letter-A ∷ take 6 columns)
+unfolding record-of held-activation numbered bind
+one-unit-record columns row long e =
+    rw (eq-eqb _ _ long, e, activation-take columns (omega arith), first-field columns row 1 e)
 
 -- so many numbers of a list from a place on
 unfoldable pub places : ℕ → ℕ → List ℕ → List ℕ
@@ -126,4 +144,7 @@ length-record-le (b ∷ bytes) r h =
     (λ f.
     split (eqb b letter-F)
     (λ m. length-letter-le remap-form (omega arith) bytes r (rw (s, a, f, m) at h))
-    (λ m. missing (rw (s, a, f, m) at h)))))
+    (λ m.
+    split (eqb b letter-H)
+    (λ o. length-letter-le held-activation-form (omega arith) bytes r (rw (s, a, f, m, o) at h))
+    (λ o. missing (rw (s, a, f, m, o) at h))))))

@@ -15,15 +15,17 @@ use Rattle.device.specs.Acceptance.{most-rows}
 use Rattle.device.proofs.Acceptance.{Between, Accepted, accepted-settings, settings-alike}
 use Rattle.device.proofs.Refusal.{refuse-passed}
 use Rattle.device.proofs.Remap.{entry-below}
+use Rattle.device.proofs.Hold.{hold-between}
 use Rattle.laws.proofs.Cases.{split, clash, zero-one}
 use Rattle.trace.specs.declared.Sixteen.{Sixteen}
 use Rattle.trace.specs.declared.Record.{Record}
 use Rattle.trace.specs.declared.Record.the-variants.{Set, Remap, Activate, Refresh, Blank}
 use Rattle.device.specs.Remap.{remap-allowed}
+use Rattle.device.specs.Hold.{hold-allowed}
 use Rattle.trace.specs.Numbers.{written}
 use Rattle.trace.specs.Records.{sixteen-of}
 use Rattle.trace.specs.Spelling.{settings-numbers, spelling, is-blank, unblank}
-use Rattle.trace.specs.Writing.{standing-behind, standing-after, row-fault, fault-to, fault, first-fault-to, first-fault, before-fault-to, before-fault, room-fault, writing-fault-to, writing-by, writing-to, writing}
+use Rattle.trace.specs.Writing.{standing-behind, standing-after, activation-fault, fault-to, fault, first-fault-to, first-fault, before-fault-to, before-fault, room-fault, writing-fault-to, writing-by, writing-to, writing}
 use Rattle.trace.specs.Claims.{All-alike}
 use Rattle.trace.proofs.Output.{take-written}
 use Rattle.trace.proofs.Spelling.Numbers.{Narrow, no-number, one-more, narrow-by}
@@ -97,10 +99,13 @@ narrow-allowed : (t : Sixteen) → remap-allowed (sixteen-of t) ≡ true → Nar
 unfolding sixteen-of
 narrow-allowed t ok = narrow-by (sixteen-of t) (λ i h. omega (arith, entry-below (sixteen-of t) ok i h))
 
-row-fault-lt : {standing : Option ℕ} (row : ℕ) → Standing standing → row-fault standing row ≡ 0 → row < 1000000
-unfolding row-fault first-failed unless
-row-fault-lt row no-settings e = absurd (omega arith)
-row-fault-lt row (some-settings {rows} h) e = omega (arith, ltb-true row rows (refuse-passed (ltb row rows) 8 0 e .0))
+activation-faultless : {standing : Option ℕ} (row hold : ℕ) → Standing standing → activation-fault standing row hold ≡ 0 → Readable (accepted (Activate row hold))
+unfolding activation-fault first-failed unless
+activation-faultless row hold no-settings e = absurd (omega arith)
+activation-faultless row hold (some-settings {rows} h) e =
+    let inside = refuse-passed (ltb row rows) 8 _ e in
+    let units = hold-between hold (refuse-passed (hold-allowed hold) 14 0 (inside .1) .0) in
+    of-activation {row = row} (omega (arith, ltb-true row rows (inside .0))) (between-lt units (omega arith))
 
 answer-faultless : {standing : Option ℕ} (o : Outcome Record) → Standing standing → fault standing o ≡ 0 → Readable o × Standing (standing-behind standing o)
 unfolding fault-to standing-behind first-failed unless
@@ -108,7 +113,7 @@ answer-faultless (accepted (Set s)) h e =
     let all = accepted-settings s e in
     (of-settings (narrow-accepted s all), some-settings (all .others .rows .most))
 answer-faultless (accepted (Remap t)) h e = (of-remap (narrow-allowed t (refuse-passed (remap-allowed (sixteen-of t)) 13 0 e .0)), h)
-answer-faultless (accepted (Activate row)) h e = (of-activation (row-fault-lt row h e), h)
+answer-faultless (accepted (Activate row hold)) h e = (activation-faultless row hold h e, h)
 answer-faultless (accepted Refresh) h e = (of-refresh, h)
 answer-faultless (accepted Blank) h e = (of-blank, h)
 answer-faultless (refused k) h e = absurd (omega arith)
@@ -155,7 +160,7 @@ blank-faultless : (standing : Option ℕ) (o : Outcome Record) → is-blank o �
 unfolding is-blank fault-to standing-behind
 blank-faultless standing (accepted (Set s)) h = clash (sym h)
 blank-faultless standing (accepted (Remap t)) h = clash (sym h)
-blank-faultless standing (accepted (Activate row)) h = clash (sym h)
+blank-faultless standing (accepted (Activate row hold)) h = clash (sym h)
 blank-faultless standing (accepted Refresh) h = clash (sym h)
 blank-faultless standing (accepted Blank) h = (refl, refl)
 blank-faultless standing (refused k) h = clash (sym h)
@@ -175,7 +180,7 @@ fault-alike : (most : ℕ) (standing : Option ℕ) (o : Outcome Record) (os : Li
 unfolding fault-to
 fault-alike most standing (accepted (Set s)) os all = ap first-failed (settings-alike most s (all s (List·Memᴰ·head refl)))
 fault-alike most standing (accepted (Remap t)) os all = refl
-fault-alike most standing (accepted (Activate row)) os all = refl
+fault-alike most standing (accepted (Activate row hold)) os all = refl
 fault-alike most standing (accepted Refresh) os all = refl
 fault-alike most standing (accepted Blank) os all = refl
 fault-alike most standing (refused k) os all = refl

@@ -20,6 +20,10 @@ letter-A = 65
 abbrev pub letter-F : ℕ
 letter-F = 70
 
+-- `H`, an activation held open
+abbrev pub letter-H : ℕ
+letter-H = 72
+
 -- `R`, a refresh event
 abbrev pub letter-R : ℕ
 letter-R = 82

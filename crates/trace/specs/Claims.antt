@@ -3,13 +3,16 @@ use Prim.Native.Nat.{ℕ, _≤_, _<_}
 use mathlib.Core.Path.{_≡_}
 use mathlib.Core.Bool.{true}
 use mathlib.Core.List.{List, [], _∷_, _++_, List·Memᴰ}
-use mathlib.Core.Option.{Option, none}
+use mathlib.Core.Option.{Option, none, some}
 use lib.ListN.{length, take, drop}
 use Rattle.device.specs.declared.Settings.{Settings}
 use Rattle.device.specs.Refusal.{Outcome, accepted}
 use Rattle.device.specs.Claims.{Alike}
 use Rattle.trace.specs.declared.Record.{Record}
 use Rattle.trace.specs.declared.Record.the-variants.{Set}
+use Rattle.trace.specs.Bytes.{letter-A, letter-H}
+use Rattle.trace.specs.Numbers.{fields}
+use Rattle.trace.specs.Records.{record-of}
 use Rattle.trace.specs.Reading.{reading}
 use Rattle.trace.specs.Texts.{outcomes}
 use Rattle.trace.specs.Spelling.{spelling, unblank, unrefused}
@@ -32,6 +35,12 @@ Round-trip =
 -- the same of every trace that a reader can give, settings and rows out of range too
 unfoldable pub Read-back : Type 0
 Read-back = (text : List ℕ) → unrefused (outcomes text) ≡ true → outcomes (spelling (outcomes text)) ≡ unblank (outcomes text)
+
+-- '`A` and a hold of 1 are one record', however the row and the hold stand in their columns
+unfoldable pub One-record : Type 0
+One-record =
+    (columns : List ℕ) (row : ℕ) → length columns ≡ 12 → fields 2 columns ≡ some (row ∷ 1 ∷ []) →
+    record-of (letter-H ∷ columns) ≡ record-of (letter-A ∷ take 6 columns)
 
 -- 'Two traces without a refused line carry the same records in the same order, blank lines aside, exactly when their rewritten texts are the
 -- same bytes'

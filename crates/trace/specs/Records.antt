@@ -5,7 +5,7 @@ use mathlib.Core.List.{List, [], _∷_}
 use mathlib.Core.Option.{Option, none, some, bind}
 use lib.Dec.{eqb}
 use lib.ListN.{length, getD}
-use Rattle.trace.specs.Bytes.{letter-A, letter-F, letter-R, letter-S}
+use Rattle.trace.specs.Bytes.{letter-A, letter-F, letter-H, letter-R, letter-S}
 use Rattle.trace.specs.Numbers.{field, fields}
 use Rattle.device.specs.declared.Settings.{Settings}
 use Rattle.trace.specs.declared.Sixteen.{Sixteen}
@@ -64,20 +64,25 @@ sixteen-of t =
 unfoldable pub remap : List ℕ → Option Record
 remap bytes = numbered 16 (λ numbers. Remap (as-sixteen numbers)) bytes
 
--- 'an activation record holding its row': a bus row (logical row) behind an `A`, in 6 columns
+-- 'an activation record holding its row': a bus row (logical row) behind an `A`, in 6 columns; '`A` and a hold of 1 are one record'
 unfoldable pub activation : List ℕ → Option Record
-activation bytes = cond (eqb (length bytes) 6) (bind (field 0 bytes) λ row. some (Activate row)) none
+activation bytes = cond (eqb (length bytes) 6) (bind (field 0 bytes) λ row. some (Activate row 1)) none
+
+-- a row held open: '`H` with a bus row and a hold, 6 columns each', which the reader hands on untested
+unfoldable pub held-activation : List ℕ → Option Record
+held-activation bytes = numbered 2 (λ numbers. Activate (getD numbers 0 0) (getD numbers 1 0)) bytes
 
 -- 'an event': `R` 'alone', nothing behind it
 unfoldable pub refresh : List ℕ → Option Record
 refresh [] = some Refresh
 refresh (b ∷ bs) = none
 
--- 'Lines: `S` and the seven settings; `A` and a bus row; `R` alone; or blank (no bytes)'; and `F` with a fold
+-- 'Lines: `S` and the seven settings; `A` and a bus row; `R` alone; or blank (no bytes)'; `F` with a fold; and `H` with a bus row and a hold
 unfoldable pub record-of : List ℕ → Option Record
 record-of [] = some Blank
 record-of (b ∷ bs) =
     cond (eqb b letter-S) (settings bs)
     (cond (eqb b letter-A) (activation bs)
     (cond (eqb b letter-R) (refresh bs)
-    (cond (eqb b letter-F) (remap bs) none)))
+    (cond (eqb b letter-F) (remap bs)
+    (cond (eqb b letter-H) (held-activation bs) none))))

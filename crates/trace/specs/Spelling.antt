@@ -2,11 +2,12 @@
 use Prim.Native.Nat.{ℕ}
 use mathlib.Core.Bool.{Bool, true, false, cond}
 use mathlib.Core.List.{List, [], _∷_, _++_}
+use lib.Dec.{eqb}
 use Rattle.device.specs.declared.Settings.{Settings}
 use Rattle.device.specs.Refusal.{Outcome, accepted, refused}
 use Rattle.trace.specs.declared.Record.{Record}
 use Rattle.trace.specs.declared.Record.the-variants.{Set, Remap, Activate, Refresh, Blank}
-use Rattle.trace.specs.Bytes.{letter-A, letter-F, letter-R, letter-S}
+use Rattle.trace.specs.Bytes.{letter-A, letter-F, letter-H, letter-R, letter-S}
 use Rattle.trace.specs.Records.{sixteen-of}
 use Rattle.trace.specs.Output.{number-columns}
 
@@ -19,11 +20,15 @@ settings-numbers s =
 unfoldable pub spelled-line : ℕ → List ℕ → List ℕ
 spelled-line letter numbers = letter ∷ number-columns numbers ++ 10 ∷ []
 
+-- an activation: a hold of 1 'the writer spells `A`', every other `H`
+unfoldable pub activation-spelling : ℕ → ℕ → List ℕ
+activation-spelling row hold = cond (eqb hold 1) (spelled-line letter-A (row ∷ [])) (spelled-line letter-H (row ∷ hold ∷ []))
+
 -- the spelling of a record; 'blank records are passed over'
 unfoldable pub record-spelling : Record → List ℕ
 record-spelling (Set s) = spelled-line letter-S (settings-numbers s)
 record-spelling (Remap t) = spelled-line letter-F (sixteen-of t)
-record-spelling (Activate row) = spelled-line letter-A (row ∷ [])
+record-spelling (Activate row hold) = activation-spelling row hold
 record-spelling Refresh = spelled-line letter-R []
 record-spelling Blank = []
 
@@ -41,7 +46,7 @@ spelling (o ∷ os) = answer-spelling o ++ spelling os
 unfoldable pub is-blank : Outcome Record → Bool
 is-blank (accepted (Set s)) = false
 is-blank (accepted (Remap t)) = false
-is-blank (accepted (Activate row)) = false
+is-blank (accepted (Activate row hold)) = false
 is-blank (accepted Refresh) = false
 is-blank (accepted Blank) = true
 is-blank (refused k) = false

@@ -10,6 +10,7 @@ use Rattle.device.specs.Acceptance.{most-rows, settings-tests-to}
 use Rattle.trace.specs.declared.Record.{Record}
 use Rattle.trace.specs.declared.Record.the-variants.{Set, Remap, Activate, Refresh, Blank}
 use Rattle.device.specs.Remap.{remap-allowed}
+use Rattle.device.specs.Hold.{hold-allowed}
 use Rattle.trace.specs.Numbers.{written}
 use Rattle.trace.specs.Records.{sixteen-of}
 use Rattle.trace.specs.Spelling.{spelling}
@@ -18,7 +19,7 @@ use Rattle.trace.specs.Spelling.{spelling}
 unfoldable pub standing-behind : Option ℕ → Outcome Record → Option ℕ
 standing-behind standing (accepted (Set s)) = some (s .rows)
 standing-behind standing (accepted (Remap t)) = standing
-standing-behind standing (accepted (Activate row)) = standing
+standing-behind standing (accepted (Activate row hold)) = standing
 standing-behind standing (accepted Refresh) = standing
 standing-behind standing (accepted Blank) = standing
 standing-behind standing (refused k) = standing
@@ -28,10 +29,10 @@ unfoldable pub standing-after : Option ℕ → List (Outcome Record) → Option 
 standing-after standing [] = standing
 standing-after standing (o ∷ os) = standing-after (standing-behind standing o) os
 
--- 'a row is held against the settings last before it': 9; 'a row before any settings gets 11'
-unfoldable pub row-fault : Option ℕ → ℕ → ℕ
-row-fault none row = 11
-row-fault (some rows) row = first-failed (unless (ltb row rows) 9 ∷ [])
+-- 'a row is held against the settings last before it': 9; 'a row before any settings gets 11'; 15, 'a hold outside 1 to 16', 'right after 9'
+unfoldable pub activation-fault : Option ℕ → ℕ → ℕ → ℕ
+activation-fault none row hold = 11
+activation-fault (some rows) row hold = first-failed (unless (ltb row rows) 9 ∷ unless (hold-allowed hold) 15 ∷ [])
 
 -- 'an event before any settings gets 11'
 unfoldable pub event-fault : Option ℕ → ℕ
@@ -42,7 +43,7 @@ event-fault (some rows) = 0
 unfoldable pub fault-to : ℕ → Option ℕ → Outcome Record → ℕ
 fault-to most standing (accepted (Set s)) = first-failed (settings-tests-to most s)
 fault-to most standing (accepted (Remap t)) = first-failed (unless (remap-allowed (sixteen-of t)) 14 ∷ [])
-fault-to most standing (accepted (Activate row)) = row-fault standing row
+fault-to most standing (accepted (Activate row hold)) = activation-fault standing row hold
 fault-to most standing (accepted Refresh) = event-fault standing
 fault-to most standing (accepted Blank) = 0
 fault-to most standing (refused k) = 11

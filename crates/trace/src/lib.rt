@@ -7,7 +7,7 @@ ghost use lib.ListN.{length, take, drop};
 ghost use lib.Seq.{slice};
 ghost use Rattle.trace.specs.Numbers.{digits, field, fields, digit-or-blank, printed, written};
 ghost use Rattle.trace.specs.Lines.{extent};
-ghost use Rattle.trace.specs.Records.{as-settings, as-sixteen, sixteen-of, settings, remap, activation, refresh};
+ghost use Rattle.trace.specs.Records.{as-settings, as-sixteen, sixteen-of, settings, remap, activation, held-activation, refresh};
 ghost use Rattle.trace.specs.Contracts.{found, found-all, ends-after, line-fields, Copies-front};
 ghost use Rattle.trace.specs.Reading.{said, reading, reading-by, Handed-on};
 ghost use Rattle.trace.specs.Texts.{kept-bytes};
@@ -54,11 +54,11 @@ pub struct Sixteen {
     pub n15: u32,
 }
 
-// What a line says: settings, a remap, an activation of a logical row, a refresh event, or nothing.
+// What a line says: settings, a remap, an activation of a logical row with its hold, a refresh event, or nothing.
 pub enum Record {
     Set(Settings),
     Remap(Sixteen),
-    Activate(u32),
+    Activate(u32, u32),
     Refresh,
     Blank,
 }
@@ -270,7 +270,20 @@ fn read_activation(text: &[u8], at: usize) -> Read
     let Field::Number(row) = read_field(text, at) else {
         return Read::Refused(line_end(text, at));
     };
-    Read::Line(Record::Activate(row), at + 7)
+    Read::Line(Record::Activate(row, 1), at + 7)
+}
+
+// The line of an activation held open, from behind its letter on.
+fn read_held_activation(text: &[u8], at: usize) -> Read
+    requires { ⌜ at ≤ length (now text) ⌝ }
+    ensures { λ r. ⌜ said r ≡ reading-by held-activation (drop at (now (text .entry))) at ⌝ }
+{
+    let found = line_fields(text, at, 2);
+    if !found.all {
+        return Read::Refused(line_end(text, at));
+    }
+    let values = found.values;
+    Read::Line(Record::Activate(values[0], values[1]), at + 13)
 }
 
 // A refresh event's line, from behind its letter on.
@@ -299,6 +312,9 @@ pub fn read_line(text: &[u8], place: usize) -> Read
     }
     if letter == b'R' {
         return read_refresh(text, at);
+    }
+    if letter == b'H' {
+        return read_held_activation(text, at);
     }
     if letter == b'S' {
         return read_settings(text, at);

@@ -3,5 +3,6 @@ pub mod Tests
 pub mod SoundTests
 pub mod Ready
 pub mod Outcomes
+pub mod Holds
 pub mod SameEstimates
 pub mod VictimsIn

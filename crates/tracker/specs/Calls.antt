@@ -8,6 +8,7 @@ use Rattle.device.specs.declared.Settings.{Settings}
 use Rattle.device.specs.Refusal.{Test, unless, first-failed, Outcome, accepted, tested}
 use Rattle.device.specs.Acceptance.{most-rows, settings-tests-to}
 use Rattle.device.specs.Remap.{remap-allowed, physical}
+use Rattle.device.specs.Hold.{hold-allowed, repeated}
 use Rattle.device.specs.Victims.{rows-between, victims}
 use Rattle.summary.specs.Steps.{Summary, empty, estimate, picked, activation, event}
 use Rattle.tracker.specs.declared.Position.{Position}
@@ -33,21 +34,23 @@ next-event s e = cond (ends-window s e) 0 (e + 1)
 unfoldable pub tables-long : Settings → List ℕ → List ℕ → Bool
 tables-long s rows counts = eqb (length rows) (s .counters) && eqb (length counts) (s .counters)
 
--- the tests of each call, in their order, where N may be up to the most; 'setting up and each activation bring a fold'
+-- the tests of each call, in their order, where N may be up to the most; 'setting up and each activation bring a fold', and each activation a hold: 15, 'a hold outside 1 to 16', 'right
+-- after 9', and 22 'when the units would carry a past T'
 unfoldable pub set-up-tests-to : ℕ → Settings → List ℕ → List ℕ → List ℕ → List Test
 set-up-tests-to most s remap rows counts =
     settings-tests-to most s ++
     unless (tables-long s rows counts) 8 ∷
     unless (remap-allowed remap) 14 ∷ []
 
-unfoldable pub activation-tests-to : ℕ → Settings → List ℕ → State → ℕ → List Test
-activation-tests-to most s remap st row =
+unfoldable pub activation-tests-to : ℕ → Settings → List ℕ → State → ℕ → ℕ → List Test
+activation-tests-to most s remap st row hold =
     settings-tests-to most s ++
     unless (tables-long s (st .rows) (st .counts)) 8 ∷
     unless (ltb row (s .rows)) 9 ∷
+    unless (hold-allowed hold) 15 ∷
     unless (remap-allowed remap) 14 ∷
     unless (valid s st) 21 ∷
-    unless (ltb (st .position .activations) (s .interval)) 22 ∷ []
+    unless (leb (st .position .activations + hold) (s .interval)) 22 ∷ []
 
 unfoldable pub refresh-tests-to : ℕ → Settings → State → List ℕ → List Test
 refresh-tests-to most s st picks =
@@ -90,16 +93,17 @@ pub record Activation-call : Type 0 where
   pub refusal : ℕ
   pub state : State
 
-unfoldable pub activation-to : ℕ → Settings → List ℕ → State → ℕ → Activation-call
-activation-to most s remap st row =
-    let k = first-failed (activation-tests-to most s remap st row) in
+-- 'what that many activations of the row in succession would do', and it 'uses that many of T'
+unfoldable pub activation-to : ℕ → Settings → List ℕ → State → ℕ → ℕ → Activation-call
+activation-to most s remap st row hold =
+    let k = first-failed (activation-tests-to most s remap st row hold) in
     record {
       accepts = eqb k 0;
       refusal = k;
       state =
           kept-unless k st
-          (state-of s (st .position .events) (st .position .activations + 1)
-          (activation (s .counters) (victims-in s) (physical remap row) (summary-of st)));
+          (state-of s (st .position .events) (st .position .activations + hold)
+          (repeated hold (activation (s .counters) (victims-in s) (physical remap row)) (summary-of st)));
     }
 
 -- an event: whether it is accepted, the refusal, the number picked, the state and the list that it leaves
@@ -141,8 +145,8 @@ agreement-to most s st s′ st′ =
 abbrev pub set-up-tests : Settings → List ℕ → List ℕ → List ℕ → List Test
 set-up-tests s remap rows counts = set-up-tests-to most-rows s remap rows counts
 
-abbrev pub activation-tests : Settings → List ℕ → State → ℕ → List Test
-activation-tests s remap st row = activation-tests-to most-rows s remap st row
+abbrev pub activation-tests : Settings → List ℕ → State → ℕ → ℕ → List Test
+activation-tests s remap st row hold = activation-tests-to most-rows s remap st row hold
 
 abbrev pub refresh-tests : Settings → State → List ℕ → List Test
 refresh-tests s st picks = refresh-tests-to most-rows s st picks
@@ -153,8 +157,8 @@ agreement-tests s st s′ st′ = agreement-tests-to most-rows s st s′ st′
 abbrev pub set-up : Settings → List ℕ → List ℕ → List ℕ → SetUp-call
 set-up s remap rows counts = set-up-to most-rows s remap rows counts
 
-abbrev pub activation-on : Settings → List ℕ → State → ℕ → Activation-call
-activation-on s remap st row = activation-to most-rows s remap st row
+abbrev pub activation-on : Settings → List ℕ → State → ℕ → ℕ → Activation-call
+activation-on s remap st row hold = activation-to most-rows s remap st row hold
 
 abbrev pub refresh-on : Settings → State → List ℕ → Refresh-call
 refresh-on s st picks = refresh-to most-rows s st picks

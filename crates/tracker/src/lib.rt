@@ -90,8 +90,9 @@ fn activation_refusal(
     counts: &[u32],
     p: Position,
     row: u32,
+    hold: u32,
 ) -> u32
-    ensures { λ r. ⌜ r ≡ first-failed (activation-tests s remap (lent (rows .entry) (counts .entry) p) row) ⌝ }
+    ensures { λ r. ⌜ r ≡ first-failed (activation-tests s remap (lent (rows .entry) (counts .entry) p) row hold) ⌝ }
 {
     let k = tables_refusal(s, rows, counts);
     if k != 0 {
@@ -100,14 +101,16 @@ fn activation_refusal(
     if s.rows <= row {
         return 9;
     }
+    if !device::hold_allowed(hold) {
+        return 15;
+    }
     if !device::remap_allowed(remap) {
         return 14;
     }
-    device::refuse_unless(
-        state::valid_state(s, rows, counts, p),
-        21,
-        device::refuse_unless(p.activations < s.interval, 22, 0),
-    )
+    if !state::valid_state(s, rows, counts, p) {
+        return 21;
+    }
+    device::refuse_unless(p.activations + hold <= s.interval, 22, 0)
 }
 
 // The refusal of a refresh event, or 0.
@@ -150,25 +153,26 @@ pub fn activate_accepted(
     counts: &mut [u32],
     p: Position,
     row: u32,
+    hold: u32,
 ) -> Position
-    requires { ⌜ first-failed (activation-tests s remap (lent rows counts p) row) ≡ 0 ⌝ }
-    ensures { λ r. ⌜ lent (rows .exit) (counts .exit) r ≡ activation-on s remap (lent (rows .entry) (counts .entry) p) row .state ⌝ }
+    requires { ⌜ first-failed (activation-tests s remap (lent rows counts p) row hold) ≡ 0 ⌝ }
+    ensures { λ r. ⌜ lent (rows .exit) (counts .exit) r ≡ activation-on s remap (lent (rows .entry) (counts .entry) p) row hold .state ⌝ }
 {
     let t = Tally {
         tracked: p.tracked as usize,
         spillover: p.spillover,
     };
     let physical = device::physical_row(remap, row);
-    let after = victims::activate_row(s, rows, counts, t, physical);
+    let after = victims::activate_units(s, rows, counts, t, physical, hold);
     Position {
         events: p.events,
-        activations: p.activations + 1,
+        activations: p.activations + hold,
         tracked: after.tracked as u32,
         spillover: after.spillover,
     }
 }
 
-// An activation of a logical row, which the remap gives its physical row.
+// An activation of a logical row, which the remap gives its physical row, held open for so many units.
 pub fn activate(
     s: Settings,
     remap: [u32; 16],
@@ -176,14 +180,15 @@ pub fn activate(
     counts: &mut [u32],
     p: Position,
     row: u32,
+    hold: u32,
 ) -> Activation
-    ensures { λ r. ⌜ activation-left r rows counts ≡ activation-on s remap (lent (rows .entry) (counts .entry) p) row ⌝ }
+    ensures { λ r. ⌜ activation-left r rows counts ≡ activation-on s remap (lent (rows .entry) (counts .entry) p) row hold ⌝ }
 {
-    let k = activation_refusal(s, remap, rows, counts, p, row);
+    let k = activation_refusal(s, remap, rows, counts, p, row, hold);
     if k != 0 {
         return Activation::Refused(k, p);
     }
-    Activation::Accepted(activate_accepted(s, remap, rows, counts, p, row))
+    Activation::Accepted(activate_accepted(s, remap, rows, counts, p, row, hold))
 }
 
 // The events in the window after one more.

@@ -1,10 +1,11 @@
-// A row disturbs its victims, and an activation.
+// A row disturbs its victims, and an activation, unit by unit.
 use device::Settings;
 use summary::Tally;
 ghost use mathlib.Core.Path.{_≡_};
 ghost use Prim.Native.Nat.{_≤_, _<_};
 ghost use lib.ListN.{length};
 ghost use Rattle.device.specs.Acceptance.{most-rows};
+ghost use Rattle.device.specs.Hold.{repeated};
 ghost use Rattle.summary.specs.Steps.{disturb-each, activation};
 ghost use Rattle.summary.specs.Contracts.{summary, places, Tracks, Turns};
 ghost use Rattle.tracker.specs.Calls.{victims-in};
@@ -39,4 +40,27 @@ pub fn activate_row(s: Settings, rows: &mut [u32], counts: &mut [u32], t: Tally,
 {
     let rest = summary::drop_row(rows, counts, t, row);
     disturb_victims(s, rows, counts, rest, row)
+}
+
+// A row is activated once for each unit. A unit raises no count, and not the spillover, by more than 4.
+pub fn activate_units(
+    s: Settings,
+    rows: &mut [u32],
+    counts: &mut [u32],
+    t: Tally,
+    row: u32,
+    units: u32,
+) -> Tally
+    requires { ⌜ Tracks rows counts t ⌝ }
+    requires { ⌜ (s .«blast_diameter» ≤ 4) × (row < most-rows) ⌝ }
+    requires { ⌜ (units ≤ 16) × Room-for 192 (summary rows counts t) ⌝ }
+    ensures { λ r. ⌜ Turns rows counts t (repeated units (activation (places rows) (victims-in s) row)) r ⌝ }
+{
+    let mut left = t;
+    let mut done = 0;
+    while done < units {
+        left = activate_row(s, rows, counts, left, row);
+        done += 1;
+    }
+    left
 }

@@ -41,7 +41,7 @@ unfolding loaded-behind loaded-by
 loadable-behind loaded (accepted (Set s)) ok = ok
 loadable-behind loaded (accepted (Remap table)) ok =
     split (remap-allowed (sixteen-of table)) (λ e. rw e e) (λ e. rw e ok)
-loadable-behind loaded (accepted (Activate row)) ok = ok
+loadable-behind loaded (accepted (Activate row hold)) ok = ok
 loadable-behind loaded (accepted Refresh) ok = ok
 loadable-behind loaded (accepted Blank) ok = ok
 loadable-behind loaded (refused k) ok = ok
@@ -51,8 +51,8 @@ unfolding Running line-step-to record-step-to refused-step remap-step activation
 running-step number loaded t (refused k) ok r = r
 running-step number loaded t (accepted (Set s)) ok r = set-up-runs number s loaded (replicate (s .counters) 0) (replicate (s .counters) 0) _ ok refl
 running-step number loaded t (accepted (Remap table)) ok r = r
-running-step number loaded none (accepted (Activate row)) ok r = tt
-running-step number loaded (some t) (accepted (Activate row)) ok r = (reached-activation (t .remap) row (r .0), r .1)
+running-step number loaded none (accepted (Activate row hold)) ok r = tt
+running-step number loaded (some t) (accepted (Activate row hold)) ok r = (reached-activation (t .remap) row hold (r .0), r .1)
 running-step number loaded none (accepted Refresh) ok r = tt
 running-step number loaded (some t) (accepted Refresh) ok r = (reached-refresh (replicate (t .settings .volume) 0) (r .0), r .1)
 running-step number loaded t (accepted Blank) ok r = r

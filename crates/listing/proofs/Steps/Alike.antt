@@ -29,9 +29,9 @@ line-same most number loaded t (accepted (Set s)) os h all =
     ap (λ (call : SetUp-call). set-up-step number s loaded call (call .answer))
     (calls-stay most s .0 (all s (List·Memᴰ·head refl)) .same-set-up loaded (replicate (s .counters) 0) (replicate (s .counters) 0))
 line-same most number loaded t (accepted (Remap table)) os h all = refl
-line-same most number loaded none (accepted (Activate row)) os h all = refl
-line-same most number loaded (some t) (accepted (Activate row)) os h all =
-    ap (λ (call : Activation-call). activation-step number (t .settings) (t .remap) call) (calls-stay most (t .settings) .0 h .same-activation (t .remap) (t .state) row)
+line-same most number loaded none (accepted (Activate row hold)) os h all = refl
+line-same most number loaded (some t) (accepted (Activate row hold)) os h all =
+    ap (λ (call : Activation-call). activation-step number (t .settings) (t .remap) call) (calls-stay most (t .settings) .0 h .same-activation (t .remap) (t .state) row hold)
 line-same most number loaded none (accepted Refresh) os h all = refl
 line-same most number loaded (some t) (accepted Refresh) os h all =
     ap (λ (call : Refresh-call). refresh-step number (t .settings) (t .remap) (t .state .position .events) call)
@@ -48,8 +48,8 @@ unfolding Standing-alike line-step-to record-step-to refused-step remap-step act
 line-stands-alike most number loaded t (refused k) os h all = h
 line-stands-alike most number loaded t (accepted (Set s)) os h all = set-up-alike most number s loaded _ _ (all s (List·Memᴰ·head refl))
 line-stands-alike most number loaded t (accepted (Remap table)) os h all = h
-line-stands-alike most number loaded none (accepted (Activate row)) os h all = tt
-line-stands-alike most number loaded (some t) (accepted (Activate row)) os h all = h
+line-stands-alike most number loaded none (accepted (Activate row hold)) os h all = tt
+line-stands-alike most number loaded (some t) (accepted (Activate row hold)) os h all = h
 line-stands-alike most number loaded none (accepted Refresh) os h all = tt
 line-stands-alike most number loaded (some t) (accepted Refresh) os h all = h
 line-stands-alike most number loaded t (accepted Blank) os h all = h

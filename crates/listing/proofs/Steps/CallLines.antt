@@ -27,15 +27,15 @@ use Rattle.trace.proofs.Output.{prints-nothing}
 use Rattle.listing.proofs.Steps.ReachedCalls.{event-is, event-names, event-leaves, names-few}
 
 -- a refused activation: the state is as it came
-pub activation-refusal-listed : {before after : List ℕ} {at end : ℕ} (s : Settings) (remap rows counts : List ℕ) (p : Position) (row line k : ℕ) → record { accepts = false; refusal = suc k; state = given rows counts p } ≡ activation-on s remap (given rows counts p) row → Prints before at (refusal-line line (suc k)) after end → Lists (activation-step line s remap (activation-on s remap (given rows counts p) row)) s remap rows counts p before at after end
+pub activation-refusal-listed : {before after : List ℕ} {at end : ℕ} (s : Settings) (remap rows counts : List ℕ) (p : Position) (row hold line k : ℕ) → record { accepts = false; refusal = suc k; state = given rows counts p } ≡ activation-on s remap (given rows counts p) row hold → Prints before at (refusal-line line (suc k)) after end → Lists (activation-step line s remap (activation-on s remap (given rows counts p) row hold)) s remap rows counts p before at after end
 unfolding activation-step tracker-in answered
-activation-refusal-listed s remap rows counts p row line k call printed = rw (← call) (record { printed = printed; left = refl })
+activation-refusal-listed s remap rows counts p row hold line k call printed = rw (← call) (record { printed = printed; left = refl })
 
 -- an accepted-settings one prints nothing
-pub activation-listed : (s : Settings) (remap : List ℕ) (st : State) (row line : ℕ) (rows counts : List ℕ) (p : Position) (before : List ℕ) (at : ℕ) → first-failed (activation-tests s remap st row) ≡ 0 → given rows counts p ≡ activation-on s remap st row .state → at ≤ length before → Lists (activation-step line s remap (activation-on s remap st row)) s remap rows counts p before at before at
+pub activation-listed : (s : Settings) (remap : List ℕ) (st : State) (row hold line : ℕ) (rows counts : List ℕ) (p : Position) (before : List ℕ) (at : ℕ) → first-failed (activation-tests s remap st row hold) ≡ 0 → given rows counts p ≡ activation-on s remap st row hold .state → at ≤ length before → Lists (activation-step line s remap (activation-on s remap st row hold)) s remap rows counts p before at before at
 unfolding activation-step tracker-in answered
-activation-listed s remap st row line rows counts p before at none left h =
-    rw (← activation-done s remap st row none left) (record { printed = prints-nothing before at h; left = refl })
+activation-listed s remap st row hold line rows counts p before at none left h =
+    rw (← activation-done s remap st row hold none left) (record { printed = prints-nothing before at h; left = refl })
 
 pub volume-most : {s : Settings} {st : State} → Reached s st → s .volume ≤ 16
 volume-most {s} r = accepted-settings s (reached-accepted r) .others .volume .most

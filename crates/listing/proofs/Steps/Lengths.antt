@@ -60,8 +60,8 @@ unfolding Running line-step-to record-step-to refused-step remap-step activation
 length-step-le number loaded t (refused k) r = omega (arith, length-refusal-line number k)
 length-step-le number loaded t (accepted (Set s)) r = set-up-most number s loaded _ _
 length-step-le number loaded t (accepted (Remap table)) r = answered-most number _ [] (omega arith)
-length-step-le number loaded none (accepted (Activate row)) r = omega (arith, length-refusal-line number 11)
-length-step-le number loaded (some t) (accepted (Activate row)) r = answered-most number _ [] (omega arith)
+length-step-le number loaded none (accepted (Activate row hold)) r = omega (arith, length-refusal-line number 11)
+length-step-le number loaded (some t) (accepted (Activate row hold)) r = answered-most number _ [] (omega arith)
 length-step-le number loaded none (accepted Refresh) r = omega (arith, length-refusal-line number 11)
 length-step-le number loaded (some t) (accepted Refresh) r = answered-most number _ _ (names-most (r .0) (t .state .position .events))
 length-step-le number loaded t (accepted Blank) r = omega arith

@@ -42,8 +42,8 @@ module _ (n m : ℕ) (e : n % 10000000000 ≡ m % 10000000000) where
       set-up-step-alike s loaded call (call .answer)
   record-alike loaded t (Remap table) =
       rw (answered-alike (first-failed (unless (remap-allowed (sixteen-of table)) 14 ∷ [])) [])
-  record-alike loaded none (Activate row) = refused-alike 11 none
-  record-alike loaded (some t) (Activate row) = rw (answered-alike (activation-on (t .settings) (t .remap) (t .state) row .refusal) [])
+  record-alike loaded none (Activate row hold) = refused-alike 11 none
+  record-alike loaded (some t) (Activate row hold) = rw (answered-alike (activation-on (t .settings) (t .remap) (t .state) row hold .refusal) [])
   record-alike loaded none Refresh = refused-alike 11 none
   record-alike loaded (some t) Refresh =
       rw (answered-alike (refresh-on (t .settings) (t .state) (replicate (t .settings .volume) 0) .refusal))

@@ -2,14 +2,15 @@
 use mathlib.Core.Path.{_≡_, refl, sym, _∙_}
 use mathlib.Core.Bool.{true, false}
 use mathlib.Core.List.{List}
-use Prim.Native.Nat.{ℕ, _≤_, _<_}
+use Prim.Native.Nat.{ℕ, _+_, _≤_, _<_}
 use native.Mathlib.Omega.{arith}
-use borrow.Author.Tests.{le-ltb, lt-ltb, le-leb}
+use borrow.Author.Tests.{le-ltb, lt-ltb, le-leb, lt-leb}
 use lib.ListN.{length, take, drop}
 use lib.Seq.{take-at}
 use Rattle.device.specs.declared.Settings.{Settings}
 use Rattle.device.specs.Refusal.{first-failed, refuse}
 use Rattle.device.specs.Remap.{remap-allowed}
+use Rattle.device.specs.Hold.{hold-allowed}
 use Rattle.summary.specs.Steps.{picked}
 use Rattle.summary.proofs.Entries.Picks.{length-picks-le}
 use Rattle.tracker.specs.State.{State, summary-of}
@@ -19,23 +20,30 @@ use Rattle.limit.specs.Reachable.{Reached}
 use Rattle.limit.proofs.Reachable.{activation-refused-with, refresh-refused-with}
 
 module _ {s : Settings} {st : State} (r : Reached s st) where
-  pub row-outside : (remap : List ℕ) (row : ℕ) → s .rows ≤ row → record { accepts = false; refusal = 9; state = st } ≡ activation-on s remap st row
+  pub row-outside : (remap : List ℕ) (row hold : ℕ) → s .rows ≤ row → record { accepts = false; refusal = 9; state = st } ≡ activation-on s remap st row hold
   unfolding refuse
-  row-outside remap row h =
-      let nine : first-failed (activation-tests s remap st row) ≡ 9 = activation-refused-with r remap row ∙ rw (le-ltb row (s .rows) h) in
-      activation-refused s remap st row 9 (sym nine) (λ e. omega arith)
+  row-outside remap row hold h =
+      let nine : first-failed (activation-tests s remap st row hold) ≡ 9 = activation-refused-with r remap row hold ∙ rw (le-ltb row (s .rows) h) in
+      activation-refused s remap st row hold 9 (sym nine) (λ e. omega arith)
 
-  pub interval-full : (remap : List ℕ) (row : ℕ) → remap-allowed remap ≡ true → row < s .rows → s .interval ≤ st .position .activations → record { accepts = false; refusal = 22; state = st } ≡ activation-on s remap st row
+  pub hold-outside : (remap : List ℕ) (row hold : ℕ) → row < s .rows → hold-allowed hold ≡ false → record { accepts = false; refusal = 15; state = st } ≡ activation-on s remap st row hold
   unfolding refuse
-  interval-full remap row ok b h =
-      let full : first-failed (activation-tests s remap st row) ≡ 22 =
-      activation-refused-with r remap row ∙ rw (lt-ltb row (s .rows) b, ok, le-ltb (st .position .activations) (s .interval) h) in
-      activation-refused s remap st row 22 (sym full) (λ e. omega arith)
+  hold-outside remap row hold b h =
+      let fifteen : first-failed (activation-tests s remap st row hold) ≡ 15 = activation-refused-with r remap row hold ∙ rw (lt-ltb row (s .rows) b, h) in
+      activation-refused s remap st row hold 15 (sym fifteen) (λ e. omega arith)
 
-  pub activation-accepted : (remap : List ℕ) (row : ℕ) → remap-allowed remap ≡ true → row < s .rows → st .position .activations < s .interval → first-failed (activation-tests s remap st row) ≡ 0
-  unfolding refuse
-  activation-accepted remap row ok b h =
-      activation-refused-with r remap row ∙ rw (lt-ltb row (s .rows) b, ok, lt-ltb (st .position .activations) (s .interval) h)
+  module _ (remap : List ℕ) (row hold : ℕ) (ok : remap-allowed remap ≡ true) (b : row < s .rows) (held : hold-allowed hold ≡ true) where
+    pub interval-full : s .interval < st .position .activations + hold → record { accepts = false; refusal = 22; state = st } ≡ activation-on s remap st row hold
+    unfolding refuse
+    interval-full h =
+        let full : first-failed (activation-tests s remap st row hold) ≡ 22 =
+        activation-refused-with r remap row hold ∙ rw (lt-ltb row (s .rows) b, held, ok, lt-leb (st .position .activations + hold) (s .interval) h) in
+        activation-refused s remap st row hold 22 (sym full) (λ e. omega arith)
+
+    pub activation-accepted : st .position .activations + hold ≤ s .interval → first-failed (activation-tests s remap st row hold) ≡ 0
+    unfolding refuse
+    activation-accepted h =
+        activation-refused-with r remap row hold ∙ rw (lt-ltb row (s .rows) b, held, ok, le-leb (st .position .activations + hold) (s .interval) h)
 
   pub event-accepted : (picks : List ℕ) → s .volume ≤ length picks → first-failed (refresh-tests s st picks) ≡ 0
   unfolding refuse

@@ -15,7 +15,7 @@ returns-2 c = rw (c .before .before .before .before .before .answer .given .1, c
 
 returns-3 : tie.Need-returns-3
 unfolding fault-to said
-returns-3 c = rw (c .before .before .before .before .before .answer .given .1, c .before .before .record3 .given .1) (c .row-fault .ensures)
+returns-3 c = rw (c .before .before .before .before .before .answer .given .1, c .before .before .record3 .given .1) (c .activation-fault .ensures)
 
 returns-4 : tie.Need-returns-4
 unfolding fault-to said

@@ -1,33 +1,37 @@
--- `spelling::print_activation` meets its contract: a letter, a number and a byte 10.
+-- `spelling::print_activation` meets its contract: by the hold.
 use native.Mathlib.Omega.{arith}
 use borrow.Author.Needs.{needs}
-use mathlib.Core.List.{append-nil}
-use Rattle.trace.specs.Spelling.{spelled-line}
-use Rattle.trace.specs.Numbers.{printed}
-use Rattle.trace.specs.Output.{number-columns}
-use Rattle.trace.proofs.Numbers.Printed.{length-printed}
-use Rattle.trace.proofs.Output.{prints-then}
+use borrow.Author.Tests.{eq-eqb, ne-eqb}
+use Rattle.trace.specs.Spelling.{activation-spelling}
+use Rattle.trace.proofs.Spelling.Lengths.{length-activation-line}
 use Rattle.spelling.proofs.print_activation.Statement.{statement}
 use Rattle.spelling.proofs.print_activation.Tie as tie
 
-print-byte-requires-2 : tie.Need-print-byte-requires-2
-print-byte-requires-2 c κs =
-    let a = c .before .before .before .before .before .before .before .before .before .before .args in
-    omega (arith, length-printed 6 (a .row))
+print-one-unit-requires : tie.Need-print-one-unit-requires
+print-one-unit-requires c κs =
+    let start = c .before .before .before in
+    omega (arith, start .pre, rw (eq-eqb _ _ (c .before .if1 .taken)) at (length-activation-line (start .args .row) (start .args .hold)))
 
 returns : tie.Need-returns
-unfolding spelled-line number-columns
-returns c =
-    let a = c .before .before .before .before .before .before .before .before .before .before .before .before .before .args in
-    rw (append-nil (printed 6 (a .row)))
-    (prints-then (prints-then (c .before .before .before .before .before .before .before .before .before .before .print-byte .ensures) (c .before .before .before .before .before .before .print-columns .ensures)) (c .before .before .print-byte2 .ensures))
+unfolding activation-spelling
+returns c = rw (eq-eqb _ _ (c .before .before .before .before .if1 .taken)) (c .before .before .print-one-unit .ensures)
+
+print-held-requires : tie.Need-print-held-requires
+print-held-requires c κs =
+    let start = c .before .before .before in
+    omega (arith, start .pre, rw (ne-eqb _ _ (c .before .if1 .left)) at (length-activation-line (start .args .row) (start .args .hold)))
+
+returns-2 : tie.Need-returns-2
+unfolding activation-spelling
+returns-2 c = rw (ne-eqb _ _ (c .before .before .before .before .if1 .left)) (c .before .before .print-held .ensures)
 
 pub print-activation-spec : {M : Type 1} → statement M
 print-activation-spec =
     tie.close
     (tie.spec
-    (λ c κs. search needs)
-    (λ c κs. search needs)
-    print-byte-requires-2
+    print-one-unit-requires
     (λ c. search needs)
-    returns)
+    returns
+    print-held-requires
+    (λ c. search needs)
+    returns-2)

@@ -3,7 +3,7 @@ use native.Mathlib.Omega.{arith}
 use borrow.Author.Needs.{needs}
 use Rattle.trace.specs.Spelling.{record-spelling}
 use Rattle.trace.proofs.Output.{prints-nothing}
-use Rattle.trace.proofs.Spelling.Lengths.{length-settings-line, length-remap-line, length-activation-line, length-event-line}
+use Rattle.trace.proofs.Spelling.Lengths.{length-settings-line, length-remap-line, length-event-line}
 use Rattle.spelling.proofs.print_record.Statement.{statement}
 use Rattle.spelling.proofs.print_record.Tie as tie
 
@@ -22,8 +22,7 @@ print-remap-requires c κs =
 print-activation-requires : tie.Need-print-activation-requires
 unfolding record-spelling
 print-activation-requires c κs =
-    let room = rw (c .before .before .line3 .given .1) at (c .before .before .before .before .before .pre) in
-    omega (arith, room, length-activation-line (c .before .before .line3 .given .0 .0))
+    rw (c .before .before .line3 .given .1) at (c .before .before .before .before .before .pre)
 
 print-event-requires : tie.Need-print-event-requires
 unfolding record-spelling

@@ -13,10 +13,10 @@ use lib.Seq.{drop-cons}
 use Rattle.trace.specs.declared.Read.the-variants.{Line, Refused}
 use Rattle.trace.specs.declared.Record.{Record}
 use Rattle.trace.specs.declared.Record.the-variants.{Blank}
-use Rattle.trace.specs.Bytes.{letter-A, letter-F, letter-R, letter-S}
+use Rattle.trace.specs.Bytes.{letter-A, letter-F, letter-H, letter-R, letter-S}
 use Rattle.trace.specs.Lines.{line, ended, extent}
 use Rattle.trace.specs.Reading.{said, or-refused, reading-by, reading}
-use Rattle.trace.specs.Records.{settings, remap, activation, refresh, record-of}
+use Rattle.trace.specs.Records.{settings, remap, activation, held-activation, refresh, record-of}
 
 -- no byte is left
 pub reading-behind-end : (text : List ℕ) (place : ℕ) → length text ≤ place → said (Refused place) ≡ reading text place
@@ -62,9 +62,13 @@ module _ (text : List ℕ) (place : ℕ) (h : place < length text) where
   unfolding record-of
   reading-remap e = reading-letter letter-F e (λ w. omega arith) remap (λ bytes. refl)
 
-  pub reading-other : (getD text place 0 ≡ letter-A → ⊥) → (getD text place 0 ≡ letter-R → ⊥) → (getD text place 0 ≡ letter-S → ⊥) → (getD text place 0 ≡ letter-F → ⊥) → (getD text place 0 ≡ 10 → ⊥)
+  pub reading-held : getD text place 0 ≡ letter-H → reading text place ≡ reading-by held-activation (drop (place + 1) text) (place + 1)
+  unfolding record-of
+  reading-held e = reading-letter letter-H e (λ w. omega arith) held-activation (λ bytes. refl)
+
+  pub reading-other : (getD text place 0 ≡ letter-A → ⊥) → (getD text place 0 ≡ letter-R → ⊥) → (getD text place 0 ≡ letter-H → ⊥) → (getD text place 0 ≡ letter-S → ⊥) → (getD text place 0 ≡ letter-F → ⊥) → (getD text place 0 ≡ 10 → ⊥)
       → (next : ℕ) → next ≡ place + 1 + extent (drop (place + 1) text) → said (Refused next) ≡ reading text place
   unfolding record-of said reading-by or-refused
-  reading-other a r s f long next e =
-      let says-none = reading-letter-by long (λ bytes. none) (λ bytes. rw (ne-eqb _ _ s, ne-eqb _ _ a, ne-eqb _ _ r, ne-eqb _ _ f)) in
+  reading-other a r o s f long next e =
+      let says-none = reading-letter-by long (λ bytes. none) (λ bytes. rw (ne-eqb _ _ s, ne-eqb _ _ a, ne-eqb _ _ r, ne-eqb _ _ f, ne-eqb _ _ o)) in
       rw (says-none, cond-none (ended (drop (place + 1) text)), e)

@@ -6,19 +6,19 @@ use mathlib.Core.Option.{none, some, bind-eq-some-iff}
 use Prim.Native.Nat.{ℕ, suc, _+_, _*_, _≤_}
 use native.Mathlib.Omega.{arith}
 use lib.Dec.{eqb}
-use lib.ListN.{length, drop, length-append}
+use lib.ListN.{length, getD, drop, length-append}
 use Rattle.device.specs.declared.Settings.{Settings}
 use Rattle.laws.proofs.Cases.{split, clash, missing, either, cond-some}
 use Rattle.trace.specs.declared.Sixteen.{Sixteen}
 use Rattle.trace.specs.declared.Record.{Record}
 use Rattle.trace.specs.declared.Record.the-variants.{Set, Remap, Activate, Refresh, Blank}
-use Rattle.trace.specs.Bytes.{letter-A, letter-F, letter-R, letter-S}
+use Rattle.trace.specs.Bytes.{letter-A, letter-F, letter-H, letter-R, letter-S}
 use Rattle.trace.specs.Lines.{line, ended, extent}
 use Rattle.trace.specs.Numbers.{field}
 use Rattle.trace.specs.Reading.{or-refused, reading, reading-by}
-use Rattle.trace.specs.Records.{as-settings, as-sixteen, sixteen-of, numbered, settings, remap, activation, refresh, record-of}
+use Rattle.trace.specs.Records.{as-settings, as-sixteen, sixteen-of, numbered, settings, remap, activation, held-activation, refresh, record-of}
 use Rattle.trace.specs.Output.{number-columns}
-use Rattle.trace.specs.Spelling.{settings-numbers, spelled-line, record-spelling, answer-spelling}
+use Rattle.trace.specs.Spelling.{settings-numbers, spelled-line, activation-spelling, record-spelling, answer-spelling}
 use Rattle.trace.proofs.Output.{length-number-columns}
 use Rattle.trace.proofs.Records.{numbers-of, numbered-form, activation-form}
 
@@ -30,9 +30,24 @@ pub length-remap-line : (t : Sixteen) → length (spelled-line letter-F (sixteen
 unfolding spelled-line sixteen-of
 length-remap-line t = rw length-append (omega (arith, length-number-columns (sixteen-of t)))
 
-pub length-activation-line : (row : ℕ) → length (spelled-line letter-A (row ∷ [])) ≡ 8
+pub length-one-unit-line : (row : ℕ) → length (spelled-line letter-A (row ∷ [])) ≡ 8
 unfolding spelled-line
-length-activation-line row = rw length-append (omega (arith, length-number-columns (row ∷ [])))
+length-one-unit-line row = rw length-append (omega (arith, length-number-columns (row ∷ [])))
+
+pub length-held-line : (row hold : ℕ) → length (spelled-line letter-H (row ∷ hold ∷ [])) ≡ 14
+unfolding spelled-line
+length-held-line row hold = rw length-append (omega (arith, length-number-columns (row ∷ hold ∷ [])))
+
+pub length-activation-line : (row hold : ℕ) → length (activation-spelling row hold) ≡ cond (eqb hold 1) 8 14
+unfolding activation-spelling
+length-activation-line row hold =
+    split (eqb hold 1) (λ one. rw one (length-one-unit-line row)) (λ more. rw more (length-held-line row hold))
+
+length-activation-le : (row hold : ℕ) → length (activation-spelling row hold) ≤ 14
+length-activation-le row hold =
+    split (eqb hold 1)
+    (λ one. omega (arith, rw one at (length-activation-line row hold)))
+    (λ more. omega (arith, rw more at (length-activation-line row hold)))
 
 pub length-event-line : length (spelled-line letter-R []) ≡ 2
 unfolding spelled-line number-columns
@@ -42,7 +57,7 @@ abbrev No-longer : List ℕ → Record → Type 0
 No-longer bytes r = length (record-spelling r) ≤ suc (suc (length bytes))
 
 -- each kind of record behind its letter, and byte 10
-numbered-no-longer : (count : ℕ) (says : List ℕ → Record) → ((numbers : List ℕ) → length (record-spelling (says numbers)) ≡ 6 * count + 2)
+numbered-no-longer : (count : ℕ) (says : List ℕ → Record) → ((numbers : List ℕ) → length (record-spelling (says numbers)) ≤ 6 * count + 2)
     → (bytes : List ℕ) (r : Record) → numbered count says bytes ≡ some r → No-longer bytes r
 numbered-no-longer count says long bytes r e =
     let numbers = numbers-of count says bytes r e in
@@ -50,18 +65,23 @@ numbered-no-longer count says long bytes r e =
 
 settings-no-longer : (bytes : List ℕ) (r : Record) → settings bytes ≡ some r → No-longer bytes r
 unfolding settings record-spelling
-settings-no-longer = numbered-no-longer 7 (λ numbers. Set (as-settings numbers)) (λ numbers. length-settings-line (as-settings numbers))
+settings-no-longer = numbered-no-longer 7 (λ numbers. Set (as-settings numbers)) (λ numbers. omega (arith, length-settings-line (as-settings numbers)))
 
 remap-no-longer : (bytes : List ℕ) (r : Record) → remap bytes ≡ some r → No-longer bytes r
 unfolding remap record-spelling
-remap-no-longer = numbered-no-longer 16 (λ numbers. Remap (as-sixteen numbers)) (λ numbers. length-remap-line (as-sixteen numbers))
+remap-no-longer = numbered-no-longer 16 (λ numbers. Remap (as-sixteen numbers)) (λ numbers. omega (arith, length-remap-line (as-sixteen numbers)))
 
 activation-no-longer : (bytes : List ℕ) (r : Record) → activation bytes ≡ some r → No-longer bytes r
 unfolding activation record-spelling
 activation-no-longer bytes r e =
     let row = bind-eq-some-iff (field 0 bytes) _ .0 (cond-some (eqb (length bytes) 6) _ r e) in
-    let same : Activate (row .0) ≡ r = cc in
-    subst (No-longer bytes) same (omega (arith, activation-form .same-length bytes r e, length-activation-line (row .0)))
+    let same : Activate (row .0) 1 ≡ r = cc in
+    subst (No-longer bytes) same (omega (arith, activation-form .same-length bytes r e, length-activation-line (row .0) 1))
+
+held-activation-no-longer : (bytes : List ℕ) (r : Record) → held-activation bytes ≡ some r → No-longer bytes r
+unfolding held-activation record-spelling
+held-activation-no-longer =
+    numbered-no-longer 2 (λ numbers. Activate (getD numbers 0 0) (getD numbers 1 0)) (λ numbers. length-activation-le (getD numbers 0 0) (getD numbers 1 0))
 
 refresh-no-longer : (bytes : List ℕ) (r : Record) → refresh bytes ≡ some r → No-longer bytes r
 unfolding refresh record-spelling
@@ -87,7 +107,10 @@ record-no-longer (b ∷ bytes) r e =
     (λ f.
     split (eqb b letter-F)
     (λ m. remap-no-longer bytes r (rw (s, a, f, m) at e))
-    (λ m. missing (rw (s, a, f, m) at e)))))
+    (λ m.
+    split (eqb b letter-H)
+    (λ o. held-activation-no-longer bytes r (rw (s, a, f, m, o) at e))
+    (λ o. missing (rw (s, a, f, m, o) at e))))))
 
 extent-line : (text : List ℕ) → ended text ≡ true → extent text ≡ suc (length (line text))
 unfolding extent ended line

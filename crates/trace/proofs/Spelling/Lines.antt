@@ -5,25 +5,27 @@ use mathlib.Core.List.{List, [], _∷_, _++_, append-assoc}
 use mathlib.Core.Option.{some, bind}
 use Prim.Native.Nat.{ℕ, _<_}
 use native.Mathlib.Omega.{arith}
-use borrow.Author.Tests.{eq-eqb}
-use lib.ListN.{length, length-append}
+use borrow.Author.Tests.{eqb-true, eq-eqb}
+use lib.Dec.{eqb}
+use lib.ListN.{length, getD, length-append}
 use lib.Seq.{drop-append-add}
 use Rattle.device.specs.declared.Settings.{Settings}
 use Rattle.device.specs.Refusal.{accepted}
+use Rattle.laws.proofs.Cases.{split}
 use Rattle.trace.specs.declared.Sixteen.{Sixteen}
 use Rattle.trace.specs.declared.Record.{Record}
 use Rattle.trace.specs.declared.Record.the-variants.{Set, Remap, Activate, Refresh}
-use Rattle.trace.specs.Bytes.{letter-A, letter-F, letter-R, letter-S}
+use Rattle.trace.specs.Bytes.{letter-A, letter-F, letter-H, letter-R, letter-S}
 use Rattle.trace.specs.Lines.{ended}
 use Rattle.trace.specs.Reading.{or-refused, reading, reading-by}
-use Rattle.trace.specs.Records.{as-settings, as-sixteen, sixteen-of, numbered, settings, remap, activation, refresh, record-of}
+use Rattle.trace.specs.Records.{as-settings, as-sixteen, sixteen-of, numbered, settings, remap, activation, held-activation, refresh, record-of}
 use Rattle.trace.specs.Output.{number-columns}
-use Rattle.trace.specs.Spelling.{settings-numbers, spelled-line, record-spelling}
+use Rattle.trace.specs.Spelling.{settings-numbers, spelled-line, activation-spelling, record-spelling}
 use Rattle.trace.specs.Texts.{read, outcomes}
 use Rattle.trace.proofs.Lines.{line-append-end, ended-append-end, extent-append-end}
 use Rattle.trace.proofs.Output.{length-number-columns}
-use Rattle.trace.proofs.Records.{settings-form, remap-form, activation-form}
-use Rattle.trace.proofs.Spelling.Numbers.{Narrow, field-printed, fields-columns}
+use Rattle.trace.proofs.Records.{settings-form, remap-form, activation-form, held-activation-form}
+use Rattle.trace.proofs.Spelling.Numbers.{Narrow, no-number, one-more, field-printed, fields-columns}
 use Rattle.trace.proofs.Texts.FirstLine.{outcomes-front}
 
 -- bytes without byte 10 that say a record, then byte 10
@@ -53,9 +55,14 @@ remap-spelled : (t : Sixteen) → Narrow (sixteen-of t) → remap (number-column
 unfolding remap as-sixteen sixteen-of
 remap-spelled t h = numbered-spelled (λ numbers. Remap (as-sixteen numbers)) h
 
-activation-spelled : (row : ℕ) → row < 1000000 → activation (number-columns (row ∷ [])) ≡ some (Activate row)
+activation-spelled : (row : ℕ) → row < 1000000 → activation (number-columns (row ∷ [])) ≡ some (Activate row 1)
 unfolding activation bind number-columns
 activation-spelled row h = rw (eq-eqb _ _ (length-number-columns (row ∷ [])), field-printed row [] h)
+
+held-activation-spelled : (row hold : ℕ) → row < 1000000 → hold < 1000000 → held-activation (number-columns (row ∷ hold ∷ [])) ≡ some (Activate row hold)
+unfolding held-activation
+held-activation-spelled row hold h k =
+    numbered-spelled (λ numbers. Activate (getD numbers 0 0) (getD numbers 1 0)) (one-more h (one-more k no-number))
 
 pub outcomes-settings : (s : Settings) (rest : List ℕ) → Narrow (settings-numbers s) → outcomes (record-spelling (Set s) ++ rest) ≡ accepted (Set s) ∷ outcomes rest
 unfolding record-spelling record-of ended
@@ -69,11 +76,24 @@ outcomes-remap t rest h =
     let says = remap-spelled t h in
     outcomes-letter letter-F (sixteen-of t) rest (Remap t) says (remap-form .unended (number-columns (sixteen-of t)) (Remap t) says)
 
-pub outcomes-activation : (row : ℕ) (rest : List ℕ) → row < 1000000 → outcomes (record-spelling (Activate row) ++ rest) ≡ accepted (Activate row) ∷ outcomes rest
-unfolding record-spelling record-of ended
-outcomes-activation row rest h =
+outcomes-one-unit : (row : ℕ) (rest : List ℕ) → row < 1000000 → outcomes (spelled-line letter-A (row ∷ []) ++ rest) ≡ accepted (Activate row 1) ∷ outcomes rest
+unfolding record-of ended
+outcomes-one-unit row rest h =
     let says = activation-spelled row h in
-    outcomes-letter letter-A (row ∷ []) rest (Activate row) says (activation-form .unended (number-columns (row ∷ [])) (Activate row) says)
+    outcomes-letter letter-A (row ∷ []) rest (Activate row 1) says (activation-form .unended (number-columns (row ∷ [])) (Activate row 1) says)
+
+outcomes-held : (row hold : ℕ) (rest : List ℕ) → row < 1000000 → hold < 1000000 → outcomes (spelled-line letter-H (row ∷ hold ∷ []) ++ rest) ≡ accepted (Activate row hold) ∷ outcomes rest
+unfolding record-of ended
+outcomes-held row hold rest h k =
+    let says = held-activation-spelled row hold h k in
+    outcomes-letter letter-H (row ∷ hold ∷ []) rest (Activate row hold) says (held-activation-form .unended (number-columns (row ∷ hold ∷ [])) (Activate row hold) says)
+
+pub outcomes-activation : (row hold : ℕ) (rest : List ℕ) → row < 1000000 → hold < 1000000 → outcomes (record-spelling (Activate row hold) ++ rest) ≡ accepted (Activate row hold) ∷ outcomes rest
+unfolding record-spelling activation-spelling
+outcomes-activation row hold rest h k =
+    split (eqb hold 1)
+    (λ one. rw (one, eqb-true hold 1 one) (outcomes-one-unit row rest h))
+    (λ more. rw more (outcomes-held row hold rest h k))
 
 pub outcomes-refresh : (rest : List ℕ) → outcomes (record-spelling Refresh ++ rest) ≡ accepted Refresh ∷ outcomes rest
 unfolding record-spelling record-of ended refresh number-columns

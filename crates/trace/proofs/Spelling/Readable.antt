@@ -14,11 +14,11 @@ use Rattle.laws.proofs.Cases.{split, clash, missing, and-both, cond-test, cond-
 use Rattle.trace.specs.declared.Sixteen.{Sixteen}
 use Rattle.trace.specs.declared.Record.{Record}
 use Rattle.trace.specs.declared.Record.the-variants.{Set, Remap, Activate, Refresh, Blank}
-use Rattle.trace.specs.Bytes.{letter-A, letter-F, letter-R, letter-S}
+use Rattle.trace.specs.Bytes.{letter-A, letter-F, letter-H, letter-R, letter-S}
 use Rattle.trace.specs.Lines.{line, ended}
 use Rattle.trace.specs.Numbers.{is-digit, digits, number, field, fields}
 use Rattle.trace.specs.Reading.{or-refused, reading, reading-by}
-use Rattle.trace.specs.Records.{as-settings, as-sixteen, sixteen-of, numbered, settings, remap, activation, refresh, record-of}
+use Rattle.trace.specs.Records.{as-settings, as-sixteen, sixteen-of, numbered, settings, remap, activation, held-activation, refresh, record-of}
 use Rattle.trace.specs.Spelling.{settings-numbers, unrefused}
 use Rattle.trace.specs.Texts.{lines, read, outcomes}
 use Rattle.trace.proofs.Numbers.Digits.{Room, room-zero, room-digit, room-lt}
@@ -84,7 +84,7 @@ narrow-sixteen h = narrow-places h 16 0
 pub data Readable : Outcome Record → Type 0 where
   of-settings : {s : Settings} → Narrow (settings-numbers s) → Readable (accepted (Set s))
   of-remap : {t : Sixteen} → Narrow (sixteen-of t) → Readable (accepted (Remap t))
-  of-activation : {row : ℕ} → row < 1000000 → Readable (accepted (Activate row))
+  of-activation : {row hold : ℕ} → row < 1000000 → hold < 1000000 → Readable (accepted (Activate row hold))
   of-refresh : Readable (accepted Refresh)
   of-blank : Readable (accepted Blank)
 
@@ -110,8 +110,13 @@ activation-readable : (bytes : List ℕ) (r : Record) → activation bytes ≡ s
 unfolding activation
 activation-readable bytes r e =
     let row = bind-eq-some-iff (field 0 bytes) _ .0 (cond-some (eqb (length bytes) 6) _ r e) in
-    let same : Activate (row .0) ≡ r = cc in
-    subst (λ (r : Record). Readable (accepted r)) same (of-activation (field-lt (row .0) bytes (row .1)))
+    let same : Activate (row .0) 1 ≡ r = cc in
+    subst (λ (r : Record). Readable (accepted r)) same (of-activation (field-lt (row .0) bytes (row .1)) (omega arith))
+
+held-activation-readable : (bytes : List ℕ) (r : Record) → held-activation bytes ≡ some r → Readable (accepted r)
+unfolding held-activation
+held-activation-readable =
+    numbered-readable 2 (λ numbers. Activate (getD numbers 0 0) (getD numbers 1 0)) (λ numbers h. of-activation (narrow-at h 0) (narrow-at h 1))
 
 refresh-readable : (bytes : List ℕ) (r : Record) → refresh bytes ≡ some r → Readable (accepted r)
 unfolding refresh
@@ -137,7 +142,10 @@ record-readable (b ∷ bytes) r e =
     (λ f.
     split (eqb b letter-F)
     (λ m. remap-readable bytes r (rw (s, a, f, m) at e))
-    (λ m. missing (rw (s, a, f, m) at e)))))
+    (λ m.
+    split (eqb b letter-H)
+    (λ o. held-activation-readable bytes r (rw (s, a, f, m, o) at e))
+    (λ o. missing (rw (s, a, f, m, o) at e))))))
 
 answer-readable : (o : Option Record) (os : List (Outcome Record)) → ((r : Record) → o ≡ some r → Readable (accepted r))
     → unrefused (or-refused o ∷ os) ≡ true → Readable (or-refused o) × (unrefused os ≡ true)

@@ -15,7 +15,7 @@ unfolding outcomes lines spelling answer-spelling record-spelling is-blank unbla
 outcomes-spelling no-answer = refl
 outcomes-spelling (one-answer-more {os = os} (of-settings {s} h) hs) = outcomes-settings s (spelling os) h ∙ rw (outcomes-spelling hs)
 outcomes-spelling (one-answer-more {os = os} (of-remap {t} h) hs) = outcomes-remap t (spelling os) h ∙ rw (outcomes-spelling hs)
-outcomes-spelling (one-answer-more {os = os} (of-activation {row} h) hs) = outcomes-activation row (spelling os) h ∙ rw (outcomes-spelling hs)
+outcomes-spelling (one-answer-more {os = os} (of-activation {row} {hold} h k) hs) = outcomes-activation row hold (spelling os) h k ∙ rw (outcomes-spelling hs)
 outcomes-spelling (one-answer-more {os = os} of-refresh hs) = outcomes-refresh (spelling os) ∙ rw (outcomes-spelling hs)
 outcomes-spelling (one-answer-more of-blank hs) = outcomes-spelling hs
 
@@ -24,7 +24,7 @@ unfolding is-blank unblank unrefused
 unrefused-unblank no-answer = refl
 unrefused-unblank (one-answer-more (of-settings h) hs) = unrefused-unblank hs
 unrefused-unblank (one-answer-more (of-remap h) hs) = unrefused-unblank hs
-unrefused-unblank (one-answer-more (of-activation h) hs) = unrefused-unblank hs
+unrefused-unblank (one-answer-more (of-activation h k) hs) = unrefused-unblank hs
 unrefused-unblank (one-answer-more of-refresh hs) = unrefused-unblank hs
 unrefused-unblank (one-answer-more of-blank hs) = unrefused-unblank hs
 
@@ -33,7 +33,7 @@ unfolding spelling answer-spelling record-spelling is-blank unblank
 spelling-unblank [] = refl
 spelling-unblank (accepted (Set s) ∷ os) = rw (spelling-unblank os)
 spelling-unblank (accepted (Remap t) ∷ os) = rw (spelling-unblank os)
-spelling-unblank (accepted (Activate row) ∷ os) = rw (spelling-unblank os)
+spelling-unblank (accepted (Activate row hold) ∷ os) = rw (spelling-unblank os)
 spelling-unblank (accepted Refresh ∷ os) = rw (spelling-unblank os)
 spelling-unblank (accepted Blank ∷ os) = spelling-unblank os
 spelling-unblank (refused k ∷ os) = rw (spelling-unblank os)

@@ -33,7 +33,7 @@ activation-other : (text : List ℕ) → 6 < length text → field 0 text ≡ no
 unfolding bind
 activation-other text h e = activation-take text (omega arith) ∙ rw e
 
-activation-number : (text : List ℕ) (n : ℕ) → 6 < length text → field 0 text ≡ some n → activation (take 6 text) ≡ some (Activate n)
+activation-number : (text : List ℕ) (n : ℕ) → 6 < length text → field 0 text ≡ some n → activation (take 6 text) ≡ some (Activate n 1)
 unfolding bind
 activation-number text n h e = activation-take text (omega arith) ∙ rw e
 

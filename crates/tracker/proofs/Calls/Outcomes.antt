@@ -32,14 +32,14 @@ set-up-done s remap rows counts e er ec =
     let o = set-up-ready s remap rows counts e .0 in
     rw (e, er, ec, o .rows-long, o .counts-long, sub-zero (s .counters))
 
-pub activation-refused : (s : Settings) (remap : List ℕ) (st : State) (row k : ℕ) → k ≡ first-failed (activation-tests s remap st row) → (k ≡ 0 → ⊥) → record { accepts = false; refusal = k; state = st } ≡ activation-on s remap st row
+pub activation-refused : (s : Settings) (remap : List ℕ) (st : State) (row hold k : ℕ) → k ≡ first-failed (activation-tests s remap st row hold) → (k ≡ 0 → ⊥) → record { accepts = false; refusal = k; state = st } ≡ activation-on s remap st row hold
 unfolding activation-to kept-unless
-activation-refused s remap st row zero e h = absurd (h refl)
-activation-refused s remap st row (suc k) e h = rw (← e, ne-eqb (suc k) 0 h)
+activation-refused s remap st row hold zero e h = absurd (h refl)
+activation-refused s remap st row hold (suc k) e h = rw (← e, ne-eqb (suc k) 0 h)
 
-pub activation-done : (s : Settings) (remap : List ℕ) (st : State) (row : ℕ) {st′ : State} → first-failed (activation-tests s remap st row) ≡ 0 → st′ ≡ activation-on s remap st row .state → record { accepts = true; refusal = 0; state = st′ } ≡ activation-on s remap st row
+pub activation-done : (s : Settings) (remap : List ℕ) (st : State) (row hold : ℕ) {st′ : State} → first-failed (activation-tests s remap st row hold) ≡ 0 → st′ ≡ activation-on s remap st row hold .state → record { accepts = true; refusal = 0; state = st′ } ≡ activation-on s remap st row hold
 unfolding activation-to
-activation-done s remap st row e same = λ i. record { accepts = eqb (sym e i) 0; refusal = sym e i; state = same i }
+activation-done s remap st row hold e same = λ i. record { accepts = eqb (sym e i) 0; refusal = sym e i; state = same i }
 
 pub refresh-refused : (s : Settings) (st : State) (picks : List ℕ) (k : ℕ) → k ≡ first-failed (refresh-tests s st picks) → (k ≡ 0 → ⊥) → record { accepts = false; refusal = k; count = 0; state = st; picks = picks } ≡ refresh-on s st picks
 unfolding refresh-to kept-unless

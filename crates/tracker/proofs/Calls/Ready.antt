@@ -3,7 +3,7 @@ use mathlib.Core.Path.{_≡_, sym, _∙_}
 use mathlib.Core.Bool.{true, not, _&&_}
 use mathlib.Core.Logic.{⊎-elim}
 use mathlib.Core.List.{List}
-use Prim.Native.Nat.{ℕ, _≤_, _<_}
+use Prim.Native.Nat.{ℕ, _+_, _≤_, _<_}
 use native.Mathlib.Omega.{arith}
 use borrow.Author.Tests.{eqb-true, ltb-true, leb-true}
 use lib.Dec.{eqb, ltb, leb}
@@ -13,7 +13,9 @@ use Rattle.device.specs.declared.Settings.{Settings}
 use Rattle.device.specs.Refusal.{refuse, first-failed}
 use Rattle.device.specs.Acceptance.{settings-tests}
 use Rattle.device.specs.Remap.{remap-allowed}
-use Rattle.device.proofs.Acceptance.{Accepted, accepted-settings}
+use Rattle.device.specs.Hold.{hold-allowed}
+use Rattle.device.proofs.Acceptance.{Between, Accepted, accepted-settings}
+use Rattle.device.proofs.Hold.{hold-between}
 use Rattle.summary.specs.Entries.{Entry}
 use Rattle.summary.specs.Rules.{Ordered, ordered-none, ordered-more}
 use Rattle.summary.specs.Contracts.{Holds, Held}
@@ -23,7 +25,7 @@ use Rattle.tracker.specs.State.{State, summary-of, valid}
 use Rattle.tracker.specs.Calls.{tables-long, set-up-tests, activation-tests, refresh-tests, agreement-tests}
 use Rattle.tracker.specs.Contracts.{tables-tests}
 use Rattle.tracker.proofs.States.Valid.{Facts, valid-facts}
-use Rattle.tracker.proofs.Calls.Tests.{or-later-none, passed-test, tables-tested, set-up-tested, activation-tested, refresh-tested, agreement-tested}
+use Rattle.tracker.proofs.Calls.Tests.{or-later-zero, or-later-none, passed-test, tables-tested, set-up-tested, activation-tested, refresh-tested, agreement-tested}
 
 pub tables-long-fit : (s : Settings) (rows counts : List ℕ) → tables-long s rows counts ≡ true → (length rows ≡ s .counters) × (length counts ≡ s .counters)
 unfolding tables-long
@@ -62,15 +64,50 @@ ready s st e v =
     let o = open-tables s (st .rows) (st .counts) e in
     record { fitting = o; settings = accepted-settings s (o .settled); facts = valid-facts s st (o .long) v }
 
-pub activation-ready : (s : Settings) (remap : List ℕ) (st : State) (row : ℕ) → first-failed (activation-tests s remap st row) ≡ 0 → Ready s st × (row < s .rows) × (st .position .activations < s .interval) × (remap-allowed remap ≡ true)
-activation-ready s remap st row e =
-    let parts = or-later-none (first-failed (tables-tests s (st .rows) (st .counts))) _ (sym (activation-tested s remap st row) ∙ e) in
-    let last = refuse (not (ltb (st .position .activations) (s .interval))) 22 0 in
-    let nine = passed-test (ltb row (s .rows)) 8 (refuse (not (remap-allowed remap)) 14 (refuse (not (valid s st)) 21 last)) (parts .1) in
-    let allowed = passed-test (remap-allowed remap) 13 (refuse (not (valid s st)) 21 last) (nine .1) in
+-- each test of an activation passed
+pub record Passed (s : Settings) (remap : List ℕ) (st : State) (row hold : ℕ) : Type 0 where
+  pub tables : first-failed (tables-tests s (st .rows) (st .counts)) ≡ 0
+  pub inside : ltb row (s .rows) ≡ true
+  pub held : hold-allowed hold ≡ true
+  pub allowed : remap-allowed remap ≡ true
+  pub sound : valid s st ≡ true
+  pub spare : leb (st .position .activations + hold) (s .interval) ≡ true
+
+pub activation-passed : (s : Settings) (remap : List ℕ) (st : State) (row hold : ℕ) → first-failed (activation-tests s remap st row hold) ≡ 0 → Passed s remap st row hold
+activation-passed s remap st row hold e =
+    let parts = or-later-none (first-failed (tables-tests s (st .rows) (st .counts))) _ (sym (activation-tested s remap st row hold) ∙ e) in
+    let last = refuse (not (leb (st .position .activations + hold) (s .interval))) 22 0 in
+    let behind = refuse (not (remap-allowed remap)) 14 (refuse (not (valid s st)) 21 last) in
+    let nine = passed-test (ltb row (s .rows)) 8 (refuse (not (hold-allowed hold)) 15 behind) (parts .1) in
+    let held = passed-test (hold-allowed hold) 14 behind (nine .1) in
+    let allowed = passed-test (remap-allowed remap) 13 (refuse (not (valid s st)) 21 last) (held .1) in
     let state = passed-test (valid s st) 20 last (allowed .1) in
-    let full = passed-test (ltb (st .position .activations) (s .interval)) 21 0 (state .1) in
-    (ready s st (parts .0) (state .0), ltb-true row (s .rows) (nine .0), ltb-true (st .position .activations) (s .interval) (full .0), allowed .0)
+    let spare = passed-test (leb (st .position .activations + hold) (s .interval)) 21 0 (state .1) in
+    record { tables = parts .0; inside = nine .0; held = held .0; allowed = allowed .0; sound = state .0; spare = spare .0 }
+
+pub passed-activation : (s : Settings) (remap : List ℕ) (st : State) (row hold : ℕ) → Passed s remap st row hold → first-failed (activation-tests s remap st row hold) ≡ 0
+unfolding refuse
+passed-activation s remap st row hold p =
+    rw (activation-tested s remap st row hold, or-later-zero _ _ (p .tables), p .inside, p .held, p .allowed, p .sound, p .spare)
+
+-- what they say of the state, the row, the hold, the remap, and of room in the interval
+pub record Ready-activation (s : Settings) (remap : List ℕ) (st : State) (row hold : ℕ) : Type 0 where
+  pub state : Ready s st
+  pub inside : row < s .rows
+  pub units : Between 1 16 hold
+  pub allowed : remap-allowed remap ≡ true
+  pub spare : st .position .activations + hold ≤ s .interval
+
+pub activation-ready : (s : Settings) (remap : List ℕ) (st : State) (row hold : ℕ) → first-failed (activation-tests s remap st row hold) ≡ 0 → Ready-activation s remap st row hold
+activation-ready s remap st row hold e =
+    let p = activation-passed s remap st row hold e in
+    record {
+      state = ready s st (p .tables) (p .sound);
+      inside = ltb-true row (s .rows) (p .inside);
+      units = hold-between hold (p .held);
+      allowed = p .allowed;
+      spare = leb-true (st .position .activations + hold) (s .interval) (p .spare);
+    }
 
 pub refresh-ready : (s : Settings) (st : State) (picks : List ℕ) → first-failed (refresh-tests s st picks) ≡ 0 → Ready s st × (s .volume ≤ length picks)
 refresh-ready s st picks e =

@@ -1,14 +1,15 @@
--- The tests of calls on a state that holds a sound summary of accepted settings: they refuse with 9, 14 and 22, or 10, and never with 8 or 21.
+-- The tests of calls on a state that holds a sound summary of accepted settings: they refuse with 9, 15, 14 and 22, or 10, and never with 8 or 21.
 use mathlib.Core.Path.{_≡_}
 use mathlib.Core.Bool.{true, not}
 use mathlib.Core.List.{List}
-use Prim.Native.Nat.{ℕ, _≤_, _<_}
+use Prim.Native.Nat.{ℕ, _+_, _≤_, _<_}
 use lib.Dec.{leb, ltb}
 use lib.ListN.{length}
 use Rattle.device.specs.declared.Settings.{Settings}
 use Rattle.device.specs.Refusal.{first-failed, unless, refuse}
 use Rattle.device.specs.Acceptance.{settings-tests}
 use Rattle.device.specs.Remap.{remap-allowed}
+use Rattle.device.specs.Hold.{hold-allowed}
 use Rattle.device.proofs.Refusal.{or-later}
 use Rattle.device.proofs.Acceptance.{settings-then}
 use Rattle.summary.specs.Steps.{Summary}
@@ -32,9 +33,9 @@ module _ (s : Settings) (e a : ℕ) (sum : Summary) (ok : first-failed (settings
   held-valid : valid s (state-of s e a sum) ≡ true
   held-valid = valid-state-of s e a sum (h .sound) (h .early) (h .within) (h .ceiling) (h .spillover-le)
 
-  pub activation-refusals : (remap : List ℕ) (row : ℕ) → first-failed (activation-tests s remap (state-of s e a sum) row) ≡ refuse (not (ltb row (s .rows))) 9 (refuse (not (remap-allowed remap)) 14 (refuse (not (ltb a (s .interval))) 22 0))
+  pub activation-refusals : (remap : List ℕ) (row hold : ℕ) → first-failed (activation-tests s remap (state-of s e a sum) row hold) ≡ refuse (not (ltb row (s .rows))) 9 (refuse (not (hold-allowed hold)) 15 (refuse (not (remap-allowed remap)) 14 (refuse (not (leb (a + hold) (s .interval))) 22 0)))
   unfolding activation-tests-to first-failed unless or-later refuse state-of
-  activation-refusals remap row = rw (settings-then s, ok, long, held-valid)
+  activation-refusals remap row hold = rw (settings-then s, ok, long, held-valid)
 
   pub refresh-refusals : (picks : List ℕ) → first-failed (refresh-tests s (state-of s e a sum) picks) ≡ refuse (not (leb (s .volume) (length picks))) 10 0
   unfolding refresh-tests-to first-failed unless or-later refuse

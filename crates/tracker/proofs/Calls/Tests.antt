@@ -2,7 +2,7 @@
 use mathlib.Core.Path.{_≡_, refl}
 use mathlib.Core.Bool.{Bool, true, false, not, _&&_}
 use mathlib.Core.List.{List, [], _∷_, _++_, append-assoc}
-use Prim.Native.Nat.{ℕ, zero, suc}
+use Prim.Native.Nat.{ℕ, zero, suc, _+_}
 use native.Mathlib.Omega.{arith}
 use lib.Dec.{ltb, leb}
 use lib.ListN.{length}
@@ -10,6 +10,7 @@ use Rattle.device.specs.declared.Settings.{Settings}
 use Rattle.device.specs.Refusal.{Test, unless, refuse, first-failed}
 use Rattle.device.specs.Acceptance.{settings-tests}
 use Rattle.device.specs.Remap.{remap-allowed}
+use Rattle.device.specs.Hold.{hold-allowed}
 use Rattle.device.proofs.Refusal.{or-later}
 use Rattle.device.proofs.Acceptance.{settings-then}
 use Rattle.tracker.specs.State.{State, valid}
@@ -58,11 +59,11 @@ pub set-up-tested : (s : Settings) (remap rows counts : List ℕ) → first-fail
 unfolding set-up-tests-to first-failed unless
 set-up-tested s remap rows counts = behind-tables s rows counts (unless (remap-allowed remap) 14 ∷ [])
 
-pub activation-tested : (s : Settings) (remap : List ℕ) (st : State) (row : ℕ) → first-failed (activation-tests s remap st row) ≡ or-later (first-failed (tables-tests s (st .rows) (st .counts))) (refuse (not (ltb row (s .rows))) 9 (refuse (not (remap-allowed remap)) 14 (refuse (not (valid s st)) 21 (refuse (not (ltb (st .position .activations) (s .interval))) 22 0))))
+pub activation-tested : (s : Settings) (remap : List ℕ) (st : State) (row hold : ℕ) → first-failed (activation-tests s remap st row hold) ≡ or-later (first-failed (tables-tests s (st .rows) (st .counts))) (refuse (not (ltb row (s .rows))) 9 (refuse (not (hold-allowed hold)) 15 (refuse (not (remap-allowed remap)) 14 (refuse (not (valid s st)) 21 (refuse (not (leb (st .position .activations + hold) (s .interval))) 22 0)))))
 unfolding activation-tests-to first-failed unless
-activation-tested s remap st row =
+activation-tested s remap st row hold =
     behind-tables s (st .rows) (st .counts)
-    (unless (ltb row (s .rows)) 9 ∷ unless (remap-allowed remap) 14 ∷ unless (valid s st) 21 ∷ unless (ltb (st .position .activations) (s .interval)) 22 ∷ [])
+    (unless (ltb row (s .rows)) 9 ∷ unless (hold-allowed hold) 15 ∷ unless (remap-allowed remap) 14 ∷ unless (valid s st) 21 ∷ unless (leb (st .position .activations + hold) (s .interval)) 22 ∷ [])
 
 pub refresh-tested : (s : Settings) (st : State) (picks : List ℕ) → first-failed (refresh-tests s st picks) ≡ or-later (first-failed (tables-tests s (st .rows) (st .counts))) (refuse (not (leb (s .volume) (length picks))) 10 (refuse (not (valid s st)) 21 0))
 unfolding refresh-tests-to first-failed unless

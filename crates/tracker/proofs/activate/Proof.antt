@@ -11,7 +11,7 @@ unfolding activation-call activation-accepts activation-refusal activation-posit
 returns c =
     let a = c .before .before .before .before .before .before .args in
     let k = c .before .activation-refusal in
-    activation-refused (a .s) (a .remap) (given (a .rows .now) (a .counts .now) (a .p)) (a .row) (k .result) (k .ensures) (c .if1 .taken)
+    activation-refused (a .s) (a .remap) (given (a .rows .now) (a .counts .now) (a .p)) (a .row) (a .hold) (k .result) (k .ensures) (c .if1 .taken)
 
 activate-accepted-requires : tie.Need-activate-accepted-requires
 activate-accepted-requires c κs = sym (c .before .before .before .activation-refusal .ensures) ∙ c .before .before .if1 .left
@@ -22,7 +22,7 @@ returns-2 c =
     let activation-refusal = c .before .before .before .before .before .before .before .before .activation-refusal in
     let if1 = c .before .before .before .before .before .before .before .if1 in
     let a = c .before .before .before .before .before .before .before .before .before .before .before .before .before .args in
-    activation-done (a .s) (a .remap) (given (a .rows .now) (a .counts .now) (a .p)) (a .row) (sym (activation-refusal .ensures) ∙ if1 .left) (c .before .before .before .before .activate-accepted .ensures)
+    activation-done (a .s) (a .remap) (given (a .rows .now) (a .counts .now) (a .p)) (a .row) (a .hold) (sym (activation-refusal .ensures) ∙ if1 .left) (c .before .before .before .before .activate-accepted .ensures)
 
 pub activate-spec : {M : Type 1} → statement M
 activate-spec =

@@ -6,6 +6,7 @@ use native.Mathlib.Omega.{arith}
 use borrow.Author.Needs.{needs}
 use Rattle.device.specs.declared.Settings.{Settings}
 use Rattle.device.specs.Remap.{physical}
+use Rattle.device.specs.Hold.{repeated}
 use Rattle.device.proofs.Remap.{physical-below}
 use Rattle.summary.specs.Steps.{Summary, activation}
 use Rattle.summary.specs.Contracts.{Holds}
@@ -23,51 +24,51 @@ physical-row-requires : tie.Need-physical-row-requires
 unfolding given
 physical-row-requires c κs =
     let a = c .before .before .before in
-    activation-ready (a .args .s) (a .args .remap) (given (a .args .rows .now) (a .args .counts .now) (a .args .p)) (a .args .row) (a .pre) .3
+    activation-ready (a .args .s) (a .args .remap) (given (a .args .rows .now) (a .args .counts .now) (a .args .p)) (a .args .row) (a .args .hold) (a .pre) .allowed
 
-activate-row-requires : tie.Need-activate-row-requires
+activate-units-requires : tie.Need-activate-units-requires
 unfolding given summary-of
-activate-row-requires c κs =
+activate-units-requires c κs =
     let a = c .before .before .before .before .before .before in
     let st = given (a .args .rows .now) (a .args .counts .now) (a .args .p) in
-    let r = activation-ready (a .args .s) (a .args .remap) st (a .args .row) (a .pre) in
-    let below = physical-below (a .args .remap) (r .3) (a .args .s .rows) (a .args .row) (r .0 .settings .others .rows-whole) (r .1) in (
-      ready-held (r .0),
+    let r = activation-ready (a .args .s) (a .args .remap) st (a .args .row) (a .args .hold) (a .pre) in
+    let below = physical-below (a .args .remap) (r .allowed) (a .args .s .rows) (a .args .row) (r .state .settings .others .rows-whole) (r .inside) in (
+      ready-held (r .state),
       (
-        (diameter-four (r .0 .settings), omega (arith, c .before .before .physical-row .ensures, below, r .0 .settings .others .rows .most)),
-        room-more (r .0 .facts .room) (omega arith),
+        (diameter-four (r .state .settings), omega (arith, c .before .before .physical-row .ensures, below, r .state .settings .others .rows .most)),
+        (r .units .most, room-more (r .state .facts .room) (omega arith)),
       ),
     )
 
-add-t15 : tie.Need-add-t15
+add-t16 : tie.Need-add-t16
 unfolding given
-add-t15 c =
+add-t16 c =
     let a = c .before .before .before .before .before .before .before .before .before .before .before .before in
-    let r = activation-ready (a .args .s) (a .args .remap) (given (a .args .rows .now) (a .args .counts .now) (a .args .p)) (a .args .row) (a .pre) in
-    omega (arith, r .2, r .0 .settings .others .interval .most)
+    let r = activation-ready (a .args .s) (a .args .remap) (given (a .args .rows .now) (a .args .counts .now) (a .args .p)) (a .args .row) (a .args .hold) (a .pre) in
+    omega (arith, r .spare, r .state .settings .others .interval .most)
 
-cast-t16 : tie.Need-cast-t16
+cast-t17 : tie.Need-cast-t17
 unfolding given
-cast-t16 c =
-    let activate-row = c .before .before .before .before .before .before .activate-row in
+cast-t17 c =
+    let activate-units = c .before .before .before .before .before .before .activate-units in
     let a = c .before .before .before .before .before .before .before .before .before .before .before .before .before in
-    let r = activation-ready (a .args .s) (a .args .remap) (given (a .args .rows .now) (a .args .counts .now) (a .args .p)) (a .args .row) (a .pre) in
-    omega (arith, tracked-le (activate-row .ensures), r .0 .fitting .rows-long, r .0 .settings .counters .most)
+    let r = activation-ready (a .args .s) (a .args .remap) (given (a .args .rows .now) (a .args .counts .now) (a .args .p)) (a .args .row) (a .args .hold) (a .pre) in
+    omega (arith, tracked-le (activate-units .ensures), r .state .fitting .rows-long, r .state .settings .counters .most)
 
 -- the state that an activation leaves, by a row that is the physical one
-made-by : (s : Settings) (e a : ℕ) (sum : Summary) (at : ℕ) (remap : List ℕ) (row : ℕ) {rows counts : List ℕ} {k spill : ℕ} → at ≡ physical remap row → Holds (s .counters) 4294967296 (activation (s .counters) (victims-in s) at sum) rows counts k spill → given rows counts (record { events = e; activations = a; tracked = k; spillover = spill }) ≡ state-of s e a (activation (s .counters) (victims-in s) (physical remap row) sum)
-made-by s e a sum at remap row same h = state-of-holds s e a h ∙ ap (λ x. state-of s e a (activation (s .counters) (victims-in s) x sum)) same
+made-by : (s : Settings) (e a : ℕ) (sum : Summary) (at : ℕ) (remap : List ℕ) (row hold : ℕ) {rows counts : List ℕ} {k spill : ℕ} → at ≡ physical remap row → Holds (s .counters) 4294967296 (repeated hold (activation (s .counters) (victims-in s) at) sum) rows counts k spill → given rows counts (record { events = e; activations = a; tracked = k; spillover = spill }) ≡ state-of s e a (repeated hold (activation (s .counters) (victims-in s) (physical remap row)) sum)
+made-by s e a sum at remap row hold same h = state-of-holds s e a h ∙ ap (λ x. state-of s e a (repeated hold (activation (s .counters) (victims-in s) x) sum)) same
 
 returns : tie.Need-returns
 unfolding activation-to kept-unless given summary-of
 returns c =
-    let activate-row = c .before .before .before .before .before .before .activate-row in
+    let activate-units = c .before .before .before .before .before .before .activate-units in
     let a = c .before .before .before .before .before .before .before .before .before .before .before .before .before in
     let st = given (a .args .rows .now) (a .args .counts .now) (a .args .p) in
-    let r = activation-ready (a .args .s) (a .args .remap) st (a .args .row) (a .pre) in
+    let r = activation-ready (a .args .s) (a .args .remap) st (a .args .row) (a .args .hold) (a .pre) in
     let f = c .before .before .before .before .before .before .before .before .before .physical-row in
     rw (a .pre)
-    (made-by (a .args .s) (a .args .p .events) (a .args .p .activations + 1) (summary-of st) (f .result) (a .args .remap) (a .args .row) (f .ensures) (rw (r .0 .fitting .rows-long) at (activate-row .ensures)))
+    (made-by (a .args .s) (a .args .p .events) (a .args .p .activations + a .args .hold) (summary-of st) (f .result) (a .args .remap) (a .args .row) (a .args .hold) (f .ensures) (rw (r .state .fitting .rows-long) at (activate-units .ensures)))
 
 pub activate-accepted-spec : {M : Type 1} → statement M
 activate-accepted-spec =
@@ -75,9 +76,9 @@ activate-accepted-spec =
     (tie.spec
     (λ c. search needs)
     physical-row-requires
-    activate-row-requires
-    add-t15
-    cast-t16
+    activate-units-requires
+    add-t16
+    cast-t17
     (λ c. search needs)
     (λ c. search needs)
     returns)

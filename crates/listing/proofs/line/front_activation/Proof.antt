@@ -18,7 +18,7 @@ returns : tie.Need-returns
 returns c =
     let a = c .before .before .before .before .before .before .before .before .before .before .before .before .before .before in
     let r = c .before .before .before .before .before .before .list-activation in
-    (front-places (λ rows counts rows′ counts′. Lists (activation-step (a .args .line) (a .args .s) (a .args .remap) (activation-on (a .args .s) (a .args .remap) (given rows counts (a .args .p)) (a .args .row))) (a .args .s) (a .args .remap) rows′ counts′ (r .result .position) (a .args .out .now) (a .args .at) (r .last .1 .1 .1 .1 .1 .1 .1 .0) (r .result .end)) (a .args .s .counters) (a .args .rows .now) (a .args .counts .now) (r .last .1 .1 .0) (r .last .1 .1 .1 .0) _ _ (a .pre .2) (a .pre .3) (r .kept .1 .1 .0) (r .kept .1 .1 .1 .0) (r .ensures), behind-front-places (a .args .s .counters) (a .args .rows .now) (a .args .counts .now) (r .last .1 .1 .0) (r .last .1 .1 .1 .0) (a .pre .2) (a .pre .3) (r .kept .1 .1 .0) (r .kept .1 .1 .1 .0))
+    (front-places (λ rows counts rows′ counts′. Lists (activation-step (a .args .line) (a .args .s) (a .args .remap) (activation-on (a .args .s) (a .args .remap) (given rows counts (a .args .p)) (a .args .row) (a .args .hold))) (a .args .s) (a .args .remap) rows′ counts′ (r .result .position) (a .args .out .now) (a .args .at) (r .last .1 .1 .1 .1 .1 .1 .1 .1 .0) (r .result .end)) (a .args .s .counters) (a .args .rows .now) (a .args .counts .now) (r .last .1 .1 .0) (r .last .1 .1 .1 .0) _ _ (a .pre .2) (a .pre .3) (r .kept .1 .1 .0) (r .kept .1 .1 .1 .0) (r .ensures), behind-front-places (a .args .s .counters) (a .args .rows .now) (a .args .counts .now) (r .last .1 .1 .0) (r .last .1 .1 .1 .0) (a .pre .2) (a .pre .3) (r .kept .1 .1 .0) (r .kept .1 .1 .1 .0))
 
 pub front-activation-spec : {M : Type 1} → statement M
 front-activation-spec =
