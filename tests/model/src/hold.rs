@@ -1,5 +1,4 @@
-//! How long a row is kept open (document 02, C-16), in units: one does what an activation did
-//! before there were holds.
+//! How long a row is kept open (document 02, C-16), in units.
 
 use crate::refusal::Refusal;
 
