@@ -13,7 +13,7 @@ import sys
 sys.dont_write_bytecode = True
 from against_plain import ROOT, TRACES, build_plain, print_ratio, rounds_asked
 
-PATTERNS = ("uniform", "hot", "feinting", "remapped")
+PATTERNS = ("uniform", "hot", "feinting", "remapped", "held")
 COUNTERS = (64, 677, 2_048)
 
 

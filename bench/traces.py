@@ -3,9 +3,9 @@
 
     python3 bench/traces.py [--folder FOLDER] [--blast-diameter B] [--volume V]
 
-Writes PATTERN-COUNTERS.trace for each pattern of rows (uniform, hot, feinting, and remapped, which is
-hot with a remap loaded) and for 64, 677 and 2,048 counters, about 11 MB each, into target/traces/
-unless told otherwise. They are the same every time.
+Writes PATTERN-COUNTERS.trace for each pattern of rows (uniform, hot, feinting, remapped, which is hot
+with a remap loaded, and held, which is hot with holds) and for 64, 677 and 2,048 counters, about 11 MB
+each and with holds 2 MB, into target/traces/ unless told otherwise. They are the same every time.
 """
 
 import argparse
@@ -17,6 +17,7 @@ import random
 ROWS, INTERVAL, WINDOW, BLOCK = 65_536, 166, 8_192, 8
 COUNTERS = (64, 677, 2_048)
 HOT_ROWS = 64
+LONGEST_HOLD = 16
 
 
 def remap(row):
@@ -24,7 +25,7 @@ def remap(row):
     return row ^ 1 if row % 4 >= 2 else row
 
 
-# Patterns: the logical rows of each interval
+# Patterns: the logical rows of each interval, with their holds where a pattern has holds
 
 
 def uniform(rng, *_):
@@ -69,8 +70,24 @@ def remapped(rng, *_):
     return hot(rng)
 
 
-PATTERNS = (uniform, hot, feinting, remapped)
+def held(rng, *_):
+    """The units of each interval's holds are as many as it takes."""
+    rows = itertools.chain.from_iterable(hot(rng))
+    while True:
+        activations, left = [], INTERVAL
+        while left > 0:
+            hold = min(left, rng.randint(1, LONGEST_HOLD))
+            activations.append((next(rows), hold))
+            left -= hold
+        yield activations
+
+
+PATTERNS = (uniform, hot, feinting, remapped, held)
 LOADED = {remapped: (11, 4, 14, 0, 9, 2, 7, 13, 5, 15, 1, 8, 12, 6, 3, 10)}
+
+
+def activation_line(row, hold=1):
+    return f"A{row:6}\n" if hold == 1 else f"H{row:6}{hold:6}\n"
 
 
 def write(path, pattern, blast_diameter, volume, counters):
@@ -81,7 +98,9 @@ def write(path, pattern, blast_diameter, volume, counters):
             file.write("F" + "".join(f"{number:6}" for number in LOADED[pattern]) + "\n")
         file.write("S" + "".join(f"{number:6}" for number in settings) + "\n")
         for _ in range(WINDOW):
-            file.write("".join(f"A{row:6}\n" for row in next(intervals)) + "R\n")
+            lines = (activation_line(*activation) if pattern is held else activation_line(activation)
+                     for activation in next(intervals))
+            file.write("".join(lines) + "R\n")
 
 
 def main():

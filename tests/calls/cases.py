@@ -1,7 +1,9 @@
 """The calls that are compared: sweeps around limits, runs, states that no run reaches, states that
-break one rule each, and refused calls; a set up and an activation with any remap.
+break one rule each, and refused calls; a set up and an activation with any remap, an activation with
+any hold.
 
-A Case is a call with what it is lent, and the number that it has to answer where that is known.
+A Case is a call with what it is lent, the number that it has to answer and the state that it has to
+leave where these are known.
 """
 
 import collections
@@ -9,6 +11,7 @@ import collections
 from comparison import (
     BLOCK, COUNTERS, DIAMETER, INTERVAL, MAX_ROWS, ROWS, U32, VOLUME, WINDOW, alike, changed,
 )
+from holds import LONGEST, accepted_hold, is_accepted_hold, refused_hold
 from remaps import (
     IDENTITY, OURS, REFUSED, REVERSE, ROTATED, accepted_remap, logical_row, refused_remap,
 )
@@ -17,13 +20,19 @@ from states import (
     bad_value, edges, garbage, large_settings, random_physical_row, resize, state_of, valid_state,
 )
 
-# The number that the model has to give is None where only the model knows it.
-Case = collections.namedtuple("Case", "call state argument number kind remap")
+# The number that the model has to give and the state that it has to leave are None where only the
+# model knows them.
+Case = collections.namedtuple("Case", "call state argument number kind remap hold left")
 
 
-def case(call, state, argument=None, number=None, kind=None, remap=OURS):
+def case(call, state, argument=None, number=None, kind=None, remap=OURS, hold=1, left=None):
     """The argument is a logical row, a list of picks or another state, as the call needs."""
-    return Case(call, state, argument, number, kind, remap)
+    return Case(call, state, argument, number, kind, remap, hold, left)
+
+
+def passes_interval(state, hold):
+    """Whether the units would carry the activations past the interval."""
+    return state.position[ACTIVATIONS] + hold > state.settings[INTERVAL]
 
 
 # Sweeps around limits; edges.calls has the edges with answers written by hand
@@ -48,6 +57,7 @@ def sweep_cases():
 
     yield from subarray_cases()
     yield from remap_cases(example)
+    yield from hold_cases(example)
 
     several = changed(example, (VOLUME, 4), (COUNTERS, 6), (WINDOW, 6), (BLOCK, 3))
     for tracked in range(7):
@@ -80,6 +90,43 @@ def remap_cases(example):
                 state = state_of(example, {4: 3}, 1, activations=1)
                 yield case("set_up", state, None, -14, "every number missing", spoiled)
                 yield case("activate", state, 5, -14, "every number missing", spoiled)
+
+
+SWEPT_HOLDS = (*range(18), 32, 256, 257, 65_537, 999_999, 2**31 + 1, U32 - 15, U32)
+OTHER_ROWS = (16, 17, U32)  # of a bank of 16
+
+
+def hold_cases(example):
+    """Every hold from each end of an interval, and before other faults."""
+    for hold in SWEPT_HOLDS:
+        state = state_of(changed(example, (INTERVAL, 20)), {4: 3, 6: 2}, 1, activations=2)
+        good = is_accepted_hold(hold)
+        yield case("activate", state, 5, 0 if good else -15, "every hold", hold=hold)
+        for row in OTHER_ROWS:
+            yield case("activate", state, row, -9, "every hold", hold=hold)
+        if good:
+            yield from interval_cases(example, hold)
+        else:
+            zeros = (0,) * 16
+            broken = state_of(example, {4: 3}, 1, events=4)
+            yield case("activate", state, 5, -15, "every hold", zeros, hold)
+            yield case("activate", broken, 5, -15, "every hold", hold=hold)
+            yield case("activate", broken, 5, -15, "every hold", zeros, hold)
+
+
+def interval_cases(example, hold):
+    """Activations that just fill an interval, pass it by one unit and by more, and activations so
+    far that are above the interval, up to where a sum of 32 bits would be small again."""
+    for interval in (1, 4, 15, 16, 17, 20, 4096):
+        settings = changed(example, (INTERVAL, interval))
+        for activations in {max(0, interval - LONGEST), interval - hold, interval - hold + 1, interval}:
+            if activations >= 0:
+                state = state_of(settings, {4: 3, 6: 2}, 1, activations=activations)
+                number = -22 if passes_interval(state, hold) else 0
+                yield case("activate", state, 5, number, "ends of an interval", hold=hold)
+        for activations in (interval + 1, interval + LONGEST, 2**32 - hold, U32):
+            state = state_of(settings, {4: 3, 6: 2}, 1, activations=activations)
+            yield case("activate", state, 5, -21, "above the interval", hold=hold)
 
 
 # The rows of banks, and edges of subarrays and ends in them.
@@ -147,12 +194,16 @@ def run_step(rng, state, earlier, hot_rows, remap):
     """The number is left to the model, which refuses none of these for the state."""
     settings = state.settings
     chance = rng.random()
+    hold = accepted_hold(rng)
     if chance < 0.02:
         row = settings[ROWS] + rng.choice((0, 1, 7))
-        return case("activate", state, row, -9, "fault in a run", remap)
+        return case("activate", state, row, -9, "fault in a run", remap, hold)
+    if chance < 0.03:
+        return case("activate", state, rng.choice(hot_rows), -15, "fault in a run", remap,
+                    refused_hold(rng, U32))
     if chance < 0.04:
         return case("activate", state, rng.choice(hot_rows), -14, "fault in a run",
-                    refused_remap(rng, U32))
+                    refused_remap(rng, U32), hold)
     if chance < 0.06:
         return case("refresh", state, garbage(rng, settings[VOLUME] - 1), -10, "fault in a run")
     if chance < 0.12:
@@ -163,7 +214,10 @@ def run_step(rng, state, earlier, hot_rows, remap):
         return case("refresh", state, picks, None, "event of a run")
     row = rng.choice(hot_rows) if rng.random() < 0.8 else rng.randrange(settings[ROWS])
     row = logical_row(remap, row)
-    return case("activate", state, row, -22 if full else 0, "activation of a run", remap)
+    if not full and rng.random() < 0.8:
+        hold = min(hold, settings[INTERVAL] - state.position[ACTIVATIONS])
+    number = -22 if passes_interval(state, hold) else 0
+    return case("activate", state, row, number, "activation of a run", remap, hold)
 
 
 # States that no run reaches
@@ -172,16 +226,61 @@ def run_step(rng, state, earlier, hot_rows, remap):
 def valid_cases(rng):
     """A case of each call on an accepted state."""
     state = valid_state(rng)
-    full = state.position[ACTIVATIONS] == state.settings[INTERVAL]
-    remap = accepted_remap(rng)
+    remap, hold = accepted_remap(rng), accepted_hold(rng)
     row = logical_row(remap, random_physical_row(rng, state))
-    yield case("activate", state, row, -22 if full else 0, "valid state", remap)
+    number = -22 if passes_interval(state, hold) else 0
+    yield case("activate", state, row, number, "valid state", remap, hold)
     state = valid_state(rng)
     volume = state.settings[VOLUME]
     picked = min(volume, state.position[TRACKED])
     picks = garbage(rng, volume + rng.choice((0, 0, 1, 5)))
     yield case("refresh", state, picks, picked, "valid state")
     yield agreement_case(rng)
+
+
+def with_room(rng, settings, units, spillover=None):
+    """An accepted state with room for so many units."""
+    state = valid_state(rng, changed(settings, (INTERVAL, rng.choice((units, 100, 4096)))),
+                        spillover=spillover)
+    most = state.settings[INTERVAL] - units
+    state.position[ACTIVATIONS] = rng.choice((0, most, rng.randint(0, most)))
+    return state
+
+
+def units_cases(rng, model):
+    """A hold in two parts or unit by unit, and then whole, which has to come to the same."""
+    hold = rng.randint(2, LONGEST)
+    first = rng.randint(1, hold - 1)
+    parts = rng.choice(((first, hold - first), (1,) * hold))
+    whole = with_room(rng, any_settings(rng), hold, spillover=rng.randint(0, 10**9))
+    whole.counts = [min(count, MAX_COUNT - 100) for count in whole.counts]
+    remap = accepted_remap(rng)
+    row = logical_row(remap, random_physical_row(rng, whole))
+    state = whole
+    for part in parts:
+        step = case("activate", state, row, 0, "part of a hold", remap, part)
+        yield step
+        state = model.ask(step)[1]
+    yield case("activate", whole, row, 0, "hold in parts and whole", remap, hold, state)
+
+
+def past_most_cases(rng, model):
+    """Units that carry counts or the spillover to the most that they may be and past it, and each
+    call behind them, which gets 21 where they passed it."""
+    hold = rng.randint(2, LONGEST)
+    settings = changed(any_settings(rng), (VOLUME, 1), (COUNTERS, rng.choice((1, 2, 3, 5, 16))))
+    spillover = MAX_COUNT - rng.choice((0, 0, 1, 2, hold, 2 * hold, rng.randint(3, 40)))
+    state = with_room(rng, settings, hold + 1, spillover)
+    remap = accepted_remap(rng)
+    row = logical_row(remap, random_physical_row(rng, state))
+    step = case("activate", state, row, 0, "counts close to the most", remap, hold)
+    yield step
+    after = model.ask(step)[1]
+    passed = max(*after.counts, after.position[SPILLOVER]) > MAX_COUNT
+    kind = "behind units that passed the most" if passed else "behind units close to the most"
+    yield case("activate", after, row, -21 if passed else 0, kind, remap)
+    yield case("refresh", after, garbage(rng, 1), -21 if passed else None, kind)
+    yield case("agree", after, after, -21 if passed else 1, kind)
 
 
 def agreement_case(rng):
@@ -282,7 +381,7 @@ def broken_cases(rng):
     for rule, make in BROKEN_RULES.items():
         state = make(rng)
         yield case("activate", state, random_row(rng, state), -21, f"activate: {rule}",
-                   accepted_remap(rng))
+                   accepted_remap(rng), accepted_hold(rng))
         state = make(rng)
         yield case("refresh", state, garbage(rng, state.settings[VOLUME]), -21, f"refresh: {rule}")
         state = make(rng)
@@ -299,17 +398,22 @@ def random_broken_state(rng):
     return rng.choice(list(BROKEN_RULES.values()))(rng)
 
 
+ORDER = (1, 2, 3, 4, 5, 6, 7, 8, 9, 10, 15, 14, 21, 22)  # in which refusals are tested
+
+
 def faulty_case(rng, several):
-    """A call with one fault, or with some at once, of which the first in document 01's order
-    decides."""
+    """A call with one fault, or with some at once, of which the first in order decides."""
     call = rng.choice(("set_up", "activate", "refresh", "agree"))
     state = random_broken_state(rng) if several else valid_state(rng)
-    possible = {"set_up": (1, 8, 14), "activate": (1, 8, 9, 14), "refresh": (1, 8, 10),
+    possible = {"set_up": (1, 8, 14), "activate": (1, 8, 9, 15, 14), "refresh": (1, 8, 10),
                 "agree": (1, 8)}
     chosen = rng.sample(possible[call], rng.randint(1, len(possible[call])) if several else 1)
     numbers = []
     kind = "several faults" if several else "one fault"
-    remap = accepted_remap(rng)
+    remap, hold = accepted_remap(rng), accepted_hold(rng)
+    if 15 in chosen:
+        hold = refused_hold(rng, U32)
+        numbers.append(15)
     if 14 in chosen:
         sort = rng.choice(list(REFUSED))
         remap = refused_remap(rng, U32, sort)
@@ -330,10 +434,11 @@ def faulty_case(rng, several):
         numbers.append(8)
     if 1 in chosen:
         numbers.append(spoil_settings(rng, state, several))
+    number = min(numbers, key=ORDER.index)
     if call == "agree":
-        return faulty_agreement(rng, state, min(numbers), several)
+        return faulty_agreement(rng, state, number, several)
     argument = {"set_up": None, "activate": row, "refresh": garbage(rng, length)}[call]
-    return case(call, state, argument, -min(numbers), f"{kind}: {call}", remap)
+    return case(call, state, argument, -number, f"{kind}: {call}", remap, hold)
 
 
 def spoil_settings(rng, state, several):
@@ -362,11 +467,15 @@ def faulty_agreement(rng, state, number, several):
 
 
 def random_cases(rng, model):
-    """About 5,000 cases."""
+    """About 6,000 cases."""
     for steps in (5, 20, 40) * 27:
         yield from run_cases(rng, model, steps)
     for _ in range(500):
         yield from valid_cases(rng)
+    for _ in range(60):
+        yield from units_cases(rng, model)
+    for _ in range(150):
+        yield from past_most_cases(rng, model)
     for _ in range(12):
         yield from broken_cases(rng)
     for _ in range(600):

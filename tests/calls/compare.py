@@ -7,8 +7,8 @@
 The program of crates/test_calls makes the library's calls. Builds the model, then compares the
 number and all lent memory after each call: on document 01's example and on edges, with answers
 written by hand (example.calls, edges.calls), and on the calls of cases.py, the random ones with one
-fixed and one fresh seed (--seed repeats a fresh one). The model's number is also held against the
-one that the case was made for. Queries and answers stay in target/calls/.
+fixed and one fresh seed (--seed repeats a fresh one). What the model gives is also held against what
+the case was made for. Queries and answers stay in target/calls/.
 Exit status: 0 all equal; 1 a difference; 2 something is missing or cannot be built.
 """
 
@@ -23,14 +23,15 @@ import sys
 
 sys.dont_write_bytecode = True
 sys.path.insert(0, str(pathlib.Path(__file__).resolve().parents[1]))
-from cases import CUT_BANKS, case, random_cases, sweep_cases
+from cases import CUT_BANKS, ORDER, case, passes_interval, random_cases, sweep_cases
 from comparison import (
     BLOCK, BUILD_MODEL, COUNTERS, DIAMETER, FIXED_SEED, INTERVAL, MODEL, ROOT, ROWS, Run, Tally,
     TIME_LIMIT, VOLUME, WINDOW, arguments_with_seeds, build, give_up, read_figures,
 )
+from holds import LONGEST, is_accepted_hold
 from remaps import NAMES, OURS, REFUSED, is_accepted, physical_row
 from states import (
-    ACTIVATIONS, BROKEN_RULES, EVENTS, PLACES, SPILLOVER, State, block_of, cuts, edges, listed,
+    ACTIVATIONS, BROKEN_RULES, EVENTS, MAX_COUNT, PLACES, SPILLOVER, State, block_of, cuts, edges, listed,
 )
 
 HERE = "tests/calls"
@@ -49,6 +50,8 @@ def query(case):
         parts.append(listed(case.argument))
     elif case.argument is not None:
         parts.append(str(case.argument))
+    if case.call == "activate":
+        parts.append(str(case.hold))
     if case.call in WITH_REMAP:
         parts += ["remap", *map(str, case.remap)]
     return " ".join(parts)
@@ -77,7 +80,7 @@ def read_query(text):
     call, *words = text.split()
     state, rest = read_state([int(word) for word in words])
     if call == "activate":
-        return case(call, state, rest[0], remap=remap)
+        return case(call, state, rest[0], remap=remap, hold=rest[1])
     if call == "refresh":
         return case(call, state, read_lists(rest, 1)[0][0])
     if call == "agree":
@@ -94,12 +97,13 @@ def read_state(numbers):
 #
 # A request: the call, settings, position, row, lengths of both tables and of the picks, rows,
 # counts, picks; then the second state of an agreement: settings, position, lengths, rows, counts;
-# then the remap, which is not looked at in an event or an agreement.
+# then the remap, which is not looked at in an event or an agreement, and the hold, which is looked at
+# in an activation alone.
 # An answer: the refusal or 0, the value, the position, rows, counts, picks, all as after the call.
 
 CALLS = ("set_up", "activate", "refresh", "agree")
 PICKS = 32  # places for the picks
-REQUEST = struct.Struct(f"<{16 + 2 * PLACES + PICKS + 13 + 2 * PLACES + 16}I")
+REQUEST = struct.Struct(f"<{16 + 2 * PLACES + PICKS + 13 + 2 * PLACES + 16 + 1}I")
 ANSWER = struct.Struct(f"<{6 + 2 * PLACES + PICKS}I")
 MARGIN = 0xb5a2c3d4  # stands behind every list and has to stay there
 
@@ -122,10 +126,11 @@ def request(case):
     lengths, tables = lengths_and_tables(case.state)
     lengths2, tables2 = lengths_and_tables(other)
     remap = case.remap if case.call in WITH_REMAP else [MARGIN] * 16
+    hold = case.hold if case.call == "activate" else MARGIN
     return REQUEST.pack(
         CALLS.index(case.call), *case.state.settings, *case.state.position, row, *lengths,
         len(picks), *tables, *padded(picks, PICKS),
-        *other.settings, *other.position, *lengths2, *tables2, *remap)
+        *other.settings, *other.position, *lengths2, *tables2, *remap, hold)
 
 
 def answer_line(case, answer):
@@ -204,8 +209,7 @@ def kinds_of(case, answer):
         yield case.kind
     if number < 0:
         yield f"{case.call} refused with {-number}"
-        if not is_accepted(case.remap):
-            yield from order_kinds(case, -number)
+        yield from order_kinds(case, -number)
         return
     yield f"{case.call} accepted"
     if case.call in WITH_REMAP:
@@ -219,18 +223,27 @@ def kinds_of(case, answer):
 
 
 def order_kinds(case, number):
-    """Of a refused remap and another fault, which one decides."""
-    if number < 14:
-        yield f"{case.call}: {number} before 14"
-    elif case.kind == "several faults: activate":
-        yield "activate: 14 before 21"
-    elif case.call == "activate" and case.state.position[ACTIVATIONS] == case.state.settings[INTERVAL]:
-        yield "activate: 14 before 22"
+    """Before which other faults of the call this one decides."""
+    earned = {14: not is_accepted(case.remap)}
+    if case.call == "activate":
+        earned[15] = not is_accepted_hold(case.hold)
+        earned[21] = case.kind == "several faults: activate"
+        earned[22] = passes_interval(case.state, case.hold)
+    for other in earned:
+        if earned[other] and ORDER.index(other) > ORDER.index(number):
+            yield f"{case.call}: {number} before {other}"
 
 
 def activation_kinds(case, after):
     settings, before, now = case.state.settings, case.state.tracked(), after.tracked()
     row = physical_row(case.remap, case.argument)
+    yield f"activation: hold {case.hold}"
+    if case.hold > 1 and after.position[ACTIVATIONS] == settings[INTERVAL]:
+        yield "activation: units just fill the interval"
+    if max(case.state.counts) <= MAX_COUNT - 1 and max(after.counts) > MAX_COUNT:
+        yield "activation: a count is carried past the most by a later unit"
+    if case.state.position[SPILLOVER] < MAX_COUNT < after.position[SPILLOVER]:
+        yield "activation: the spillover is carried past the most by a later disturbance"
     if row in before:
         yield "activation: the row itself was tracked"
         del before[row]
@@ -288,12 +301,18 @@ EXPECTED_KINDS = (
     *(f"{call} accepted, remap: {name}" for call in WITH_REMAP
       for name in (*NAMES.values(), "another")),
     *(f"set_up refused with {k}" for k in (1, 2, 3, 4, 5, 6, 7, 8, 14)),
-    *(f"activate refused with {k}" for k in (1, 2, 3, 4, 5, 6, 7, 8, 9, 14, 21, 22)),
+    *(f"activate refused with {k}" for k in ORDER if k != 10),
     *(f"set_up: {k} before 14" for k in (1, 2, 3, 4, 5, 6, 7, 8)),
-    *(f"activate: {k} before 14" for k in (1, 2, 3, 4, 5, 6, 7, 8, 9)),
-    *(f"activate: 14 before {k}" for k in (21, 22)),
+    *(f"activate: {k} before {later}" for place, later in enumerate(ORDER) if later > 10
+      for k in ORDER[:place] if k != 10),
     *(f"remap refused, {sort}: {call}" for sort in REFUSED for call in WITH_REMAP),
-    "every remainder", "every number missing",
+    "every remainder", "every number missing", "every hold", "ends of an interval",
+    "above the interval", "part of a hold", "hold in parts and whole", "counts close to the most",
+    *(f"behind units {where} the most" for where in ("close to", "that passed")),
+    *(f"activation: hold {hold}" for hold in range(1, LONGEST + 1)),
+    "activation: units just fill the interval",
+    "activation: a count is carried past the most by a later unit",
+    "activation: the spillover is carried past the most by a later disturbance",
     *(f"refresh refused with {k}" for k in (1, 2, 3, 4, 5, 6, 7, 8, 10, 21)),
     *(f"agree refused with {k}" for k in (1, 2, 3, 4, 5, 6, 7, 8, 21)),
     *(f"{call}: {rule}" for rule in BROKEN_RULES
@@ -353,10 +372,14 @@ def compare(tally, kinds, program, cases, name):
     answers = zip(cases, queries, model.finish_model(), library)
     for line, (case, text, wanted, answer) in enumerate(answers, 1):
         kinds.update(kinds_of(case, wanted))
-        number = int(wanted.split()[0])
+        number, after = answered(case, wanted)
         tally.check(case.number in (None, number),
                     f"{name} {line}: the model gives {number} in place of {case.number} "
                     f"({case.kind}): {short(text)}")
+        if case.left:
+            tally.check(case.left == after,
+                        f"{name} {line}: the model leaves {after} in place of {case.left} "
+                        f"({case.kind}): {short(text)}")
         tally.check(answer == wanted,
                     f"{name} {line} ({case.kind}): {short(text)}\n"
                     f"    model:   {short(wanted)}\n    library: {short(str(answer))}")

@@ -28,6 +28,7 @@ PAGES = {
 SHOWN = (
     "tests/listing/example.trace", "tests/listing/example.listing",
     "tests/listing/loaded.trace", "tests/listing/loaded.listing",
+    "tests/listing/holds.trace", "tests/listing/holds.listing",
     "tests/writer/example.trace", "tests/writer/example.spelling", "tests/writer/example.fault",
 )
 SUBARRAYS = ("tests/listing/subarrays.trace", "tests/listing/subarrays.listing")

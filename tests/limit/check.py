@@ -3,11 +3,12 @@
 
     python3 tests/limit/check.py [--seed N] [--runs N]
 
-Builds the model, which then plays the runs (tests/model/src/limit.rs): settings, early events and
-refused calls at random, one remap for all calls or another at each, and rows at random or chosen to
-drive disturbance high. After each call every row's disturbance has to be at most 2 x H, and at most
-H while the first window lasts; a call is refused only for its row, its remap, its list or a full
-interval. One fixed and one fresh seed (--seed repeats a fresh one).
+Builds the model, which then plays the runs (tests/model/src/limit.rs): settings, holds, early events
+and refused calls at random, one remap for all calls or another at each, and rows at random or chosen
+to drive disturbance high. After each call every row's disturbance has to be at most 2 x H, and at
+most H while the first window lasts; a hold has to do what its units do one by one; a call is refused
+only for its row, its hold, its remap, its list or an interval without room for its units. One fixed
+and one fresh seed (--seed repeats a fresh one).
 Exit status: 0 the limit held; 1 it did not; 2 something is missing or cannot be built.
 """
 

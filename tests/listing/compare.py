@@ -4,9 +4,10 @@
     python3 tests/listing/compare.py [--seed N] [--program COMMAND]
 
 Builds the model, then compares on document 01's example (example.*), on edges with a listing
-written by hand (edges.*, subarrays.*, large.*, remaps.*, loaded.*), on traces with the listings
-that are kept (kept/), and on random traces (traces.py), with one fixed and one fresh seed (--seed
-repeats a fresh one). Traces come from a file, through a pipe, or in small pieces through a pipe.
+written by hand (edges.*, subarrays.*, large.*, remaps.*, loaded.*, holds.*, hold_forms.*), on traces
+with the listings that are kept (kept/), and on random traces (traces.py), with one fixed and one
+fresh seed (--seed repeats a fresh one). Traces come from a file, through a pipe, or in small pieces
+through a pipe.
 What differs stays in target/listing/.
 Exit status: 0 all equal; 1 a difference; 2 something is missing or cannot be built.
 """
@@ -31,14 +32,15 @@ from failures import (
 from programs import difference, from_file, in_pieces, random_pieces, through_pipe
 from remaps import REVERSE
 from traces import (
-    KINDS, loaded_remaps, long_lines, long_trace, plain_trace, random_traces, wide_lines,
+    KINDS, held_rows, loaded_remaps, long_holds, long_lines, long_trace, plain_trace, random_traces,
+    wide_lines,
 )
 
 HERE = "tests/listing"
 OUT = "target/listing"
 MODEL_LISTING = [MODEL, "listing"]
 
-WRITTEN = ("example", "edges", "subarrays", "large", "remaps", "loaded")
+WRITTEN = ("example", "edges", "subarrays", "large", "remaps", "loaded", "holds", "hold_forms")
 KEPT = ("smallest_bank", "bank_of_1040", "bank_of_65520", "bank_of_65536", "many_counters",
         "refused_lines", "almost_good_lines", "long_lines_cut_off")
 
@@ -46,7 +48,8 @@ TRICKLES = 20  # traces in small pieces for each seed
 MOST_BYTE_BY_BYTE = 5000  # bytes of a trace
 
 FAILURES = (output_full, reader_leaves, output_fills, input_unreadable, input_fails_after_lines)
-REFUSALS = (1, 2, 3, 4, 5, 6, 7, 9, 11, 14, 22)  # those that a trace can earn
+REFUSALS = (1, 2, 3, 4, 5, 6, 7, 9, 11, 14, 15, 22)  # those that a trace can earn
+LONG = {"long trace of a large bank": long_trace, "long trace of holds": long_holds}
 
 
 # Comparing
@@ -82,14 +85,16 @@ def compare(tally, kinds, command, seed, name):
         count += 1
         compare_one(tally, kinds, command, feed, f"{name} {count} ({kind})", text, kind)
     for _ in range(TRICKLES):
-        make = rng.choice((plain_trace, plain_trace, loaded_remaps, wide_lines, long_lines))
+        make = rng.choice((plain_trace, plain_trace, loaded_remaps, held_rows, wide_lines, long_lines))
         text = make(rng)
         feed = in_pieces(random_pieces(rng, len(text)))
         count += 1
         compare_one(tally, kinds, command, feed, f"{name} {count} (in pieces)", text, "in pieces")
-    text = long_trace(rng)
-    compare_one(tally, kinds, command, from_file, f"{name} (long)", text, "long trace of a large bank")
-    print(f"  {count + 1} traces, the long one of {len(text.splitlines())} lines")
+    print(f"  {count} traces")
+    for kind, make in LONG.items():
+        text = make(rng)
+        compare_one(tally, kinds, command, from_file, f"{name} ({kind})", text, kind)
+        print(f"  a {kind}, {len(text.splitlines())} lines")
 
 
 def compare_one(tally, kinds, command, feed, name, text, kind):
@@ -110,7 +115,7 @@ def line_kinds(listing):
 
 
 EXPECTED_KINDS = (
-    *KINDS, "in pieces", "long trace of a large bank", "bound",
+    *KINDS, "in pieces", *LONG, "bound",
     *(f"event with {picked} picked rows" for picked in range(17)),
     *(f"line refused with {number}" for number in REFUSALS),
 )

@@ -4,11 +4,12 @@ from comparison import (
     INTERVAL, MAX_ROWS, MAX_WINDOW, ROWS, WINDOW, accepted_settings, alike, changed,
     faulty_settings, limit_values, spread,
 )
+from holds import accepted_hold, refused_hold
 from remaps import OURS, accepted_remap, logical_row, refused_remap
 
 MOST = 999_999  # in six columns
-SPECIAL_BYTES = b"\x00\x01\t\n\r +-09AFRSX\x7f\x80\xff"
-LINE_SIZES = (0, 1, 2, 6, 7, 8, 9, 42, 43, 44, 45, 63, 64, 65, 96, 97, 98, 99, 4095, 4096, 4097,
+SPECIAL_BYTES = b"\x00\x01\t\n\r +-09AFHRSX\x7f\x80\xff"
+LINE_SIZES = (0, 1, 2, 6, 7, 8, 9, 12, 13, 14, 42, 43, 44, 45, 63, 64, 65, 96, 97, 98, 99, 4095, 4096, 4097,
               65_535, 65_536, 65_537, 131_072, 200_000)
 WIDEST = 97  # bytes of an `F` line, byte 10 not counted
 BOUNDARIES = (64, 4096, 65_536)
@@ -30,6 +31,28 @@ def settings_line(rng, settings):
 
 def activation_line(rng, row):
     return b"A" + field(rng, row) + b"\n"
+
+
+def hold_line(rng, row, hold):
+    return b"H" + field(rng, row) + field(rng, hold) + b"\n"
+
+
+def refused_hold_line(rng, row):
+    return hold_line(rng, row, refused_hold(rng, MOST))
+
+
+def activation_lines(rng, rows, room, held):
+    """Activations of these rows as long as there is room for a unit; `held` is the share of those
+    with a hold."""
+    lines = []
+    for row in rows:
+        if room == 0:
+            break
+        hold = min(room, accepted_hold(rng)) if rng.random() < held else 1
+        as_hold = hold > 1 or rng.random() < held
+        lines.append(hold_line(rng, row, hold) if as_hold else activation_line(rng, row))
+        room -= hold
+    return b"".join(lines)
 
 
 def remap_line(rng, remap):
@@ -69,8 +92,9 @@ def any_settings(rng):
 
 def body(rng, settings, count, hot_rows=None):
     """Lines for a tracker with these settings, few of them refused."""
-    rows = settings[ROWS]
+    rows, interval = settings[ROWS], settings[INTERVAL]
     hot_rows = hot_rows or [rng.randrange(rows) for _ in range(rng.choice((1, 2, 4, 12)))]
+    held = rng.choice((0, 0.1, 0.5))
     lines, activations = [], 0
     for _ in range(count):
         chance = rng.random()
@@ -80,14 +104,24 @@ def body(rng, settings, count, hot_rows=None):
             lines.append(remap_lines(rng, 2))
         elif chance < 0.05:
             row = min(MOST, rng.choice((rows, rows + 1, MOST)))
-            lines.append(activation_line(rng, row))
-        elif chance < 0.1 or activations >= settings[INTERVAL] and chance < 0.9:
+            lines.append(rng.choice((activation_line(rng, row), hold_line(rng, row, accepted_hold(rng)),
+                                     refused_hold_line(rng, row))))
+        elif chance < 0.1 or activations >= interval and chance < 0.9:
             lines.append(b"R\n")
             activations = 0
         else:
             row = rng.choice(hot_rows) if rng.random() < 0.8 else rng.randrange(rows)
-            lines.append(activation_line(rng, row))
-            activations += 1
+            if rng.random() >= held:
+                lines.append(activation_line(rng, row))
+                activations += 1
+            elif chance < 0.15:
+                lines.append(refused_hold_line(rng, row))
+            else:
+                hold = accepted_hold(rng)
+                if activations + hold > interval and chance < 0.7:
+                    hold = max(1, interval - activations)
+                lines.append(hold_line(rng, row, hold))
+                activations += hold if activations + hold <= interval else 0
     return b"".join(lines)
 
 
@@ -125,8 +159,48 @@ def loaded_remaps(rng):
         for _ in range(rng.randint(1, 3)):
             text += remap_lines(rng, rng.choice((0, 0, 1)))
             rows = rng.choices(range(max(16, settings[ROWS])), k=rng.randint(1, 3))
-            text += b"".join(activation_line(rng, row) for row in rows) + b"R\n"
+            text += activation_lines(rng, rows, settings[INTERVAL], 0.3) + b"R\n"
     return text
+
+
+def held_rows(rng):
+    """Holds of every length, accepted, refused and about as long as there is room for, each with what
+    the same units would be one by one; and holds where no tracker stands."""
+    text = b""
+    for _ in range(rng.randint(1, 4)):
+        if rng.random() < 0.3:
+            faulty = changed(small_settings(rng), (rng.randrange(7), 0))
+            text += settings_line(rng, faulty) + held_lines(rng, faulty, rng.randint(1, 5))
+        settings = changed(small_settings(rng), (INTERVAL, rng.choice((1, 2, 15, 16, 17, 20, 33, 100))))
+        text += remap_lines(rng, rng.choice((0, 0, 2))) + settings_line(rng, settings)
+        for _ in range(rng.randint(1, 12)):
+            text += held_lines(rng, settings, rng.randint(1, 8)) + b"R\n"
+    return text
+
+
+def held_lines(rng, settings, count):
+    """Lines of one interval."""
+    rows, room = max(16, settings[ROWS]), settings[INTERVAL]
+    lines = []
+    for _ in range(count):
+        row = rng.choice((rng.randrange(rows), rng.randrange(3), rows - 1))
+        chance = rng.random()
+        if chance < 0.1:
+            lines.append(refused_hold_line(rng, rng.choice((row, row, rows))))
+        elif chance < 0.2:
+            lines.append(hold_line(rng, row, min(16, room + 1)))
+        elif chance < 0.4 and room > 0:
+            lines.append(hold_line(rng, row, min(16, room)))
+            room -= min(16, room)
+        elif chance < 0.6:
+            units = min(accepted_hold(rng), room)
+            lines.append(b"".join(activation_line(rng, row) for _ in range(units)))
+            room -= units
+        else:
+            hold = accepted_hold(rng)
+            lines.append(hold_line(rng, row, hold))
+            room -= hold if hold <= room else 0
+    return b"".join(lines)
 
 
 def limit_settings(rng):
@@ -137,7 +211,8 @@ def limit_settings(rng):
         for place in rng.sample(range(7), rng.choice((1, 1, 2))):
             values = [value for value in limit_values(settings, place) if value <= MOST]
             settings = changed(settings, (place, rng.choice((*values, MOST))))
-        text += settings_line(rng, settings) + b"A     0\nR\nA    15\nA    16\n"
+        text += settings_line(rng, settings) + b"A     0\nR\nA    15\nA    16\nR\n"
+        text += hold_line(rng, 0, accepted_hold(rng)) + b"R\n"
         for row in (settings[ROWS] - 1, settings[ROWS]):
             text += activation_line(rng, min(MOST, max(0, row)))
     return text
@@ -158,7 +233,7 @@ def subarray_edges(rng):
     text += settings_line(rng, settings) + b"R\n" * (edge // block - rng.randint(1, 3))
     for _ in range(rng.randint(4, 12)):
         hammered = rng.choices(near, k=rng.randint(1, settings[INTERVAL]))
-        text += b"".join(activation_line(rng, row) for row in hammered) + b"R\n"
+        text += activation_lines(rng, hammered, settings[INTERVAL], 0.3) + b"R\n"
     return text
 
 
@@ -206,6 +281,25 @@ def long_trace(rng):
     return b"".join(lines)
 
 
+def long_holds(rng):
+    """A whole window and the start of the next, in each interval holds that mostly fill it, of hot
+    rows that change now and then and of any row."""
+    rows = rng.choice((1024, 65_536))
+    settings = (rows, rng.choice((2, 4)), 2, 32, rng.choice((64, 100)), MAX_WINDOW, 8)
+    lines = [settings_line(rng, settings)]
+    for event in range(settings[WINDOW] + 200):
+        if event % 50 == 0:
+            hot_rows = rng.choices(range(rows), k=6)
+        chosen = rng.choices(hot_rows, k=10) + rng.choices(range(rows), k=rng.randint(0, 8))
+        rng.shuffle(chosen)
+        lines.append(activation_lines(rng, chosen, settings[INTERVAL], 0.7))
+        if rng.random() < 0.05:
+            lines.append(rng.choice((refused_hold_line(rng, 5), hold_line(rng, rows, 2),
+                                     hold_line(rng, 5, 16), b"H     5 2    \n", b"H     5\n", b"\n")))
+        lines.append(b"R\n")
+    return b"".join(lines)
+
+
 def bad_field(rng):
     """Almost a number in six columns."""
     number = str(rng.randint(0, 99))
@@ -228,12 +322,22 @@ def bad_remap_line(rng):
     ))
 
 
+def bad_hold_line(rng):
+    """Almost an `H` line of the right form, without byte 10."""
+    good = b"H" + field(rng, rng.randint(0, 15)) + field(rng, accepted_hold(rng))
+    return rng.choice((
+        good[:7] + bad_field(rng), good[:7] + bad_field(rng), b"H" + bad_field(rng) + good[7:],
+        good[:7], good + b"     1", good + b" ", good + b"0", good[:-1], good.lower(), b" " + good,
+        b"A" + good[1:], b"R" + good[1:], b"S" + good[1:], b"F" + good[1:], b"H", b"H" + b" " * 12,
+    ))
+
+
 def bad_line(rng, good):
     """Almost a good line; `good` is the line of accepted settings. Both are without byte 10."""
     fields = [good[1 + 6 * place:7 + 6 * place] for place in range(7)]
     fields[rng.randrange(7)] = bad_field(rng)
-    if rng.random() < 0.2:
-        return bad_remap_line(rng)
+    if rng.random() < 0.3:
+        return rng.choice((bad_remap_line, bad_hold_line))(rng)
     return rng.choice((
         b"A" + bad_field(rng), b"A" + bad_field(rng), b"S" + b"".join(fields),
         good[:-6], good + b"     1", good + b" ", good[:-1], good.lower(), b" " + good,
@@ -257,7 +361,7 @@ def no_settings(rng):
 
 
 def damaged(rng):
-    text = bytearray(rng.choice((plain_trace, many_settings, loaded_remaps))(rng))
+    text = bytearray(rng.choice((plain_trace, many_settings, loaded_remaps, held_rows))(rng))
     for _ in range(rng.choice((1, 1, 3, 10, 40))):
         place = rng.randrange(len(text))
         byte = rng.choice((rng.choice(SPECIAL_BYTES), rng.randrange(256)))
@@ -280,6 +384,7 @@ def special_bytes(rng):
             bytes(rng.choice(b"\x00\r\xff") for _ in range(size)) + b"\n",
             bytes(rng.choice(SPECIAL_BYTES) for _ in range(size)) + b"\n",
             b"R\r\n", b"A     1\r\n", b"\r\n", b"\x00\n", b"A     1\x00\n", b"R\n", b"A     1\n",
+            b"H     1     2\r\n", b"H     1     2\x00\n", b"H     1     2\n",
         ))
     return text
 
@@ -290,7 +395,7 @@ def crlf(rng):
 
 def cut_off(rng):
     """Ends anywhere, mostly within a line."""
-    text = rng.choice((plain_trace, plain_trace, loaded_remaps))(rng)
+    text = rng.choice((plain_trace, plain_trace, loaded_remaps, held_rows))(rng)
     return text[:rng.randint(1, len(text))] if rng.random() < 0.7 else text[:-1]
 
 
@@ -300,8 +405,8 @@ def noise(rng):
 
 def long_line(rng, size):
     """A line of so many bytes, byte 10 not counted: at times good ones, and more behind."""
-    good = rng.choice((b"R", b"A     1", b"A000000", settings_line(rng, small_settings(rng))[:-1],
-                       remap_line(rng, accepted_remap(rng))[:-1]))
+    good = rng.choice((b"R", b"A     1", b"A000000", b"H     1     2",
+                       settings_line(rng, small_settings(rng))[:-1], remap_line(rng, accepted_remap(rng))[:-1]))
     filling = rng.choice((b" ", b"0", b"1", b"R", b"\x00", b"\xff", b"\r"))
     return rng.choice((good, b"S", b"A", filling)).ljust(size, filling)[:size] + b"\n"
 
@@ -351,7 +456,7 @@ def filling(rng, size):
     start = settings_line(rng, (16, 2, 1, 2, rng.choice((4, 4096)), 4, 4))
     if size < len(start):
         return b"\n" * size
-    lines = rng.choice((b"A     5\n", b"A     5\nA     2\nR\n", b"A     2\nR\n"))
+    lines = rng.choice((b"A     5\n", b"A     5\nA     2\nR\n", b"A     2\nR\n", b"H     5     3\nR\n"))
     count = (size - len(start)) // len(lines)
     text = start + lines * count
     return text + b"\n" * (size - len(text))
@@ -365,6 +470,8 @@ def across(rng, boundary, before):
         line = remap_line(rng, accepted_remap(rng)) + line
     elif before < 8 and rng.random() < 0.5:
         line = b"A     5\n"
+    elif before < 14 and rng.random() < 0.5:
+        line = b"H     5     2\n"
     before = min(before, len(line), boundary)
     return filling(rng, boundary - before) + line + body(rng, settings, 6)
 
@@ -373,7 +480,7 @@ def exact_size(rng, size):
     """So many bytes, the last one at times no byte 10 though all else is good."""
     start = settings_line(rng, small_settings(rng))
     end = start + rng.choice((b"R\n", b"A     5\n", b"A     5\nR\n", b"R\n" + start, b"\n",
-                              remap_line(rng, accepted_remap(rng))))
+                              b"H     5     1\n", remap_line(rng, accepted_remap(rng))))
     if rng.random() < 0.6:
         end = end[:-1]
     if len(end) > size:
@@ -403,6 +510,7 @@ PLANS = (  # how a trace is made, its kind, and how many
     (plain_trace, "plain", 100),
     (many_settings, "several S", 40),
     (loaded_remaps, "loaded remaps", 60),
+    (held_rows, "holds", 80),
     (limit_settings, "settings at their limits", 30),
     (subarray_edges, "edges of subarrays", 80),
     (large_banks, "large banks", 60),
@@ -424,7 +532,7 @@ def random_traces(rng):
     """Some hundred pairs of a kind and a trace."""
     yield "empty input", b""
     yield "single byte", b"\n"
-    yield "single byte", rng.choice((b"R", b"S", b"A", b"F", b" ", b"\x00", b"\r", b"\xff"))
+    yield "single byte", rng.choice((b"R", b"S", b"A", b"F", b"H", b" ", b"\x00", b"\r", b"\xff"))
     for make, kind, count in PLANS:
         for _ in range(count):
             yield kind, make(rng)

@@ -15,7 +15,7 @@ from records import (
 )
 from remaps import REVERSE
 from traces import (
-    cut_off, damaged, large_banks, limit_settings, loaded_remaps, many_settings, near_misses, noise,
+    cut_off, damaged, held_rows, large_banks, limit_settings, loaded_remaps, many_settings, near_misses, noise,
     plain_trace, special_bytes, wide_lines,
 )
 
@@ -100,9 +100,11 @@ def blank_calls():
 
 
 def full_calls():
-    """Traces that fill their places: 46 settings and 12 events; 20 remaps and 2 settings."""
+    """Traces that fill their places: 46 settings and 12 events; 20 remaps and 2 settings; 15 remaps,
+    settings, 38 holds and an event."""
     for records in ([("S", EXTREMES[1])] * 46 + [("R", ())] * 12,
-                    [("F", REVERSE)] * 20 + [("S", EXTREMES[1])] * 2):
+                    [("F", REVERSE)] * 20 + [("S", EXTREMES[1])] * 2,
+                    [("F", REVERSE)] * 15 + [("S", EXTREMES[1])] + [("H", (262_143, 16))] * 38 + [("R", ())]):
         for length, number in ((2047, -13), (2048, 2048), (2049, 2048)):
             yield Call("all places for the trace", spelled(records), length, number, spelled(records))
 
@@ -125,8 +127,8 @@ def with_fault(kind, make):
 
 def any_text(rng):
     """A text of which only the model knows the answer."""
-    make = rng.choice((plain_trace, many_settings, loaded_remaps, limit_settings, large_banks,
-                       near_misses, damaged, special_bytes, cut_off, noise, wide_lines))
+    make = rng.choice((plain_trace, many_settings, loaded_remaps, held_rows, limit_settings,
+                       large_banks, near_misses, damaged, special_bytes, cut_off, noise, wide_lines))
     text = make(rng)[:rng.randint(1, TRACE_PLACES)]
     first = text.split(b"\n")[:MOST_LINES]
     text = b"\n".join(first) + (b"\n" if len(first) == MOST_LINES else b"")
@@ -155,8 +157,8 @@ EXPECTED_KINDS = (
                                   "without room for the last record", "short", "empty")),
     *(f"{kind}, text {room}" for kind in ("blank lines", "no line") for room in ("longer", "empty")),
     "all places for the trace", "any text",
-    *(f"refusal {number}, text {room}" for number in (1, 2, 3, 4, 5, 6, 7, 9, 11, 14)
+    *(f"refusal {number}, text {room}" for number in (1, 2, 3, 4, 5, 6, 7, 9, 11, 14, 15)
       for room in ("short", "long enough")),
     "call accepted",
-    *(f"call refused with {number}" for number in (1, 2, 3, 4, 5, 6, 7, 9, 11, 13, 14)),
+    *(f"call refused with {number}" for number in (1, 2, 3, 4, 5, 6, 7, 9, 11, 13, 14, 15)),
 )

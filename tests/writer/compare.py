@@ -51,7 +51,7 @@ TRICKLES = 15  # traces in small pieces for each seed
 PAIRS = 30  # pairs of traces, and traces that are listed, for each seed
 MEGABYTE = 10**6
 MOST_GROWTH = 1000  # kilobytes by which a long input may raise the program's memory
-REFUSALS = (1, 2, 3, 4, 5, 6, 7, 9, 11, 14)  # those that a line can earn
+REFUSALS = (1, 2, 3, 4, 5, 6, 7, 9, 11, 14, 15)  # those that a line can earn
 
 
 # What tracefmt writes
@@ -153,7 +153,7 @@ def check_listings(tally, kinds, command, rowlist, seed, name):
     rng = random.Random(seed)
     for number in range(1, PAIRS + 1):
         blanks = rng.choice((0, 0.5))
-        text = respelled(rng, good_records(rng, rng.randint(1, 300)), (0.5, blanks))
+        text = respelled(rng, good_records(rng, rng.randint(1, 300)), (0.5, blanks, 0.5))
         listing = through_pipe(rowlist, text).text
         rewritten = through_pipe(rowlist, through_pipe(command, text).text).text
         kinds["listing with a refused line"] += b"X" in listing

@@ -1,6 +1,7 @@
 """Traces for the comparison of the writer, each with what is known of its rewriting.
 
-A record is its letter and its numbers. A fault is the number of a line and its refusal.
+A record is the letter and the numbers of its one spelling, so that an activation with a hold of 1 is
+an `A`. A fault is the number of a line and its refusal.
 """
 
 import collections
@@ -10,6 +11,7 @@ import itertools
 from comparison import (
     BLOCK, COUNTERS, DIAMETER, INTERVAL, MAX_ROWS, ROWS, VOLUME, WINDOW, changed, spread,
 )
+from holds import LONGEST, accepted_hold, refused_hold
 from remaps import IDENTITY, accepted_remap, refused_remap
 from traces import (
     BOUNDARIES, MOST, any_settings, bad_line, bytes_before, long_line, random_traces, small_settings,
@@ -23,8 +25,10 @@ EXTREMES = (
     (16, 2, 1, 1, 1, 1, 16), (MAX_ROWS, 4, 16, 2048, 4096, 8192, 64),
     (MAX_ROWS, 2, 1, 1, 1, 4096, 64),
 )
-STYLES = ((0, 0), (0.1, 0.1), (1, 0), (0, 0.5), (1, 1))  # how many leading zeros and blank lines
-LONG_SIZES = (44, 45, 63, 64, 65, 96, 98, 99, 4095, 4096, 4097, 65_535, 65_536, 65_537, 131_072, 200_000)
+# How many numbers have leading zeros, how many records blank lines before them, and how many
+# activations with a hold of 1 are spelled `H`.
+STYLES = ((0, 0, 0), (0.1, 0.1, 0.1), (1, 0, 0), (0, 0.5, 0), (0, 0, 1), (1, 1, 0.5))
+LONG_SIZES = (12, 14, 44, 45, 63, 64, 65, 96, 98, 99, 4095, 4096, 4097, 65_535, 65_536, 65_537, 131_072, 200_000)
 
 
 # Spelling
@@ -43,11 +47,13 @@ def spelled_record(record):
 
 def respelled(rng, records, style=None):
     """Some spelling of the same records."""
-    zeros, blanks = style or rng.choice(STYLES)
+    zeros, blanks, holds = style or rng.choice(STYLES)
     parts = []
     for letter, numbers in records:
         if rng.random() < blanks:
             parts.append("\n" * rng.choice((1, 1, 2, 5)))
+        if letter == "A" and rng.random() < holds:
+            letter, numbers = "H", (*numbers, 1)
         fields = (str(number).zfill(rng.randint(1, 6) if rng.random() < zeros else 1)
                   for number in numbers)
         parts.append(letter + "".join(field.rjust(6) for field in fields) + "\n")
@@ -71,9 +77,19 @@ def remap_record(rng):
     return "F", accepted_remap(rng)
 
 
+def activation(row, hold):
+    return ("A", (row,)) if hold == 1 else ("H", (row, hold))
+
+
+def row_and_hold(record):
+    letter, numbers = record
+    return (*numbers, 1) if letter == "A" else numbers
+
+
 def row_record(rng, settings):
     rows = settings[ROWS]
-    return "A", (rng.choice((0, rows - 1, rng.randrange(rows), rng.randrange(rows))),)
+    row = rng.choice((0, rows - 1, rng.randrange(rows), rng.randrange(rows)))
+    return activation(row, rng.choice((1, accepted_hold(rng))))
 
 
 def good_records(rng, count):
@@ -108,8 +124,9 @@ def one_record_changed(rng, records):
     change = rng.choice(("put in", "number", "number", "drop", "append"))
     if change == "drop" and letter != "S":
         del records[place]
-    elif change == "number" and letter == "A":
-        records[place] = "A", (numbers[0] ^ 1,)
+    elif change == "number" and letter in "AH":
+        row, hold = row_and_hold(records[place])
+        records[place] = rng.choice((activation(row ^ 1, hold), activation(row, hold % LONGEST + 1)))
     elif change == "number" and letter == "F":
         records[place] = "F", two_exchanged(rng, numbers)
     elif change == "append":
@@ -127,7 +144,7 @@ def two_exchanged(rng, remap):
 def good_cases(rng, kind, count):
     """A list of records in its one spelling and in two others."""
     records = good_records(rng, count)
-    for text in (spelled(records), respelled(rng, records), respelled(rng, records, (1, 1))):
+    for text in (spelled(records), respelled(rng, records), respelled(rng, records, (1, 1, 1))):
         yield Case(kind, text, spelled(records), None)
 
 
@@ -139,6 +156,10 @@ def every_width():
         for width in range(len(str(number)), 7):
             records.append(("A", (number,)))
             text += b"A" + str(number).zfill(width).rjust(6).encode() + b"\n"
+    for hold in range(1, LONGEST + 1):
+        for width in range(len(str(hold)), 7):
+            records.append(activation(5, hold))
+            text += f"H{'5'.zfill(width):>6}{str(hold).zfill(width):>6}\n".encode()
     for width in range(1, 7):
         records.append(("F", IDENTITY))
         text += b"F" + b"".join(str(number).zfill(width).rjust(6).encode() for number in IDENTITY) + b"\n"
@@ -180,20 +201,29 @@ def bad_value(rng, settings, field):
     return min(MOST, max(0, rng.choice((*values, MOST))))
 
 
+FAULT_STYLE = (0.2, 0, 0.3)
+
+
 def settings_fault(number):
     def make(rng, _):
-        return respelled(rng, [("S", refused_settings(rng, number))], (0.2, 0)), number
+        return respelled(rng, [("S", refused_settings(rng, number))], FAULT_STYLE), number
     return make
 
 
 def row_fault(rng, settings):
     rows = settings[ROWS]
     row = rng.choice((rows, rows + 1, rng.randint(rows, MOST), MAX_ROWS + rng.randrange(rows), MOST))
-    return respelled(rng, [("A", (row,))], (0.2, 0)), 9
+    hold = rng.choice((1, accepted_hold(rng), refused_hold(rng, MOST)))
+    return respelled(rng, [activation(row, hold)], FAULT_STYLE), 9
+
+
+def hold_fault(rng, settings):
+    row, _ = row_and_hold(row_record(rng, settings))
+    return respelled(rng, [activation(row, refused_hold(rng, MOST))], FAULT_STYLE), 15
 
 
 def remap_fault(rng, _):
-    return respelled(rng, [("F", refused_remap(rng, MOST))], (0.2, 0)), 14
+    return respelled(rng, [("F", refused_remap(rng, MOST))], FAULT_STYLE), 14
 
 
 def form_fault(rng, settings):
@@ -204,13 +234,15 @@ def long_fault(rng, _):
     """At times the end alone would be a good line."""
     line = long_line(rng, rng.choice(LONG_SIZES))
     if rng.random() < 0.5:
-        line = line[:-1] + rng.choice((b"R\n", b"A     0\n", spelled([("S", EXTREMES[0])])))
+        line = line[:-1] + rng.choice((b"R\n", b"A     0\n", b"H     0     2\n",
+                                       spelled([("S", EXTREMES[0])])))
     return line, 11
 
 
 FAULTS = {
     **{f"settings refused with {number}": settings_fault(number) for number in range(1, 8)},
     "row not in the bank": row_fault,
+    "hold refused": hold_fault,
     "remap refused": remap_fault,
     "line of another form": form_fault,
 }
@@ -231,18 +263,20 @@ def settings_that_count(rng):
     large = changed(rng.choice(EXTREMES[1:]), (ROWS, rng.choice((1024, 65_536, 131_072, MAX_ROWS))))
     small = changed(large, (ROWS, rng.choice((16, 512, large[ROWS] // 2))))
     row = rng.randint(small[ROWS], large[ROWS] - 1)
-    before = [("S", large), ("A", (row,))] if rng.random() < 0.7 else []
+    other = activation(row, rng.choice((1, accepted_hold(rng))))
+    before = [("S", large), other] if rng.random() < 0.7 else []
     records = before + [("S", small), ("A", (0,)), ("R", ())]
     if rng.random() < 0.5:
         records.append(remap_record(rng))
     text = respelled(rng, records)
-    rest = spelled([("A", (row,)), ("S", large), ("A", (row,))])
+    rest = spelled([other, ("S", large), other])
     return Case("row of another bank", text + rest, spelled(records), (line_count(text) + 1, 9))
 
 
 def before_settings(rng):
     """A row or an event with at most blank lines and remaps before it."""
-    line = rng.choice((b"R\n", b"A     0\n", b"A     5\n", b"A999999\n"))
+    line = rng.choice((b"R\n", b"A     0\n", b"A     5\n", b"A999999\n", b"H     0     1\n",
+                       b"H     5    16\n", b"H     5     0\n", b"H999999999999\n"))
     records, text = nothing_but_remaps(rng)
     return Case("before any settings", text + line + spelled(good_records(rng, 5)), spelled(records),
                 (line_count(text) + 1, 11))
@@ -289,7 +323,7 @@ def records_of_size(rng, size):
 
 def with_blank_lines(rng, records, count):
     """So many blank lines before the records or between them, and leading zeros."""
-    spellings = {record: respelled(rng, [record], (0.3, 0)) for record in dict.fromkeys(records)}
+    spellings = {record: respelled(rng, [record], (0.3, 0, 0)) for record in dict.fromkeys(records)}
     lines = [spellings[record] for record in records]
     for _ in range(count):
         lines.insert(rng.randint(0, max(0, len(lines) - 1)), b"\n")

@@ -54,7 +54,13 @@ fn take(
             let (Some([row]), Some(tracker)) = (numbers(fields), tracker) else {
                 return Ok(Err(MALFORMED));
             };
-            return Ok(tracker.activate(row));
+            return Ok(tracker.activate(row, 1));
+        }
+        [b'H', fields @ .., b'\n'] => {
+            let (Some([row, hold]), Some(tracker)) = (numbers(fields), tracker) else {
+                return Ok(Err(MALFORMED));
+            };
+            return Ok(tracker.activate(row, hold));
         }
         [b'S', fields @ .., b'\n'] => {
             let Some(fields) = numbers(fields) else {

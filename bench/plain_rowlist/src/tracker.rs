@@ -90,18 +90,23 @@ impl Tracker {
         }
     }
 
-    /// The error is the number of the refusal.
-    pub fn activate(&mut self, logical_row: u32) -> Result<(), u32> {
+    /// Activates a row `hold` times; the error is the number of the refusal.
+    pub fn activate(&mut self, logical_row: u32, hold: u32) -> Result<(), u32> {
         if logical_row >= self.settings.rows {
             return Err(9);
         }
-        if self.activations == self.settings.interval {
+        if !(1..=16).contains(&hold) {
+            return Err(15);
+        }
+        if self.activations + hold > self.settings.interval {
             return Err(22);
         }
         let row = logical_row / 16 * 16 + self.remap[logical_row as usize % 16];
         self.counts.remove(&row);
-        self.disturb_victims(row);
-        self.activations += 1;
+        for _ in 0..hold {
+            self.disturb_victims(row);
+        }
+        self.activations += hold;
         Ok(())
     }
 

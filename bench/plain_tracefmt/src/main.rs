@@ -56,10 +56,13 @@ fn take(
             let (Some([row]), Some(rows)) = (numbers(fields), *rows) else {
                 return Ok(Err(MALFORMED));
             };
-            if row >= rows {
-                return Ok(Err(9));
-            }
-            writeln!(output, "A{row:6}")?;
+            return write_activation(output, row, 1, rows);
+        }
+        [b'H', fields @ .., b'\n'] => {
+            let (Some([row, hold]), Some(rows)) = (numbers(fields), *rows) else {
+                return Ok(Err(MALFORMED));
+            };
+            return write_activation(output, row, hold, rows);
         }
         [b'S', fields @ .., b'\n'] => {
             let Some(settings) = numbers(fields) else {
@@ -83,6 +86,27 @@ fn take(
             write_numbers(output, b'F', &remap)?;
         }
         _ => return Ok(Err(MALFORMED)),
+    }
+    Ok(Ok(()))
+}
+
+/// The inner error is the number of the refusal; `rows` is how many the bank has.
+fn write_activation(
+    output: &mut impl Write,
+    row: u32,
+    hold: u32,
+    rows: u32,
+) -> io::Result<Result<(), u32>> {
+    if row >= rows {
+        return Ok(Err(9));
+    }
+    if !(1..=16).contains(&hold) {
+        return Ok(Err(15));
+    }
+    if hold == 1 {
+        writeln!(output, "A{row:6}")?;
+    } else {
+        writeln!(output, "H{row:6}{hold:6}")?;
     }
     Ok(Ok(()))
 }

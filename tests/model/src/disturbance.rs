@@ -8,6 +8,7 @@ use crate::victims::{regular_block, victims};
 
 /// 'True disturbance', kept by the 'plain counter'. It is told of accepted calls only, since a
 /// refused call changes nothing.
+#[derive(Clone)]
 pub struct Disturbance {
     settings: Settings,
     /// One number for each physical row.
@@ -28,12 +29,14 @@ impl Disturbance {
         }
     }
 
-    /// `remap` is the call's own.
-    pub fn activate(&mut self, logical_row: u32, remap: &Remap) {
+    /// `hold` and `remap` are the call's own; each unit counts.
+    pub fn activate(&mut self, logical_row: u32, hold: u32, remap: &Remap) {
         let row = physical_row(remap, logical_row);
         self.disturbed.clear();
-        self.counts[row as usize] = 0;
-        self.disturb_victims(row);
+        for _ in 0..hold {
+            self.counts[row as usize] = 0;
+            self.disturb_victims(row);
+        }
     }
 
     /// `picked` holds the rows that the event named.

@@ -4,6 +4,7 @@
 
 pub mod bound;
 pub mod disturbance;
+pub mod hold;
 pub mod limit;
 pub mod listing;
 pub mod random;

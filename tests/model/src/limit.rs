@@ -4,6 +4,7 @@ use std::cmp::Reverse;
 
 use crate::bound::bound;
 use crate::disturbance::Disturbance;
+use crate::hold::LONGEST_HOLD;
 use crate::random::Random;
 use crate::refusal::Refusal;
 use crate::remap::{check_remap, Remap, OUR_REMAP};
@@ -19,6 +20,8 @@ const HARDLY_EVER: u32 = 1_000_000;
 pub struct Report {
     pub calls: u64,
     pub refused: u64,
+    /// Accepted activations of more than one unit.
+    pub held: u64,
     /// The highest disturbance, in percent of H during the first window and of 2 x H later.
     pub first_window_percent: u64,
     pub later_percent: u64,
@@ -33,6 +36,8 @@ enum Plan {
     Unison(usize),
     /// The same, with just more rows than the events before this one of the window can refresh.
     Feinting(u32),
+    /// Holds the first row and lets the others have more activations, of one unit each.
+    Held(Vec<u32>),
 }
 
 /// Plays the run of this seed from its set up; an error says what did not hold.
@@ -46,6 +51,7 @@ pub fn play(seed: u64) -> Result<Report, String> {
     let plan = random_plan(&mut random, &settings);
     let early = random.choose(&[HARDLY_EVER, HARDLY_EVER, 20, 3]);
     let faults = random.choose(&[HARDLY_EVER, 20]);
+    let longest_hold = random.choose(&[1, 1, 3, LONGEST_HOLD]);
     // Either every call brings the same remap or each a new one.
     let same = random.once_in(2).then(|| random_remap(&mut random));
     let windows: &[u32] = if is_large(&settings) {
@@ -58,35 +64,86 @@ pub fn play(seed: u64) -> Result<Report, String> {
 
     let remap = same.unwrap_or_else(|| random_remap(&mut random));
     let mut run = Run::set_up(settings, &remap, &mut random).map_err(|what| describe(&what))?;
-    for _ in 0..windows * settings.window * (settings.interval + 1) {
-        let full = run.position.activations == settings.interval;
+    let mut steps_left = windows * settings.window * (settings.interval + 1);
+    while steps_left > 0 {
         let mut remap = same.unwrap_or_else(|| random_remap(&mut random));
         if random.once_in(faults) {
             spoil(&mut remap, &mut random);
         }
+        let room = settings.interval - run.device.position.activations;
+        let mut units = 1;
         let step = if random.once_in(faults) {
             let logical_row = random.choose(&[settings.rows, settings.rows + 1, u32::MAX]);
-            run.activate(logical_row, &remap)
+            let hold = random.choose(&[0, 1, LONGEST_HOLD, u32::MAX]);
+            run.activate(logical_row, hold, &remap)
+        } else if random.once_in(faults) {
+            let hold = random.choose(&[0, LONGEST_HOLD + 1, 32, 1 << 16 | 1, u32::MAX]);
+            run.activate(random.between(0, settings.rows - 1), hold, &remap)
         } else if random.once_in(faults) {
             run.refresh(settings.volume - 1)
-        } else if random.once_in(early) || full && !random.once_in(faults) {
+        } else if random.once_in(early) || room == 0 && !random.once_in(faults) {
             run.refresh(settings.volume + random.between(0, 2))
         } else {
-            let row = run.next_row(&plan, &mut random);
-            run.activate(logical_row(&remap, row), &remap)
+            let (row, mut hold) = run.next_activation(&plan, longest_hold, &mut random);
+            // More units than there is room for are refused.
+            if hold > room && !random.once_in(faults) {
+                hold = room.max(1);
+            }
+            units = hold;
+            run.activate(logical_row(&remap, row), hold, &remap)
         };
         step.map_err(|what| describe(&what))?;
+        steps_left = steps_left.saturating_sub(units);
     }
     Ok(run.report)
+}
+
+/// A tracker and the exact disturbance beside it.
+#[derive(Clone)]
+struct Device {
+    settings: Settings,
+    rows: Vec<u32>,
+    counts: Vec<u32>,
+    position: Position,
+    disturbance: Disturbance,
+}
+
+impl Device {
+    fn activate(&mut self, logical_row: u32, hold: u32, remap: &Remap) -> Result<(), Refusal> {
+        self.position = activate(
+            &self.settings,
+            &mut self.rows,
+            &mut self.counts,
+            self.position,
+            logical_row,
+            hold,
+            remap,
+        )?;
+        self.disturbance.activate(logical_row, hold, remap);
+        Ok(())
+    }
+
+    fn refresh(&mut self, length: u32) -> Result<(), Refusal> {
+        let mut picks = vec![u32::MAX; length as usize];
+        let (position, picked) = refresh(
+            &self.settings,
+            &mut self.rows,
+            &mut self.counts,
+            self.position,
+            &mut picks,
+        )?;
+        self.position = position;
+        self.disturbance.refresh(&picks[..picked]);
+        Ok(())
+    }
 }
 
 struct Run {
     settings: Settings,
     bound: u64,
-    rows: Vec<u32>,
-    counts: Vec<u32>,
-    position: Position,
-    disturbance: Disturbance,
+    device: Device,
+    /// Is given the accepted calls alone, an activation for each unit.
+    by_units: Device,
     report: Report,
 }
 
@@ -97,41 +154,45 @@ impl Run {
         let mut counts = rows.clone();
         let position = set_up(&settings, &mut rows, &mut counts, remap)
             .map_err(|refusal| format!("set up refused: {refusal:?}"))?;
-        let mut run = Run {
+        let device = Device {
             settings,
-            bound: bound(&settings).map_err(|refusal| format!("no bound: {refusal:?}"))?,
             rows,
             counts,
             position,
             disturbance: Disturbance::set_up(&settings),
+        };
+        let mut run = Run {
+            settings,
+            bound: bound(&settings).map_err(|refusal| format!("no bound: {refusal:?}"))?,
+            by_units: device.clone(),
+            device,
             report: Report::default(),
         };
         run.check()?;
         Ok(run)
     }
 
-    fn activate(&mut self, logical_row: u32, remap: &Remap) -> Result<(), String> {
+    fn activate(&mut self, logical_row: u32, hold: u32, remap: &Remap) -> Result<(), String> {
+        let room = self.settings.interval - self.device.position.activations;
         let expected = if logical_row >= self.settings.rows {
             Err(Refusal::LogicalRow)
+        } else if !(1..=16).contains(&hold) {
+            Err(Refusal::Hold)
         } else if check_remap(remap).is_err() {
             Err(Refusal::Remap)
-        } else if self.position.activations == self.settings.interval {
+        } else if hold > room {
             Err(Refusal::IntervalFull)
         } else {
             Ok(())
         };
-        let answer = activate(
-            &self.settings,
-            &mut self.rows,
-            &mut self.counts,
-            self.position,
-            logical_row,
-            remap,
-        );
-        self.check_answer("activation", answer.map(|_| ()), expected)?;
-        if let Ok(position) = answer {
-            self.position = position;
-            self.disturbance.activate(logical_row, remap);
+        let answer = self.device.activate(logical_row, hold, remap);
+        self.check_answer("activation", answer, expected)?;
+        if answer.is_ok() {
+            self.report.held += u64::from(hold > 1);
+            for _ in 0..hold {
+                let unit = self.by_units.activate(logical_row, 1, remap);
+                unit.map_err(|refusal| format!("a unit refused: {refusal:?}"))?;
+            }
         }
         self.check()
     }
@@ -142,24 +203,17 @@ impl Run {
         } else {
             Ok(())
         };
-        let mut picks = vec![u32::MAX; length as usize];
-        let answer = refresh(
-            &self.settings,
-            &mut self.rows,
-            &mut self.counts,
-            self.position,
-            &mut picks,
-        );
-        self.check_answer("refresh event", answer.map(|_| ()), expected)?;
-        if let Ok((position, picked)) = answer {
-            self.position = position;
-            self.disturbance.refresh(&picks[..picked]);
+        let answer = self.device.refresh(length);
+        self.check_answer("refresh event", answer, expected)?;
+        if answer.is_ok() {
+            let event = self.by_units.refresh(length);
+            event.map_err(|refusal| format!("an event refused between units: {refusal:?}"))?;
         }
         self.check()
     }
 
-    /// The only refusals on a run are those of the row, the remap, the list of picks and a full
-    /// interval.
+    /// The only refusals on a run are those of the row, the hold, the remap, the list of picks and
+    /// a full interval.
     fn check_answer(
         &mut self,
         call: &str,
@@ -173,7 +227,7 @@ impl Run {
         } else {
             Err(format!(
                 "{call} at {:?}: {answer:?} in place of {expected:?}",
-                self.position
+                self.device.position
             ))
         }
     }
@@ -181,15 +235,17 @@ impl Run {
     /// Looks at every row, or in a large bank at those that the last call disturbed, since the
     /// others stand no higher than before.
     fn check(&mut self) -> Result<(), String> {
-        let counts = self.disturbance.counts();
+        self.check_units()?;
+        let disturbance = &self.device.disturbance;
+        let counts = disturbance.counts();
         let highest = if is_large(&self.settings) {
-            let disturbed = self.disturbance.disturbed().iter();
+            let disturbed = disturbance.disturbed().iter();
             disturbed.map(|row| counts[*row as usize]).max()
         } else {
             counts.iter().copied().max()
         };
         let highest = highest.unwrap_or(0);
-        let (limit, percent) = if self.disturbance.in_first_window() {
+        let (limit, percent) = if disturbance.in_first_window() {
             (self.bound, &mut self.report.first_window_percent)
         } else {
             (2 * self.bound, &mut self.report.later_percent)
@@ -205,24 +261,44 @@ impl Run {
         }
     }
 
-    fn next_row(&self, plan: &Plan, random: &mut Random) -> u32 {
-        match plan {
+    /// A hold does what its units do one by one: the tables and the position are the same, and so
+    /// is the disturbance of each row that the last call disturbed.
+    fn check_units(&self) -> Result<(), String> {
+        let (one, other) = (&self.device, &self.by_units);
+        let same_tracker =
+            (&one.rows, &one.counts, one.position) == (&other.rows, &other.counts, other.position);
+        let same_disturbance = one.disturbance.disturbed().iter().all(|row| {
+            one.disturbance.counts()[*row as usize] == other.disturbance.counts()[*row as usize]
+        });
+        if same_tracker && same_disturbance {
+            Ok(())
+        } else {
+            Err(format!("call {}: not what its units do", self.report.calls))
+        }
+    }
+
+    /// The next physical row, and its hold.
+    fn next_activation(&self, plan: &Plan, longest_hold: u32, random: &mut Random) -> (u32, u32) {
+        let row = match plan {
+            Plan::Held(rows) if random.once_in(8) => return (rows[0], LONGEST_HOLD),
+            Plan::Held(rows) => return (random.choose(&rows[1..]), 1),
             Plan::Uniform => random.between(0, self.settings.rows - 1),
             Plan::Few(rows) => random.choose(rows),
             Plan::Unison(size) => self.row_beside_rank(*size),
             Plan::Feinting(last_event) => {
                 let window = self.settings.window;
-                let events_left = (window + last_event - self.position.events) % window;
+                let events_left = (window + last_event - self.device.position.events) % window;
                 let decoys = events_left * self.settings.volume + 1;
                 self.row_beside_rank(decoys.min(self.settings.counters + 1) as usize)
             }
-        }
+        };
+        (row, random.between(1, longest_hold))
     }
 
     /// The least disturbed victim of the row that is the `rank`th in disturbance: to activate it
     /// costs the least.
     fn row_beside_rank(&self, rank: usize) -> u32 {
-        let counts = self.disturbance.counts();
+        let counts = self.device.disturbance.counts();
         let mut order: Vec<u32> = (0..self.settings.rows).collect();
         order.sort_by_key(|row| Reverse(counts[*row as usize]));
         let target = order[rank.min(order.len()) - 1];
@@ -307,8 +383,8 @@ fn large_bank(random: &mut Random) -> Settings {
 }
 
 fn random_plan(random: &mut Random, settings: &Settings) -> Plan {
-    // Those behind the fourth sort all rows.
-    let plans = if is_large(settings) { 4 } else { 8 };
+    // Those behind the sixth sort all rows.
+    let plans = if is_large(settings) { 6 } else { 10 };
     match random.between(1, plans) {
         1 => Plan::Uniform,
         2..=4 => {
@@ -323,8 +399,15 @@ fn random_plan(random: &mut Random, settings: &Settings) -> Plan {
             let row = |_| (first + random.between(0, spread)) % settings.rows;
             Plan::Few((0..few).map(row).collect())
         }
-        5 => Plan::Unison(random.between(1, 12) as usize),
-        6 => Plan::Feinting(random.between(0, settings.window - 1)),
+        5..=6 => {
+            // No row of these disturbs one that another disturbs.
+            let apart = settings.blast_diameter + 1;
+            let first = random.between(0, settings.rows - 1);
+            let row = |place| (first + place * apart) % settings.rows;
+            Plan::Held((0..=random.between(1, 2)).map(row).collect())
+        }
+        7 => Plan::Unison(random.between(1, 12) as usize),
+        8 => Plan::Feinting(random.between(0, settings.window - 1)),
         _ => Plan::Feinting(settings.window - 1),
     }
 }

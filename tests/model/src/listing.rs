@@ -58,7 +58,7 @@ fn take(
             *loaded = remap;
             Ok(String::new())
         }
-        Record::Activation(logical_row) => {
+        Record::Activation { logical_row, hold } => {
             let tracker = tracker.as_mut().ok_or(Refusal::Line)?;
             tracker.position = activate(
                 &tracker.settings,
@@ -66,6 +66,7 @@ fn take(
                 &mut tracker.counts,
                 tracker.position,
                 logical_row,
+                hold,
                 &tracker.remap,
             )?;
             Ok(String::new())

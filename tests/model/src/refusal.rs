@@ -24,9 +24,11 @@ pub enum Refusal {
     TextLength = 13,
     /// A remap in which one of 0 to 15 is missing.
     Remap = 14,
+    /// A hold outside 1 to 16.
+    Hold = 15,
     /// The tables or the position break a rule.
     State = 21,
-    /// An activation in an interval that has had all of its activations.
+    /// An activation whose units would carry the interval past its activations.
     IntervalFull = 22,
 }
 

@@ -10,8 +10,11 @@ const END_OF_LINE: u8 = 10;
 #[derive(Clone, Copy, Debug, PartialEq, Eq)]
 pub enum Record {
     Settings(Settings),
-    /// An activation of a logical row.
-    Activation(u32),
+    /// `A` or `H`; the hold of `A` is 1, and that of `H` is untested.
+    Activation {
+        logical_row: u32,
+        hold: u32,
+    },
     Refresh,
     /// The numbers of an `F` line, untested.
     Remap(Remap),
@@ -54,7 +57,14 @@ fn record(line: &[u8]) -> Option<Record> {
         }
         b'A' => {
             let [logical_row] = numbers(fields)?;
-            Some(Record::Activation(logical_row))
+            Some(Record::Activation {
+                logical_row,
+                hold: 1,
+            })
+        }
+        b'H' => {
+            let [logical_row, hold] = numbers(fields)?;
+            Some(Record::Activation { logical_row, hold })
         }
         b'F' => Some(Record::Remap(numbers(fields)?)),
         b'R' if fields.is_empty() => Some(Record::Refresh),

@@ -1,6 +1,7 @@
 //! The calls of the library on lent tables: set up, activation, refresh event, agreement.
 //! A refused call leaves the tables, the position and the picks as they came.
 
+use crate::hold::check_hold;
 use crate::refusal::Refusal;
 use crate::remap::{check_remap, physical_row, Remap};
 use crate::settings::Settings;
@@ -14,7 +15,7 @@ pub const MAX_COUNT: u32 = 2_000_000_000;
 pub struct Position {
     /// 'e': refresh events so far in this window.
     pub events: u32,
-    /// 'a': activations since the last event.
+    /// 'a': activations since the last event, each unit of a hold counted.
     pub activations: u32,
     /// The number of tracked rows.
     pub tracked: u32,
@@ -37,12 +38,14 @@ pub fn set_up(
     Ok(Position::default())
 }
 
+/// An activation of `hold` units, each of which does what an activation of the row does.
 pub fn activate(
     settings: &Settings,
     rows: &mut [u32],
     counts: &mut [u32],
     position: Position,
     logical_row: u32,
+    hold: u32,
     remap: &Remap,
 ) -> Result<Position, Refusal> {
     settings.check()?;
@@ -50,17 +53,21 @@ pub fn activate(
     if logical_row >= settings.rows {
         return Err(Refusal::LogicalRow);
     }
+    check_hold(hold)?;
     check_remap(remap)?;
     check_state(settings, rows, counts, position)?;
-    if position.activations == settings.interval {
+    if position.activations + hold > settings.interval {
         return Err(Refusal::IntervalFull);
     }
 
     let mut summary = read(rows, counts, position);
     let row = physical_row(remap, logical_row);
-    summary.drop_row(row);
-    disturb_victims(settings, &mut summary, row);
-    let activations = position.activations + 1;
+    let mut activations = position.activations;
+    for _ in 0..hold {
+        summary.drop_row(row);
+        disturb_victims(settings, &mut summary, row);
+        activations += 1;
+    }
     Ok(write(&summary, rows, counts, position.events, activations))
 }
 

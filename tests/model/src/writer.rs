@@ -1,5 +1,7 @@
-//! The writer of traces (document 02, C-11 and C-15): from records to text, one spelling for each trace.
+//! The writer of traces (document 02, C-11, C-15 and C-16): from records to text, one spelling for
+//! each trace.
 
+use crate::hold::check_hold;
 use crate::refusal::Refusal;
 use crate::remap::check_remap;
 use crate::settings::Settings;
@@ -23,7 +25,11 @@ pub fn spelling(record: &Record) -> String {
                 "S{rows:6}{blast_diameter:6}{volume:6}{counters:6}{interval:6}{window:6}{block:6}\n"
             )
         }
-        Record::Activation(logical_row) => format!("A{logical_row:6}\n"),
+        Record::Activation {
+            logical_row,
+            hold: 1,
+        } => format!("A{logical_row:6}\n"),
+        Record::Activation { logical_row, hold } => format!("H{logical_row:6}{hold:6}\n"),
         Record::Refresh => "R\n".to_string(),
         Record::Remap(remap) => {
             let numbers: String = remap.iter().map(|number| format!("{number:6}")).collect();
@@ -93,11 +99,12 @@ fn tested(
             given.check()?;
             *settings = Some(given);
         }
-        Record::Activation(logical_row) => {
+        Record::Activation { logical_row, hold } => {
             let last = settings.ok_or(Refusal::Line)?;
             if logical_row >= last.rows {
                 return Err(Refusal::LogicalRow);
             }
+            check_hold(hold)?;
         }
         Record::Refresh => {
             settings.ok_or(Refusal::Line)?;

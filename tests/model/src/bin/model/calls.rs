@@ -2,7 +2,7 @@
 //!
 //! A list is its length and its numbers, STATE is the seven settings and the lists of rows,
 //! counts and position (events, activations, tracked, spillover). Queries:
-//! `set_up STATE [remap REMAP]`, `activate STATE ROW [remap REMAP]`, `refresh STATE PICKS`,
+//! `set_up STATE [remap REMAP]`, `activate STATE ROW HOLD [remap REMAP]`, `refresh STATE PICKS`,
 //! `agree STATE STATE`. REMAP is 16 numbers, and where it is left out it is our own.
 //! The answer is the call's number and then every lent list as it is afterwards.
 
@@ -33,8 +33,9 @@ pub fn answer(line: &str) -> Option<String> {
         }
         "activate" => {
             let logical_row = words.number()?;
+            let hold = words.number()?;
             let remap = read_remap(&mut words)?;
-            let result = activate(settings, rows, counts, *position, logical_row, &remap);
+            let result = activate(settings, rows, counts, *position, logical_row, hold, &remap);
             let number = signed(result.map(|_| 0));
             *position = result.unwrap_or(*position);
             format!("{number}{}", state.lists())

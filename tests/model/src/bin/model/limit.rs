@@ -13,6 +13,7 @@ pub fn check(seed: u64, runs: u64) -> i32 {
             Ok(report) => {
                 total.calls += report.calls;
                 total.refused += report.refused;
+                total.held += report.held;
                 total.first_window_percent =
                     total.first_window_percent.max(report.first_window_percent);
                 total.later_percent = total.later_percent.max(report.later_percent);
@@ -24,9 +25,9 @@ pub fn check(seed: u64, runs: u64) -> i32 {
         }
     }
     println!(
-        "seed {seed}: {} calls, {} refused; the highest disturbance is {} % of H in the first \
-         window and {} % of 2 x H later",
-        total.calls, total.refused, total.first_window_percent, total.later_percent
+        "seed {seed}: {} calls, {} refused, {} of more than one unit; the highest disturbance is \
+         {} % of H in the first window and {} % of 2 x H later",
+        total.calls, total.refused, total.held, total.first_window_percent, total.later_percent
     );
     println!("limit: {} passed, {failed} failed", runs - failed);
     i32::from(failed > 0)
