@@ -13,7 +13,7 @@ fn print(word: &[u8], number: u32) {
     io::write_all(STDOUT_FILENO, b"\n");
 }
 
-// Activates a row. The answer holds the position for the next call, also when it refuses.
+// Activates a row for so many units. The answer holds the position for the next call, also when it refuses.
 fn activate(
     s: Settings,
     remap: [u32; 16],
@@ -21,8 +21,9 @@ fn activate(
     counts: &mut [u32],
     p: Position,
     row: u32,
+    hold: u32,
 ) -> Position {
-    match tracker::activate(s, remap, rows, counts, p, row) {
+    match tracker::activate(s, remap, rows, counts, p, row, hold) {
         Activation::Accepted(next) => next,
         Activation::Refused(k, same) => {
             print(b"refused ", k);
@@ -31,7 +32,7 @@ fn activate(
     }
 }
 
-// Sets up on lent tables with our own remap, activates logical rows 5, 5 and 2, then runs a refresh event with a lent list.
+// Sets up on lent tables with our own remap, activates logical row 5 for two units and row 2 for one, then runs a refresh event with a lent list.
 fn main() {
     let s = Settings {
         rows: 16,
@@ -49,9 +50,8 @@ fn main() {
     let SetUp::Ready(p) = tracker::set_up(s, remap, &mut rows, &mut counts) else {
         return;
     };
-    let p = activate(s, remap, &mut rows, &mut counts, p, 5);
-    let p = activate(s, remap, &mut rows, &mut counts, p, 5);
-    let p = activate(s, remap, &mut rows, &mut counts, p, 2);
+    let p = activate(s, remap, &mut rows, &mut counts, p, 5, 2);
+    let p = activate(s, remap, &mut rows, &mut counts, p, 2, 1);
     match tracker::refresh(s, &mut rows, &mut counts, p, &mut list) {
         Refreshed::Accepted(count, next) => {
             if count == 1 {

@@ -3,12 +3,14 @@ use Rattle.figures.specs.Table.{figures}
 use Rattle.figures.specs.Edges.{edges}
 use Rattle.figures.specs.Spellings.{spellings}
 use Rattle.figures.specs.Remaps.{remaps}
-use Rattle.figures.specs.Claims.{Figures-hold, Edges-hold, Spellings-hold, Remaps-hold}
+use Rattle.figures.specs.Holds.{holds}
+use Rattle.figures.specs.Claims.{Figures-hold, Edges-hold, Spellings-hold, Remaps-hold, Holds-hold}
 use Rattle.figures.proofs.Tests.{holds-every}
 use Rattle.figures.proofs.Table.{figures-pass}
 use Rattle.figures.proofs.Edges.{edges-pass}
 use Rattle.figures.proofs.Spellings.{spellings-pass}
 use Rattle.figures.proofs.Remaps.{remaps-pass}
+use Rattle.figures.proofs.Holds.{holds-pass}
 
 pub figures-hold : Figures-hold
 unfolding Figures-hold
@@ -25,3 +27,7 @@ spellings-hold = holds-every spellings spellings-pass
 pub remaps-hold : Remaps-hold
 unfolding Remaps-hold
 remaps-hold = holds-every remaps remaps-pass
+
+pub holds-hold : Holds-hold
+unfolding Holds-hold
+holds-hold = holds-every holds holds-pass

@@ -4,4 +4,5 @@ pub mod Table
 pub mod Edges
 pub mod Spellings
 pub mod Remaps
+pub mod Holds
 pub mod Claims

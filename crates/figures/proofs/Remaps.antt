@@ -4,6 +4,7 @@ use lib.Dec.{T}
 use Rattle.device.specs.Refusal.{first-failed, unless, refuse, tested}
 use Rattle.device.specs.Acceptance.{within, rows-allowed-to, diameter-allowed, block-allowed, settings-tests-with, settings-tests-to}
 use Rattle.device.specs.Remap.{own-remap, occurs-in, all-occur, remap-allowed, physical}
+use Rattle.device.specs.Hold.{hold-allowed, repeated}
 use Rattle.device.specs.Victims.{rows-from, rows-between, within-reach, victims}
 use Rattle.summary.specs.Entries.{rows-of, counts-of, has, count-or, without, without-all, raised, entered, has-count, without-count, top, picks}
 use Rattle.summary.specs.Steps.{empty, in-rows, disturb, disturb-each, drop-rows, spread, activation, besides, picked, taken-out, cleared-if, sources, event}
@@ -15,8 +16,8 @@ use Rattle.trace.specs.Lines.{line, ended, extent}
 use Rattle.trace.specs.Records.{as-settings, numbered, settings, as-sixteen, sixteen-of, remap as remap-record, activation as activation-record, refresh as refresh-record, record-of}
 use Rattle.trace.specs.Reading.{or-refused, reading-by, reading}
 use Rattle.trace.specs.Output.{number-columns, refusal-line}
-use Rattle.trace.specs.Spelling.{settings-numbers, spelled-line, record-spelling, answer-spelling, spelling}
-use Rattle.trace.specs.Writing.{standing-behind, row-fault, fault-to, first-fault-to, room-fault, writing-fault-to, writing-by, writing-to}
+use Rattle.trace.specs.Spelling.{settings-numbers, spelled-line, activation-spelling, record-spelling, answer-spelling, spelling}
+use Rattle.trace.specs.Writing.{standing-behind, activation-fault, fault-to, first-fault-to, room-fault, writing-fault-to, writing-by, writing-to}
 use Rattle.trace.specs.Texts.{in-front, lines, read as read-line, outcomes}
 use Rattle.listing.specs.Output.{bound-line, refresh-line}
 use Rattle.listing.specs.Steps.{start, refused-step, set-up-step, answered, remap-step, activation-step, refresh-step, record-step-to, line-step-to, loaded-by, loaded-behind, step-to, next-to}
@@ -24,17 +25,17 @@ use Rattle.listing.specs.Texts.{listed-to, listing-to}
 use Rattle.bound.specs.Totals.{size, total, disturbers, bound-at, bound-of}
 use Rattle.bound.specs.Answers.{settings-of}
 use Rattle.figures.specs.Table.{numbers, state-numbers, shown}
-use Rattle.figures.specs.Edges.{small, two-places, untracked, refusal-of, set-up-numbers, activation-numbers, set-up-under, activation-under, wide, fresh}
-use Rattle.figures.specs.Spellings.{set, row, writing-figure, refused-figure}
+use Rattle.figures.specs.Edges.{small, two-places, untracked, refusal-of, set-up-numbers, activation-numbers, set-up-under, held-under, activation-under, wide, fresh}
+use Rattle.figures.specs.Spellings.{set, held, row, writing-figure, refused-figure}
 use Rattle.figures.specs.Remaps.{identity, reverse, rotated, doubled, too-high, set-up-with, activation-with, at-an-edge, remap-calls, loaded-input, loaded-output, remap, reverse-line, remap-writing, remaps}
 use Rattle.figures.proofs.Tests.{same, every}
 
 pub remaps-pass : T (every remaps)
 unfolding
     every same remaps remap-calls remap-writing identity reverse rotated doubled too-high set-up-with activation-with at-an-edge loaded-input loaded-output remap reverse-line
-    numbers state-numbers shown small two-places untracked refusal-of set-up-numbers activation-numbers set-up-under activation-under wide fresh set row writing-figure refused-figure
+    numbers state-numbers shown small two-places untracked refusal-of set-up-numbers activation-numbers set-up-under held-under activation-under wide fresh set held row writing-figure refused-figure
     first-failed unless refuse tested within rows-allowed-to diameter-allowed block-allowed settings-tests-with settings-tests-to settings-of
-    own-remap occurs-in all-occur remap-allowed physical rows-from rows-between within-reach victims
+    own-remap occurs-in all-occur remap-allowed physical hold-allowed repeated rows-from rows-between within-reach victims
     size total disturbers bound-at bound-of
     rows-of counts-of has count-or without without-all raised entered has-count without-count top picks
     empty in-rows disturb disturb-each drop-rows spread activation besides picked taken-out cleared-if sources event
@@ -42,8 +43,8 @@ unfolding
     victims-in block-rows ends-window next-event tables-long set-up-tests-to activation-tests-to refresh-tests-to kept-unless set-up-to activation-to refresh-to
     is-digit digits number field fields digit-or-blank columns-before printed written line ended extent
     bind as-settings numbered settings as-sixteen sixteen-of remap-record activation-record refresh-record record-of or-refused reading-by reading
-    number-columns settings-numbers spelled-line record-spelling answer-spelling spelling
-    standing-behind row-fault fault-to first-fault-to room-fault writing-fault-to writing-by writing-to
+    number-columns settings-numbers spelled-line activation-spelling record-spelling answer-spelling spelling
+    standing-behind activation-fault fault-to first-fault-to room-fault writing-fault-to writing-by writing-to
     bound-line refresh-line refusal-line
     start refused-step set-up-step answered remap-step activation-step refresh-step record-step-to line-step-to loaded-by loaded-behind step-to next-to
     in-front lines read-line outcomes listed-to listing-to

@@ -4,6 +4,7 @@ use lib.Dec.{T}
 use Rattle.device.specs.Refusal.{first-failed, unless, refuse, tested}
 use Rattle.device.specs.Acceptance.{within, rows-allowed-to, diameter-allowed, block-allowed, settings-tests-with, settings-tests-to, settings-tests-but-counters-to}
 use Rattle.device.specs.Remap.{own-remap, occurs-in, all-occur, remap-allowed, physical}
+use Rattle.device.specs.Hold.{hold-allowed, repeated}
 use Rattle.device.specs.Victims.{rows-from, rows-between, within-reach, victims}
 use Rattle.summary.specs.Entries.{rows-of, counts-of, has, count-or, without, without-all, raised, entered, has-count, without-count, top, picks}
 use Rattle.summary.specs.Steps.{empty, in-rows, disturb, disturb-each, drop-rows, spread, activation, besides, picked, taken-out, cleared-if, sources, event}
@@ -30,7 +31,7 @@ pub figures-pass : T (every figures)
 unfolding
     every same figures numbers remap-figure bound-figure least-figure position-of begun state-numbers traced line-4 line-5 line-6 activations trace-input trace-output shown
     first-failed unless refuse tested within rows-allowed-to diameter-allowed block-allowed settings-tests-with settings-tests-to settings-tests-but-counters-to
-    own-remap occurs-in all-occur remap-allowed physical rows-from rows-between within-reach victims
+    own-remap occurs-in all-occur remap-allowed physical hold-allowed repeated rows-from rows-between within-reach victims
     size total disturbers bound-at bound-of with-counters meets or-else first-from least-of bound-answer-to least-answer-to settings-of
     rows-of counts-of has count-or without without-all raised entered has-count without-count top picks
     empty in-rows disturb disturb-each drop-rows spread activation besides picked taken-out cleared-if sources event

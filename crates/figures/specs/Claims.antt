@@ -5,6 +5,7 @@ use Rattle.figures.specs.Table.{Figure, figures}
 use Rattle.figures.specs.Edges.{edges}
 use Rattle.figures.specs.Spellings.{spellings}
 use Rattle.figures.specs.Remaps.{remaps}
+use Rattle.figures.specs.Holds.{holds}
 
 -- every figure of a table is what the definitions give
 unfoldable pub Table-holds : List Figure → Type 0
@@ -25,3 +26,7 @@ Spellings-hold = Table-holds spellings
 -- and those of loaded remaps
 unfoldable pub Remaps-hold : Type 0
 Remaps-hold = Table-holds remaps
+
+-- and those of rows held open
+unfoldable pub Holds-hold : Type 0
+Holds-hold = Table-holds holds

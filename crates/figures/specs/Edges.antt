@@ -62,9 +62,12 @@ set-up-under remap s given = shown given (set-up-numbers (set-up s remap (7 ∷ 
 unfoldable pub set-up-figure : Settings → List ℕ → Figure
 set-up-figure s given = set-up-under own-remap s given
 
--- an activation of a 'bus row' with a remap, and with our own
+-- an activation of a 'bus row' with a remap and a hold, with a hold of 1, and with our own remap too
+unfoldable pub held-under : List ℕ → Settings → State → ℕ → ℕ → List ℕ → Figure
+held-under remap s st row hold given = shown given (activation-numbers (activation-on s remap st row hold))
+
 unfoldable pub activation-under : List ℕ → Settings → State → ℕ → List ℕ → Figure
-activation-under remap s st row given = shown given (activation-numbers (activation-on s remap st row))
+activation-under remap s st row given = held-under remap s st row 1 given
 
 unfoldable pub activation-figure : Settings → State → ℕ → List ℕ → Figure
 activation-figure s st row given = activation-under own-remap s st row given

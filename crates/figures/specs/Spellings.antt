@@ -30,12 +30,15 @@ respelled-output =
     65 ∷ 32 ∷ 32 ∷ 32 ∷ 32 ∷ 32 ∷ 53 ∷ 10 ∷
     82 ∷ 10 ∷ []
 
--- answers of the reader: settings N 2 1 2 4 4 64, a row, an event, a blank line
+-- answers of the reader: settings N 2 1 2 4 4 64, a row with a hold and with a hold of 1, an event, a blank line
 unfoldable pub set : ℕ → Outcome Record
 set n = accepted (Set (settings-of n 2 1 2 4 4 64))
 
+unfoldable pub held : ℕ → ℕ → Outcome Record
+held n hold = accepted (Activate n hold)
+
 unfoldable pub row : ℕ → Outcome Record
-row n = accepted (Activate n)
+row n = held n 1
 
 unfoldable pub event : Outcome Record
 event = accepted Refresh

@@ -59,7 +59,7 @@ traced = settings-of 16 2 1 2 4 4 4
 
 -- 'after line 4 the summary is ..': lines 2 to 4 are `A     5`, `A     5`, `A     2`
 unfoldable pub line-4 : State
-line-4 = state-after traced (activation-of own-remap 5 ∷ activation-of own-remap 5 ∷ activation-of own-remap 2 ∷ []) (begun traced)
+line-4 = state-after traced (activation-of own-remap 5 1 ∷ activation-of own-remap 5 1 ∷ activation-of own-remap 2 1 ∷ []) (begun traced)
 
 -- 'after line 5 it is ..': line 5 is `R`; the 'lent list' has three places that hold 9
 unfoldable pub line-5 : Refresh-call
@@ -67,12 +67,12 @@ line-5 = refresh-on traced line-4 (9 ∷ 9 ∷ 9 ∷ [])
 
 -- line 6, `A    16`, which the trace's output refuses with 9
 unfoldable pub line-6 : Activation-call
-line-6 = activation-on traced own-remap (line-5 .state) 16
+line-6 = activation-on traced own-remap (line-5 .state) 16 1
 
 -- so many activations of 'an interval with T = 4'
 unfoldable pub activations : ℕ → State
 activations zero = begun traced
-activations (suc k) = activation-on traced own-remap (activations k) 8 .state
+activations (suc k) = activation-on traced own-remap (activations k) 8 1 .state
 
 -- the trace's 'input', a line to a row
 unfoldable pub trace-input : List ℕ
@@ -105,8 +105,8 @@ figures =
     shown (0 ∷ 1 ∷ 4 ∷ 9 ∷ 9 ∷ []) (line-5 .refusal ∷ line-5 .count ∷ line-5 .picks) ∷
     shown (3 ∷ 4 ∷ 4 ∷ 5 ∷ 1 ∷ 0 ∷ 2 ∷ 4 ∷ []) (state-numbers (line-5 .state)) ∷
     shown (9 ∷ []) (line-6 .refusal ∷ []) ∷
-    shown (0 ∷ []) (activation-on traced own-remap (activations 3) 8 .refusal ∷ []) ∷
-    shown (22 ∷ []) (activation-on traced own-remap (activations 4) 8 .refusal ∷ []) ∷
+    shown (0 ∷ []) (activation-on traced own-remap (activations 3) 8 1 .refusal ∷ []) ∷
+    shown (22 ∷ []) (activation-on traced own-remap (activations 4) 8 1 .refusal ∷ []) ∷
     bound-figure traced 30 ∷
     bound-figure (settings-of 16 2 1 1 1 1 16) 18 ∷
     bound-figure (settings-of 16 2 1 1 4 2 8) 26 ∷

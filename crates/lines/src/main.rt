@@ -18,7 +18,10 @@ fn print_record(record: Record) {
     match record {
         Record::Set(s) => print(b"settings, rows ", s.rows as u64),
         Record::Remap(t) => print(b"remap, row 0 to ", t.n0 as u64),
-        Record::Activate(row) => print(b"activation of ", row as u64),
+        Record::Activate(row, hold) => {
+            print(b"activation of ", row as u64);
+            print(b", units ", hold as u64);
+        }
         Record::Refresh => {
             io::write_all(STDOUT_FILENO, b"refresh event");
         }
@@ -63,10 +66,10 @@ fn all_lines(text: &[u8]) -> usize
     count
 }
 
-// The trace of the paper, with a remap, a blank line and a last line that has not ended behind it.
+// The trace of the paper, with a row held open, a remap, a blank line and a last line that has not ended behind it.
 fn main() {
     let count = all_lines(
-        b"S    16     2     1     2     4     4     4\nA     5\nA     5\nA     2\nR\nA    16\nF    15    14    13    12    11    10     9     8     7     6     5     4     3     2     1     0\n\nA",
+        b"S    16     2     1     2     4     4     4\nA     5\nA     5\nA     2\nR\nA    16\nH     5    16\nF    15    14    13    12    11    10     9     8     7     6     5     4     3     2     1     0\n\nA",
     );
-    check::expect(count == 9);
+    check::expect(count == 10);
 }

@@ -149,7 +149,9 @@ fn call_activate(request: &[u8], rows: &mut [u32], counts: &mut [u32], answer: &
     let s = settings_at(request, 1);
     let p = position_at(request, 8);
     let remap = remap_at(request, 317);
-    let r = tracker::activate(s, remap, rows, counts, p, word(request, 12, 0));
+    let row = word(request, 12, 0);
+    let hold = word(request, 333, 0);
+    let r = tracker::activate(s, remap, rows, counts, p, row, hold);
     match r {
         Activation::Accepted(q) => put_head(answer, 0, 0, q),
         Activation::Refused(k, q) => put_head(answer, k, 0, q),
@@ -258,10 +260,10 @@ fn serve(request: &[u8], answer: &mut [u8]) {
 
 // Reads one request and writes its answer; whether there was a whole one.
 fn serve_next() -> bool {
-    let mut request = [0u8; 1332];
+    let mut request = [0u8; 1336];
     let mut answer = [0u8; 664];
     let got = io::read_full(STDIN_FILENO, &mut request);
-    if got < 1332 {
+    if got < 1336 {
         return false;
     }
     serve(&request, &mut answer);
