@@ -77,7 +77,16 @@ fn activation_line(
         let s = p.settings;
         let remap = p.remap;
         let moved = line::front_activation(
-            s, remap, rows, counts, position, row, hold, line, out, at,
+            s,
+            remap,
+            rows,
+            counts,
+            position,
+            row,
+            hold,
+            line,
+            out,
+            at,
         );
         let after = moved.position;
         return Listed {

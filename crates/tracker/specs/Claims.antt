@@ -38,13 +38,13 @@ Calls-stay = (most : ℕ) (s : Settings) → (Alike most s → Same-calls most s
 unfoldable pub activation-once : Settings → List ℕ → State → ℕ → Activation-call
 activation-once s remap st row =
     let k =
-        first-failed
-        (settings-tests s ++
-        unless (tables-long s (st .rows) (st .counts)) 8 ∷
-        unless (ltb row (s .rows)) 9 ∷
-        unless (remap-allowed remap) 14 ∷
-        unless (valid s st) 21 ∷
-        unless (ltb (st .position .activations) (s .interval)) 22 ∷ [])
+    first-failed
+    (settings-tests s ++
+    unless (tables-long s (st .rows) (st .counts)) 8 ∷
+    unless (ltb row (s .rows)) 9 ∷
+    unless (remap-allowed remap) 14 ∷
+    unless (valid s st) 21 ∷
+    unless (ltb (st .position .activations) (s .interval)) 22 ∷ [])
     in
     record {
       accepts = eqb k 0;

@@ -41,10 +41,9 @@ module _ (s : Settings) (remap : List ℕ) (st : State) (row : ℕ) where
   counts-within hold ok =
       let e = accepted-tests hold ok in
       let r = activation-ready s remap st row hold e in
-      let at = physical remap row in
-      (
+      let at = physical remap row in (
         rw (accepted-call hold e, read-back s (st .position .events) (st .position .activations + hold) (units-of hold))
-        (room-units (s .counters) (victims-in s) at (s .«blast_diameter») (length-victims-le (s .rows) (s .«blast_diameter») at) hold (summary-of st) (r .state .facts .room)),
+            (room-units (s .counters) (victims-in s) at (s .«blast_diameter») (length-victims-le (s .rows) (s .«blast_diameter») at) hold (summary-of st) (r .state .facts .room)),
         mul-le-mul (diameter-four (r .state .settings)) (r .units .most),
       )
 
@@ -59,15 +58,15 @@ module _ (s : Settings) (remap : List ℕ) (st : State) (row h k : ℕ) where
       let p = activation-passed s remap st row h e in
       let spare : st .position .activations + (h + k) ≤ s .interval = omega (arith, activation-ready s remap left row k e′ .spare) in
       let all =
-          passed-activation s remap st row (h + k)
-          (record {
-            tables = p .tables;
-            inside = p .inside;
-            held = both;
-            allowed = p .allowed;
-            sound = p .sound;
-            spare = le-leb (st .position .activations + (h + k)) (s .interval) spare;
-          })
+      passed-activation s remap st row (h + k)
+      (record {
+        tables = p .tables;
+        inside = p .inside;
+        held = both;
+        allowed = p .allowed;
+        sound = p .sound;
+        spare = le-leb (st .position .activations + (h + k)) (s .interval) spare;
+      })
       in
       rw (
         accepted-call s remap st row h e,
