@@ -1,5 +1,6 @@
 -- Laws of specs/Steps.antt.
 pub mod Disturb
+pub mod Untracked
 pub mod Estimate
 pub mod Level
 pub mod LevelPicks

@@ -31,18 +31,8 @@ pub fn disturb_victims(
     summary::disturb_run(rows, counts, below, row + 1, high)
 }
 
-// A row is dropped if tracked, then it disturbs its victims.
-pub fn activate_row(s: Settings, rows: &mut [u32], counts: &mut [u32], t: Tally, row: u32) -> Tally
-    requires { ⌜ Tracks rows counts t ⌝ }
-    requires { ⌜ (s .«blast_diameter» ≤ 4) × (row < most-rows) ⌝ }
-    requires { ⌜ Room-for 128 (summary rows counts t) ⌝ }
-    ensures { λ r. ⌜ Turns rows counts t (activation (places rows) (victims-in s) row) r ⌝ }
-{
-    let rest = summary::drop_row(rows, counts, t, row);
-    disturb_victims(s, rows, counts, rest, row)
-}
-
-// A row is activated once for each unit. A unit raises no count, and not the spillover, by more than 4.
+// A row is activated for so many units: it is dropped if tracked, and each unit disturbs its victims. It is none of them, so no later unit has it to drop. A
+// unit raises no count, and not the spillover, by more than 4.
 pub fn activate_units(
     s: Settings,
     rows: &mut [u32],
@@ -52,14 +42,14 @@ pub fn activate_units(
     units: u32,
 ) -> Tally
     requires { ⌜ Tracks rows counts t ⌝ }
-    requires { ⌜ (s .«blast_diameter» ≤ 4) × (row < most-rows) ⌝ }
-    requires { ⌜ (units ≤ 16) × Room-for 192 (summary rows counts t) ⌝ }
+    requires { ⌜ (s .«blast_diameter» ≤ 4) × (row < s .rows) × (s .rows ≤ most-rows) ⌝ }
+    requires { ⌜ (1 ≤ units) × (units ≤ 16) × Room-for 192 (summary rows counts t) ⌝ }
     ensures { λ r. ⌜ Turns rows counts t (repeated units (activation (places rows) (victims-in s) row)) r ⌝ }
 {
-    let mut left = t;
+    let mut left = summary::drop_row(rows, counts, t, row);
     let mut done = 0;
     while done < units {
-        left = activate_row(s, rows, counts, left, row);
+        left = disturb_victims(s, rows, counts, left, row);
         done += 1;
     }
     left

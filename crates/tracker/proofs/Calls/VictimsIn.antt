@@ -1,4 +1,4 @@
--- `victims-in`: the rows that a row disturbs are two runs, at most four rows, and raise counts by little.
+-- `victims-in`: the rows that a row disturbs are two runs, at most four rows, not the row itself, and raise counts by little.
 use mathlib.Core.Path.{_≡_, refl}
 use mathlib.Core.List.{List, [], _∷_, _++_}
 use Prim.Native.Nat.{ℕ, _+_, _-_, _/_, _≤_, _<_, min, max}
@@ -6,10 +6,11 @@ use native.Mathlib.Omega.{arith}
 use lib.ListN.{length}
 use Rattle.device.specs.declared.Settings.{Settings}
 use Rattle.device.specs.Victims.{rows-between, within-reach, subarray-rows, subarray-start, subarray-end, victims}
-use Rattle.device.proofs.Victims.{between-length, length-victims-le}
+use Rattle.device.proofs.Victims.{between-length, victim-near, length-victims-le}
 use Rattle.summary.specs.Steps.{Summary, disturb, disturb-each}
 use Rattle.summary.specs.Rules.{Room, Room-for}
 use Rattle.summary.proofs.Rules.Room.{room-more, room-each}
+use Rattle.summary.proofs.Steps.Untracked.{Others}
 use Rattle.tracker.specs.Calls.{victims-in}
 
 each-append : (counters : ℕ) (xs ys : List ℕ) (s : Summary) → disturb-each counters (xs ++ ys) s ≡ disturb-each counters ys (disturb-each counters xs s)
@@ -38,3 +39,8 @@ room-between counters low high sum r few =
 pub victims-four : (s : Settings) (row : ℕ) → s .«blast_diameter» ≤ 4 → length (victims-in s row) ≤ 4
 unfolding victims-in
 victims-four s row h = omega (arith, length-victims-le (s .rows) (s .«blast_diameter») row)
+
+-- a row is none of its own
+pub victims-others : (s : Settings) (row : ℕ) → row < s .rows → Others row (victims-in s row)
+unfolding victims-in
+victims-others s row h v m same = omega (arith, victim-near (s .rows) (s .«blast_diameter») row h v m .2)

@@ -35,8 +35,8 @@ activate-units-requires c κs =
     let below = physical-below (a .args .remap) (r .allowed) (a .args .s .rows) (a .args .row) (r .state .settings .others .rows-whole) (r .inside) in (
       ready-held (r .state),
       (
-        (diameter-four (r .state .settings), omega (arith, c .before .before .physical-row .ensures, below, r .state .settings .others .rows .most)),
-        (r .units .most, room-more (r .state .facts .room) (omega arith)),
+        (diameter-four (r .state .settings), omega (arith, c .before .before .physical-row .ensures, below), r .state .settings .others .rows .most),
+        (r .units .least, r .units .most, room-more (r .state .facts .room) (omega arith)),
       ),
     )
 
