@@ -1,6 +1,8 @@
 -- `spelling::activation_fault` meets its contract.
+use mathlib.Core.Path.{ap, _∙_}
+use mathlib.Core.Bool.{Bool, not}
 use borrow.Author.Needs.{needs}
-use Rattle.device.specs.Refusal.{unless, first-failed}
+use Rattle.device.specs.Refusal.{unless, refuse, first-failed}
 use Rattle.trace.specs.Writing.{activation-fault}
 use Rattle.spelling.specs.Contracts.{standing-of}
 use Rattle.spelling.proofs.activation_fault.Statement.{statement}
@@ -10,7 +12,8 @@ returns : tie.Need-returns
 unfolding activation-fault standing-of first-failed unless
 returns c =
     let held = c .before .before in
-    rw (held .before .before .if1 .taken, ← held .before .hold-allowed .ensures, ← held .refuse-unless .ensures) (c .refuse-unless2 .ensures)
+    let refused = held .refuse-unless .ensures ∙ ap (λ (allowed : Bool). refuse (not allowed) 15 0) (held .before .hold-allowed .ensures) in
+    rw (held .before .before .if1 .taken) (c .refuse-unless2 .ensures ∙ ap (refuse _ 9) refused)
 
 returns-2 : tie.Need-returns-2
 unfolding activation-fault standing-of
