@@ -4,8 +4,9 @@
     python3 bench/tracefmt.py [--rounds N]
 
 The traces are a whole window of random rows (traces.py), once in its one spelling and once with
-leading zeros and blank lines, about 11 MB each, and one of hot rows with holds, of 2 MB. Both programs read the trace from a file and write
-to a file; what they write has to be equal. Of several rounds the least time counts.
+leading zeros and blank lines, about 11 MB each, and one of hot rows with holds, of 2 MB. Both programs
+read the trace from a file and write to a file; what they write has to be equal. Of several rounds the
+least time counts.
 """
 
 import random

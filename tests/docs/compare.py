@@ -20,8 +20,8 @@ from comparison import ROOT, Tally
 
 SOURCE = "crates/example/src/main.rt"
 PAGES = {
-    "README.md": "// Activates a row.",
-    "docs/LIMIT.md": "// Activates a row.",
+    "README.md": "// Activates a row for so many units.",
+    "docs/LIMIT.md": "// Activates a row for so many units.",
 }
 
 
