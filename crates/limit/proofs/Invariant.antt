@@ -175,13 +175,13 @@ module _ (s : Settings) (ok : Accepted s) {all e k a : ℕ} {sum : Summary} {x y
             inv-window;
       })
 
--- all units of an activation, one after the other
+-- no unit of an activation, one more, and all of them
+inv-no-unit : (s : Settings) (all e k a : ℕ) (sum : Summary) (x y : Exact) → Inv s all e k a sum x y → Inv s all e k (a + 0) sum x y
+inv-no-unit s all e k a sum x y i = rw (add-zero a) i
+
 inv-unit-more : (s : Settings) (ok : Accepted s) (all e k a units : ℕ) (sum : Summary) (x y : Exact) → Inv s all e k (a + units) sum x y → (row : ℕ) → row < s .rows → a + suc units ≤ s .interval → Inv s all e k (a + suc units) (activation (s .counters) (victims-in s) row sum) (renewed s (row ∷ []) [] x) (renewed s (row ∷ []) [] y)
 inv-unit-more s ok all e k a units sum x y i row h spare =
     rw (add-suc a units, ← add-one (a + units)) (inv-unit s ok i row h (omega arith))
-
-inv-no-unit : (s : Settings) (all e k a : ℕ) (sum : Summary) (x y : Exact) → Inv s all e k a sum x y → Inv s all e k (a + 0) sum x y
-inv-no-unit s all e k a sum x y i = rw (add-zero a) i
 
 pub inv-units : (s : Settings) → Accepted s → {all e k a : ℕ} {sum : Summary} {x y : Exact} → Inv s all e k a sum x y → (row : ℕ) → row < s .rows → (units : ℕ) → a + units ≤ s .interval → Inv s all e k (a + units) (repeated units (activation (s .counters) (victims-in s) row) sum) (repeated units (renewed s (row ∷ []) []) x) (repeated units (renewed s (row ∷ []) []) y)
 unfolding repeated

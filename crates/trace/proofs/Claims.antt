@@ -1,13 +1,14 @@
 -- The claims of specs/Claims.antt, each under its own name.
 use mathlib.Core.Path.{sym, ap, _∙_}
-use mathlib.Core.Option.{none}
+use mathlib.Core.Option.{none, bind}
+use borrow.Author.Tests.{eq-eqb}
 use lib.ListN.{drop-of-length-le}
 use Rattle.device.proofs.Acceptance.{settings-above}
+use Rattle.trace.specs.Records.{numbered, activation, held-activation, record-of}
 use Rattle.trace.specs.Writing.{fault-to}
 use Rattle.trace.specs.Claims.{Read-in-turn, Round-trip, Read-back, One-record, One-spelling, Rewritten-stays, Writer-spells, Written-stays, Before-sound, Writing-stays}
 use Rattle.trace.specs.Spelling.{spelling, unblank}
 use Rattle.trace.specs.Texts.{outcomes}
-use Rattle.trace.proofs.Records.{one-unit-record}
 use Rattle.trace.proofs.Texts.FirstLine.{outcomes-none, outcomes-turn}
 use Rattle.trace.proofs.Spelling.Readable.{outcomes-readable}
 use Rattle.trace.proofs.Spelling.Texts.{outcomes-spelling, unrefused-unblank, spelling-unblank}
@@ -30,8 +31,8 @@ unfolding Read-back
 read-back text h = outcomes-spelling (outcomes-readable text h)
 
 pub one-record : One-record
-unfolding One-record
-one-record columns row long e = one-unit-record columns row long e
+unfolding One-record record-of activation held-activation numbered bind
+one-record row one held long e long′ e′ = rw (eq-eqb _ _ long, e, eq-eqb _ _ long′, e′)
 
 pub one-spelling : One-spelling
 unfolding One-spelling Read-back

@@ -7,7 +7,7 @@ use Prim.Native.Nat.{ℕ, zero, suc, _+_, _*_, _≤_}
 use native.Mathlib.Omega.{arith}
 use borrow.Author.Tests.{eqb-true, eq-eqb}
 use lib.Dec.{eqb}
-use lib.ListN.{length, getD, take, drop}
+use lib.ListN.{length, getD, take}
 use lib.Seq.{length-take-le, getD-take}
 use Rattle.laws.proofs.Cases.{split, missing, cond-test, cond-some}
 use Rattle.trace.specs.declared.Record.{Record}
@@ -90,20 +90,6 @@ activation-take text h = rw (eq-eqb _ _ (length-take-le 6 text h), field-take 0 
 pub numbered-take : (count : ℕ) (says : List ℕ → Record) (text : List ℕ) → 6 * count ≤ length text → numbered count says (take (6 * count) text) ≡ bind (fields count text) λ ns. some (says ns)
 unfolding numbered
 numbered-take count says text h = rw (eq-eqb _ _ (length-take-le (6 * count) text h), fields-take count text)
-
--- a row and a hold of 1 behind an `H` say what the row says behind an `A`
-first-field : (columns : List ℕ) (row hold : ℕ) → fields 2 columns ≡ some (row ∷ hold ∷ []) → field 0 columns ≡ some row
-unfolding fields
-first-field columns row hold e =
-    let first = bind-eq-some-iff (field 0 columns) _ .0 e in
-    let others = bind-eq-some-iff (fields 1 (drop 6 columns)) _ .0 (first .2) in
-    let same : first .0 ≡ row = cc in
-    rw same at (first .1)
-
-pub one-unit-record : (columns : List ℕ) (row : ℕ) → length columns ≡ 12 → fields 2 columns ≡ some (row ∷ 1 ∷ []) → record-of (letter-H ∷ columns) ≡ record-of (letter-A ∷ take 6 columns)
-unfolding record-of held-activation numbered bind
-one-unit-record columns row long e =
-    rw (eq-eqb _ _ long, e, activation-take columns (omega arith), first-field columns row 1 e)
 
 -- so many numbers of a list from a place on
 unfoldable pub places : ℕ → ℕ → List ℕ → List ℕ

@@ -11,7 +11,7 @@ use Rattle.device.specs.Claims.{Alike}
 use Rattle.trace.specs.declared.Record.{Record}
 use Rattle.trace.specs.declared.Record.the-variants.{Set}
 use Rattle.trace.specs.Bytes.{letter-A, letter-H}
-use Rattle.trace.specs.Numbers.{fields}
+use Rattle.trace.specs.Numbers.{field, fields}
 use Rattle.trace.specs.Records.{record-of}
 use Rattle.trace.specs.Reading.{reading}
 use Rattle.trace.specs.Texts.{outcomes}
@@ -36,11 +36,11 @@ Round-trip =
 unfoldable pub Read-back : Type 0
 Read-back = (text : List ℕ) → unrefused (outcomes text) ≡ true → outcomes (spelling (outcomes text)) ≡ unblank (outcomes text)
 
--- '`A` and a hold of 1 are one record', however the row and the hold stand in their columns
+-- '`A` and a hold of 1 are one record', however row and hold stand in their columns
 unfoldable pub One-record : Type 0
 One-record =
-    (columns : List ℕ) (row : ℕ) → length columns ≡ 12 → fields 2 columns ≡ some (row ∷ 1 ∷ []) →
-    record-of (letter-H ∷ columns) ≡ record-of (letter-A ∷ take 6 columns)
+    (row : ℕ) (one held : List ℕ) → length one ≡ 6 → field 0 one ≡ some row → length held ≡ 12 → fields 2 held ≡ some (row ∷ 1 ∷ []) →
+    record-of (letter-A ∷ one) ≡ record-of (letter-H ∷ held)
 
 -- 'Two traces without a refused line carry the same records in the same order, blank lines aside, exactly when their rewritten texts are the
 -- same bytes'

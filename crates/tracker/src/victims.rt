@@ -1,9 +1,7 @@
 // A row disturbs its victims, and an activation, unit by unit.
 use device::Settings;
 use summary::Tally;
-ghost use mathlib.Core.Path.{_≡_};
 ghost use Prim.Native.Nat.{_≤_, _<_};
-ghost use lib.ListN.{length};
 ghost use Rattle.device.specs.Acceptance.{most-rows};
 ghost use Rattle.device.specs.Hold.{repeated};
 ghost use Rattle.summary.specs.Steps.{disturb-each, activation};

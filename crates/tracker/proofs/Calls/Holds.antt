@@ -1,13 +1,11 @@
--- An activation's hold: units done in two calls, one unit, and how far the units raise counts.
-use mathlib.Core.Path.{_≡_, sym, _∙_}
+-- An activation's hold: what an accepted call leaves, how far its units raise counts, and units done in two calls.
+use mathlib.Core.Path.{_≡_}
 use mathlib.Core.Bool.{true}
 use mathlib.Core.List.{List}
-use Prim.Native.Nat.{ℕ, suc, _+_, _*_, _≤_}
+use Prim.Native.Nat.{ℕ, _+_, _*_, _≤_}
 use native.Mathlib.Nat.{add-assoc, mul-le-mul}
-use native.Mathlib.Numerals.{add-one}
 use native.Mathlib.Omega.{arith}
 use borrow.Author.Tests.{eqb-true, le-leb}
-use lib.Dec.{eqb, leb, ltb}
 use Rattle.device.specs.declared.Settings.{Settings}
 use Rattle.device.specs.Refusal.{first-failed}
 use Rattle.device.specs.Remap.{physical}
@@ -17,7 +15,7 @@ use Rattle.device.proofs.Victims.{length-victims-le}
 use Rattle.summary.specs.Steps.{Summary, activation}
 use Rattle.summary.specs.Rules.{Room}
 use Rattle.tracker.specs.State.{State, summary-of, state-of, most-count}
-use Rattle.tracker.specs.Calls.{victims-in, kept-unless, activation-tests-to, activation-tests, activation-to, activation-on}
+use Rattle.tracker.specs.Calls.{victims-in, kept-unless, activation-tests, activation-to, activation-on}
 use Rattle.tracker.proofs.States.StateOf.{read-back}
 use Rattle.tracker.proofs.Steps.Units.{room-units}
 use Rattle.tracker.proofs.Calls.Ready.{activation-passed, passed-activation, activation-ready, diameter-four}
@@ -27,7 +25,7 @@ module _ (s : Settings) (remap : List ℕ) (st : State) (row : ℕ) where
   units-of : ℕ → Summary
   units-of hold = repeated hold (activation (s .counters) (victims-in s) (physical remap row)) (summary-of st)
 
-  pub accepted-tests : (hold : ℕ) → activation-on s remap st row hold .accepts ≡ true → first-failed (activation-tests s remap st row hold) ≡ 0
+  accepted-tests : (hold : ℕ) → activation-on s remap st row hold .accepts ≡ true → first-failed (activation-tests s remap st row hold) ≡ 0
   unfolding activation-to
   accepted-tests hold ok = eqb-true (first-failed (activation-tests s remap st row hold)) 0 ok
 

@@ -8,7 +8,7 @@ use Rattle.device.specs.declared.Settings.{Settings}
 use Rattle.device.specs.Victims.{rows-between, within-reach, subarray-rows, subarray-start, subarray-end, victims}
 use Rattle.device.proofs.Victims.{between-length, victim-near, length-victims-le}
 use Rattle.summary.specs.Steps.{Summary, disturb, disturb-each}
-use Rattle.summary.specs.Rules.{Room, Room-for}
+use Rattle.summary.specs.Rules.{Room-for}
 use Rattle.summary.proofs.Rules.Room.{room-more, room-each}
 use Rattle.summary.proofs.Steps.Untracked.{Others}
 use Rattle.tracker.specs.Calls.{victims-in}
