@@ -100,14 +100,14 @@ def hold_cases(example):
     """Every hold from each end of an interval, and before other faults."""
     for hold in SWEPT_HOLDS:
         state = state_of(changed(example, (INTERVAL, 20)), {4: 3, 6: 2}, 1, activations=2)
-        good = is_accepted_hold(hold)
+        good, zeros = is_accepted_hold(hold), (0,) * 16
         yield case("activate", state, 5, 0 if good else -15, "every hold", hold=hold)
         for row in OTHER_ROWS:
             yield case("activate", state, row, -9, "every hold", hold=hold)
+            yield case("activate", state, row, -9, "every hold", zeros, hold)
         if good:
             yield from interval_cases(example, hold)
         else:
-            zeros = (0,) * 16
             broken = state_of(example, {4: 3}, 1, events=4)
             yield case("activate", state, 5, -15, "every hold", zeros, hold)
             yield case("activate", broken, 5, -15, "every hold", hold=hold)
