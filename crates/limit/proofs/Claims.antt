@@ -1,20 +1,24 @@
 -- The claims, each under its statement's name.
-use mathlib.Core.Path.{_≡_, sym}
+use mathlib.Core.Path.{_≡_, refl, sym}
 use mathlib.Core.Bool.{Bool, true, false, not}
+use mathlib.Core.List.{[], _∷_}
 use Prim.Native.Nat.{_+_}
 use native.Mathlib.Omega.{arith}
 use lib.Dec.{ltb, leb}
 use lib.ListN.{length}
 use Rattle.device.specs.Refusal.{refuse}
-use Rattle.device.specs.Remap.{remap-allowed}
-use Rattle.device.specs.Hold.{hold-allowed}
+use Rattle.device.specs.Remap.{remap-allowed, physical}
+use Rattle.device.specs.Hold.{hold-allowed, repeated}
 use Rattle.device.proofs.Acceptance.{accepted-settings}
+use Rattle.device.proofs.Hold.{repeated-sum}
 use Rattle.bound.specs.Totals.{bound-of}
 use Rattle.tracker.specs.State.{state-of}
 use Rattle.tracker.specs.Calls.{activation-to, refresh-to}
 use Rattle.tracker.proofs.States.StateOf.{read-back}
 use Rattle.tracker.proofs.Calls.SoundTests.{activation-refusals, refresh-refusals}
-use Rattle.limit.specs.Claims.{Demand-3, Demand-3-of-answers, Never-21, Events-modulo, Estimated, Window-figure}
+use Rattle.summary.specs.Steps.{besides}
+use Rattle.limit.specs.Exact.{zeroed, disturbed-by, once, restored, renewed, after}
+use Rattle.limit.specs.Claims.{Demand-3, Demand-3-of-answers, Units-counted, Never-21, Events-modulo, Estimated, Window-figure}
 use Rattle.limit.proofs.Invariant.{inv-limit, inv-first, inv-present}
 use Rattle.limit.proofs.Run.{begun-accepted, plain-held, state-inv-run}
 use Rattle.limit.proofs.Answered.{answered-run}
@@ -31,6 +35,13 @@ unfolding Demand-3-of-answers Demand-3
 demand-3-of-answers s st told a row inside =
     let k = answered-run a in
     rw (k .tells) (demand-3 s (k .begun) (k .starts) (k .calls) row inside)
+
+pub units-counted : Units-counted
+unfolding Units-counted after repeated renewed restored zeroed disturbed-by once besides
+units-counted s remap row x = (
+  λ h k. repeated-sum h k (renewed s (physical remap row ∷ []) []) x,
+  λ v. refl,
+)
 
 not-21 : (outside short other full : Bool) → refuse outside 9 (refuse short 15 (refuse other 14 (refuse full 22 0))) ≡ 21 → ⊥
 unfolding refuse

@@ -2,13 +2,16 @@
 -- the same name.
 use Prim.Native.Nat.{ℕ, _+_, _*_, _%_, _≤_, _<_}
 use mathlib.Core.Path.{_≡_}
+use mathlib.Core.Bool.{true, cond}
 use mathlib.Core.List.{List}
+use lib.Dec.{eqb}
 use Rattle.device.specs.declared.Settings.{Settings}
+use Rattle.device.specs.Remap.{physical}
 use Rattle.bound.specs.Totals.{bound-at, bound-of}
 use Rattle.summary.specs.Steps.{estimate}
 use Rattle.tracker.specs.State.{State, summary-of}
-use Rattle.tracker.specs.Calls.{activation-on, refresh-on}
-use Rattle.limit.specs.Exact.{Happened, exact}
+use Rattle.tracker.specs.Calls.{victims-in, activation-on, refresh-on}
+use Rattle.limit.specs.Exact.{Happened, activated, Exact, one-more, after, exact}
 use Rattle.limit.specs.Present.{present}
 use Rattle.limit.specs.Run.{Command, Begun, state-after, happened}
 use Rattle.limit.specs.Answered.{Answered}
@@ -27,6 +30,15 @@ Demand-3-of-answers =
     (s : Settings) (st : State) (told : List Happened) → Answered s st told → (row : ℕ) → row < s .rows →
     (exact s told .disturbance row ≤ 2 * bound-of s) ×
     (exact s told .refreshes < s .window → exact s told .disturbance row ≤ bound-of s)
+
+-- 'true disturbance counts units': to the counter an accepted activation of h + k units is one of h and then one of k, and one unit sets the row to 0 and
+-- adds 1 at each of its victims
+unfoldable pub Units-counted : Type 0
+Units-counted =
+    (s : Settings) (remap : List ℕ) (row : ℕ) (x : Exact) →
+    ((h k : ℕ) → after s (activated remap row (h + k) true) x ≡ after s (activated remap row k true) (after s (activated remap row h true) x)) ×
+    ((v : ℕ) → after s (activated remap row 1 true) x .disturbance v ≡
+    one-more (victims-in s (physical remap row)) (λ w. cond (eqb (physical remap row) w) 0 (x .disturbance w)) v)
 
 -- no call is refused with 21
 unfoldable pub Never-21 : Type 0
