@@ -7,7 +7,7 @@ use Rattle.device.specs.Acceptance.{within}
 unfoldable pub hold-allowed : ℕ → Bool
 hold-allowed hold = within 1 16 hold
 
--- a unit's step, 'that many .. in succession'
+-- a unit's step, 'that many' times 'in succession', each on what the one before left
 unfoldable pub repeated : {A : Type 0} → ℕ → (A → A) → A → A
 repeated zero step x = x
 repeated (suc units) step x = step (repeated units step x)

@@ -13,7 +13,7 @@ use Rattle.tracker.specs.State.{summary-of, state-of, zeros, ascending, counts-
 use Rattle.tracker.specs.Calls.{victims-in, block-rows, ends-window, next-event, tables-long, set-up-tests-to, activation-tests-to, refresh-tests-to, kept-unless, set-up-to, activation-to, refresh-to}
 use Rattle.trace.specs.Numbers.{is-digit, digits, number, field, fields, digit-or-blank, columns-before, printed, written}
 use Rattle.trace.specs.Lines.{line, ended, extent}
-use Rattle.trace.specs.Records.{as-settings, numbered, settings, activation as activation-record, held-activation, refresh as refresh-record, record-of}
+use Rattle.trace.specs.Records.{as-settings, numbered, settings, activation as activation-record, as-activation, held-activation, refresh as refresh-record, record-of}
 use Rattle.trace.specs.Reading.{or-refused, reading-by, reading}
 use Rattle.trace.specs.Output.{number-columns, refusal-line}
 use Rattle.trace.specs.Spelling.{settings-numbers, spelled-line, activation-spelling, record-spelling, answer-spelling, spelling}
@@ -43,7 +43,7 @@ unfolding
     table entries-of read summary-of state-of zeros ascending counts-allowed valid
     victims-in block-rows ends-window next-event tables-long set-up-tests-to activation-tests-to refresh-tests-to kept-unless set-up-to activation-to refresh-to
     is-digit digits number field fields digit-or-blank columns-before printed written line ended extent
-    bind as-settings numbered settings activation-record held-activation refresh-record record-of or-refused reading-by reading
+    bind as-settings numbered settings activation-record as-activation held-activation refresh-record record-of or-refused reading-by reading
     number-columns settings-numbers spelled-line activation-spelling record-spelling answer-spelling spelling
     standing-behind activation-fault fault-to first-fault-to room-fault writing-fault-to writing-by writing-to
     bound-line refresh-line refusal-line

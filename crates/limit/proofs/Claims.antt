@@ -43,9 +43,9 @@ units-counted s remap row x = (
   λ v. refl,
 )
 
-not-21 : (outside short other full : Bool) → refuse outside 9 (refuse short 15 (refuse other 14 (refuse full 22 0))) ≡ 21 → ⊥
+not-21 : (outside beyond other full : Bool) → refuse outside 9 (refuse beyond 15 (refuse other 14 (refuse full 22 0))) ≡ 21 → ⊥
 unfolding refuse
-not-21 true short other full e = omega arith
+not-21 true beyond other full e = omega arith
 not-21 false true other full e = omega arith
 not-21 false false true full e = omega arith
 not-21 false false false true e = omega arith

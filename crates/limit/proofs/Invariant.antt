@@ -28,8 +28,8 @@ use Rattle.limit.proofs.Block.{block-ascends, block-below, block-length
 use Rattle.limit.proofs.SchemeOf.{scheme-of, since-le, present-le, window-held}
 use Rattle.limit.proofs.Carry.{Carry, carry-at-rest, carry-renewed, carry-event, carry-last-event}
 
--- e regular events and k events of every kind so far in a window that may have `all` of them; a: at least the activations since the last event of
--- any kind. x: the exact disturbance, y: that of the present window
+-- e regular events and k events of every kind so far in a window that may have `all` of them; a: at least the units of activations since the last event
+-- of any kind. x: the exact disturbance, y: that of the present window
 pub record Inv (s : Settings) (all e k a : ℕ) (sum : Summary) (x y : Exact) : Type 0 where
   -- the rows that have disturbed since the last event of any kind
   pub since : ℕ

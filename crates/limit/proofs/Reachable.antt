@@ -72,7 +72,7 @@ activation-refused-with {s} r remap row hold =
     let k = reached-sum r in
     rw (k .stored) (activation-refusals s (k .events) (k .activations) (k .sum) (reached-accepted r) (k .holds) remap row hold)
 
--- no more activations than the interval has
+-- no more units than the interval has
 pub reached-within : {s : Settings} {st : State} → Reached s st → st .position .activations ≤ s .interval
 unfolding state-of
 reached-within r =

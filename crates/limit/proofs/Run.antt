@@ -40,7 +40,7 @@ unfolding happened state-after
 happened-append s [] ds st = refl
 happened-append s (c ∷ cs) ds st = ap (λ (hs : List Happened). told-by s c st ∷ hs) (happened-append s cs ds (left-by s c st))
 
--- the invariant, at e events and a activations
+-- the invariant, at e events and a units of activations
 abbrev pub Plain-inv : Settings → ℕ → ℕ → Summary → Exact → Exact → Type 0
 Plain-inv s e a sum x y = Inv s (s .window) e e a sum x y
 
@@ -91,7 +91,7 @@ module _ (s : Settings) (ok : first-failed (settings-tests s) ≡ 0) where
       }))
       (λ full. rw (refusals, inside, held, allowed, full) (state-inv-refused i)))
       (λ other. rw (refusals, inside, held, other) (state-inv-refused i)))
-      (λ short. rw (refusals, inside, short) (state-inv-refused i)))
+      (λ beyond. rw (refusals, inside, beyond) (state-inv-refused i)))
       (λ outside. rw (refusals, outside) (state-inv-refused i))
 
   state-inv-refresh : (picks : List ℕ) (e a : ℕ) (sum : Summary) (x y : Exact) → Plain-inv s e a sum x y → Call-inv s (refresh-into picks) (state-of s e a sum) x y

@@ -4,7 +4,7 @@ use mathlib.Core.Option.{none, bind}
 use borrow.Author.Tests.{eq-eqb}
 use lib.ListN.{drop-of-length-le}
 use Rattle.device.proofs.Acceptance.{settings-above}
-use Rattle.trace.specs.Records.{numbered, activation, held-activation, record-of}
+use Rattle.trace.specs.Records.{as-activation, numbered, activation, held-activation, record-of}
 use Rattle.trace.specs.Writing.{fault-to}
 use Rattle.trace.specs.Claims.{Read-in-turn, Round-trip, Read-back, One-record, One-spelling, Rewritten-stays, Writer-spells, Written-stays, Before-sound, Writing-stays}
 use Rattle.trace.specs.Spelling.{spelling, unblank}
@@ -31,7 +31,7 @@ unfolding Read-back
 read-back text h = outcomes-spelling (outcomes-readable text h)
 
 pub one-record : One-record
-unfolding One-record record-of activation held-activation numbered bind
+unfolding One-record record-of activation as-activation held-activation numbered bind
 one-record row one held long e long′ e′ = rw (eq-eqb _ _ long, e, eq-eqb _ _ long′, e′)
 
 pub one-spelling : One-spelling

@@ -1,5 +1,5 @@
--- Records behind their letters: each has one width and no byte 10, what the first bytes of a text say, and the widest line.
-use mathlib.Core.Path.{_≡_, refl, ap}
+-- Records behind their letters: each has one width and no byte 10, what the first bytes of a text say, records by their letter, and the widest line.
+use mathlib.Core.Path.{_≡_, refl, ap, subst}
 use mathlib.Core.Bool.{false}
 use mathlib.Core.List.{List, [], _∷_}
 use mathlib.Core.Option.{some, Option, bind, bind-eq-some-iff}
@@ -11,11 +11,11 @@ use lib.ListN.{length, getD, take}
 use lib.Seq.{length-take-le, getD-take}
 use Rattle.laws.proofs.Cases.{split, missing, cond-test, cond-some}
 use Rattle.trace.specs.declared.Record.{Record}
-use Rattle.trace.specs.declared.Record.the-variants.{Set, Remap, Activate}
+use Rattle.trace.specs.declared.Record.the-variants.{Set, Remap, Activate, Blank}
 use Rattle.trace.specs.Bytes.{letter-A, letter-F, letter-H, letter-R, letter-S}
 use Rattle.trace.specs.Lines.{ended}
 use Rattle.trace.specs.Numbers.{field, fields}
-use Rattle.trace.specs.Records.{as-settings, as-sixteen, numbered, settings, remap, activation, held-activation, refresh, record-of}
+use Rattle.trace.specs.Records.{as-settings, as-sixteen, as-activation, numbered, settings, remap, activation, held-activation, refresh, record-of}
 use Rattle.trace.proofs.Lines.{ended-drop-length}
 use Rattle.trace.proofs.Numbers.Fields.{field-take, fields-take, ended-field, ended-fields}
 
@@ -80,7 +80,7 @@ remap-form = numbered-form 16 (λ numbers. Remap (as-sixteen numbers))
 
 pub held-activation-form : Form held-activation 12
 unfolding held-activation
-held-activation-form = numbered-form 2 (λ numbers. Activate (getD numbers 0 0) (getD numbers 1 0))
+held-activation-form = numbered-form 2 as-activation
 
 -- what the first bytes of a text say
 pub activation-take : (text : List ℕ) → 6 ≤ length text → activation (take 6 text) ≡ bind (field 0 text) λ row. some (Activate row 1)
@@ -110,27 +110,45 @@ pub as-sixteen-take : (values : List ℕ) → as-sixteen (take 16 values) ≡ as
 unfolding as-sixteen places
 as-sixteen-take values = ap as-sixteen (places-take 16 16 0 values (omega arith))
 
+-- what holds of a blank line, and of each form's records behind a letter, holds of every record that bytes say
+pub by-letter : (P : List ℕ → Record → Type 0) → P [] Blank
+    → ((b : ℕ) (bytes : List ℕ) (r : Record) → settings bytes ≡ some r → P (b ∷ bytes) r)
+    → ((b : ℕ) (bytes : List ℕ) (r : Record) → activation bytes ≡ some r → P (b ∷ bytes) r)
+    → ((b : ℕ) (bytes : List ℕ) (r : Record) → refresh bytes ≡ some r → P (b ∷ bytes) r)
+    → ((b : ℕ) (bytes : List ℕ) (r : Record) → remap bytes ≡ some r → P (b ∷ bytes) r)
+    → ((b : ℕ) (bytes : List ℕ) (r : Record) → held-activation bytes ≡ some r → P (b ∷ bytes) r)
+    → (bytes : List ℕ) (r : Record) → record-of bytes ≡ some r → P bytes r
+unfolding record-of
+by-letter P blank sets ones events remaps holds [] r e =
+    let same : Blank ≡ r = cc in
+    subst (P []) same blank
+by-letter P blank sets ones events remaps holds (b ∷ bytes) r e =
+    split (eqb b letter-S)
+    (λ s. sets b bytes r (rw s at e))
+    (λ s.
+    split (eqb b letter-A)
+    (λ a. ones b bytes r (rw (s, a) at e))
+    (λ a.
+    split (eqb b letter-R)
+    (λ f. events b bytes r (rw (s, a, f) at e))
+    (λ f.
+    split (eqb b letter-F)
+    (λ m. remaps b bytes r (rw (s, a, f, m) at e))
+    (λ m.
+    split (eqb b letter-H)
+    (λ o. holds b bytes r (rw (s, a, f, m, o) at e))
+    (λ o. missing (rw (s, a, f, m, o) at e))))))
+
 length-letter-le : {says : List ℕ → Option Record} {w : ℕ} → Form says w → w ≤ 96
-    → (bytes : List ℕ) (r : Record) → says bytes ≡ some r → suc (length bytes) ≤ 97
-length-letter-le form h bytes r e = omega (arith, form .same-length bytes r e)
+    → (b : ℕ) (bytes : List ℕ) (r : Record) → says bytes ≡ some r → length (b ∷ bytes) ≤ 97
+length-letter-le form h b bytes r e = omega (arith, form .same-length bytes r e)
 
 -- the widest record has 97 bytes before its byte 10
 pub length-record-le : (bytes : List ℕ) (r : Record) → record-of bytes ≡ some r → length bytes ≤ 97
-unfolding record-of
-length-record-le [] r h = omega arith
-length-record-le (b ∷ bytes) r h =
-    split (eqb b letter-S)
-    (λ s. length-letter-le settings-form (omega arith) bytes r (rw s at h))
-    (λ s.
-    split (eqb b letter-A)
-    (λ a. length-letter-le activation-form (omega arith) bytes r (rw (s, a) at h))
-    (λ a.
-    split (eqb b letter-R)
-    (λ f. length-letter-le refresh-form (omega arith) bytes r (rw (s, a, f) at h))
-    (λ f.
-    split (eqb b letter-F)
-    (λ m. length-letter-le remap-form (omega arith) bytes r (rw (s, a, f, m) at h))
-    (λ m.
-    split (eqb b letter-H)
-    (λ o. length-letter-le held-activation-form (omega arith) bytes r (rw (s, a, f, m, o) at h))
-    (λ o. missing (rw (s, a, f, m, o) at h))))))
+length-record-le =
+    by-letter (λ bytes r. length bytes ≤ 97) (omega arith)
+    (length-letter-le settings-form (omega arith))
+    (length-letter-le activation-form (omega arith))
+    (length-letter-le refresh-form (omega arith))
+    (length-letter-le remap-form (omega arith))
+    (length-letter-le held-activation-form (omega arith))

@@ -68,9 +68,13 @@ remap bytes = numbered 16 (λ numbers. Remap (as-sixteen numbers)) bytes
 unfoldable pub activation : List ℕ → Option Record
 activation bytes = cond (eqb (length bytes) 6) (bind (field 0 bytes) λ row. some (Activate row 1)) none
 
--- a row held open: '`H` with a bus row and a hold, 6 columns each', which the reader hands on untested
+-- numbers as 'a bus row and a hold', in this order
+unfoldable pub as-activation : List ℕ → Record
+as-activation numbers = Activate (getD numbers 0 0) (getD numbers 1 0)
+
+-- a row held open: both behind an `H`, '6 columns each', which the reader hands on untested
 unfoldable pub held-activation : List ℕ → Option Record
-held-activation bytes = numbered 2 (λ numbers. Activate (getD numbers 0 0) (getD numbers 1 0)) bytes
+held-activation bytes = numbered 2 as-activation bytes
 
 -- 'an event': `R` 'alone', nothing behind it
 unfoldable pub refresh : List ℕ → Option Record

@@ -55,7 +55,7 @@ activation-once s remap st row =
           (activation (s .counters) (victims-in s) (physical remap row) (summary-of st)));
     }
 
--- an activation with a hold of 1 is the activation as it was, refused or not
+-- an activation with a hold of 1 is that one, refused or not
 unfoldable pub One-unit : Type 0
 One-unit = (s : Settings) (remap : List ℕ) (st : State) (row : ℕ) → activation-on s remap st row 1 ≡ activation-once s remap st row
 
@@ -68,9 +68,11 @@ Units-add =
     activation-on s remap (activation-on s remap st row h .state) row k .accepts ≡ true →
     activation-on s remap st row (h + k) ≡ activation-on s remap (activation-on s remap st row h .state) row k
 
--- '21 is tested once, before the first unit': the units may carry counts and spillover past 2,000,000,000, by no more than B each, so by at most 64 in a call
+-- '21 is tested once, before the first unit': before it no count and no spillover is above 2,000,000,000; the highest of them rises by at most B for each unit, so
+-- by at most 64 in a call
 unfoldable pub Counts-rise : Type 0
 Counts-rise =
     (s : Settings) (remap : List ℕ) (st : State) (row hold : ℕ) → activation-on s remap st row hold .accepts ≡ true →
-    Room (most-count + s .«blast_diameter» * hold) (summary-of (activation-on s remap st row hold .state)) ×
+    Room most-count (summary-of st) ×
+    ((most : ℕ) → Room most (summary-of st) → Room (most + s .«blast_diameter» * hold) (summary-of (activation-on s remap st row hold .state))) ×
     (s .«blast_diameter» * hold ≤ 64)

@@ -24,7 +24,7 @@ most-count = 2000000000
 unfoldable pub summary-of : State → Summary
 summary-of st = read (st .rows) (st .counts) (st .position .tracked) (st .position .spillover)
 
--- the state that holds a summary, after so many events in the window and activations since the last
+-- the state that holds a summary, after so many events in the window and units of activations since the last
 unfoldable pub state-of : Settings → ℕ → ℕ → Summary → State
 state-of s events activations sum =
     record {

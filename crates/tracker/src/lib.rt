@@ -15,7 +15,7 @@ ghost use Rattle.tracker.specs.Calls.{next-event, tables-long, set-up-te
 ghost use Rattle.tracker.specs.Contracts.{tables-tests};
 ghost use Rattle.tracker.specs.Answers.{lent, set-up-left, activation-left, refresh-left, event-left, agreement-outcome};
 
-// Where a tracker stands: events so far in this window, activations since the last event, tracked rows, spillover.
+// Where a tracker stands: events so far in this window, activations since the last event, counted by their units, tracked rows, spillover.
 pub struct Position {
     pub events: u32,
     pub activations: u32,

@@ -11,16 +11,16 @@ use Rattle.device.specs.declared.Settings.{Settings}
 use Rattle.laws.proofs.Cases.{split, clash, missing, either, cond-some}
 use Rattle.trace.specs.declared.Sixteen.{Sixteen}
 use Rattle.trace.specs.declared.Record.{Record}
-use Rattle.trace.specs.declared.Record.the-variants.{Set, Remap, Activate, Refresh, Blank}
+use Rattle.trace.specs.declared.Record.the-variants.{Set, Remap, Activate, Refresh}
 use Rattle.trace.specs.Bytes.{letter-A, letter-F, letter-H, letter-R, letter-S}
 use Rattle.trace.specs.Lines.{line, ended, extent}
 use Rattle.trace.specs.Numbers.{field}
 use Rattle.trace.specs.Reading.{or-refused, reading, reading-by}
-use Rattle.trace.specs.Records.{as-settings, as-sixteen, sixteen-of, numbered, settings, remap, activation, held-activation, refresh, record-of}
+use Rattle.trace.specs.Records.{as-settings, as-sixteen, as-activation, sixteen-of, numbered, settings, remap, activation, held-activation, refresh, record-of}
 use Rattle.trace.specs.Output.{number-columns}
 use Rattle.trace.specs.Spelling.{settings-numbers, spelled-line, activation-spelling, record-spelling, answer-spelling}
 use Rattle.trace.proofs.Output.{length-number-columns}
-use Rattle.trace.proofs.Records.{numbers-of, numbered-form, activation-form}
+use Rattle.trace.proofs.Records.{numbers-of, numbered-form, activation-form, by-letter}
 
 pub length-settings-line : (s : Settings) → length (spelled-line letter-S (settings-numbers s)) ≡ 44
 unfolding spelled-line settings-numbers
@@ -30,11 +30,11 @@ pub length-remap-line : (t : Sixteen) → length (spelled-line letter-F (sixteen
 unfolding spelled-line sixteen-of
 length-remap-line t = rw length-append (omega (arith, length-number-columns (sixteen-of t)))
 
-pub length-one-unit-line : (row : ℕ) → length (spelled-line letter-A (row ∷ [])) ≡ 8
+length-one-unit-line : (row : ℕ) → length (spelled-line letter-A (row ∷ [])) ≡ 8
 unfolding spelled-line
 length-one-unit-line row = rw length-append (omega (arith, length-number-columns (row ∷ [])))
 
-pub length-held-line : (row hold : ℕ) → length (spelled-line letter-H (row ∷ hold ∷ [])) ≡ 14
+length-held-line : (row hold : ℕ) → length (spelled-line letter-H (row ∷ hold ∷ [])) ≡ 14
 unfolding spelled-line
 length-held-line row hold = rw length-append (omega (arith, length-number-columns (row ∷ hold ∷ [])))
 
@@ -79,9 +79,8 @@ activation-no-longer bytes r e =
     subst (No-longer bytes) same (omega (arith, activation-form .same-length bytes r e, length-activation-line (row .0) 1))
 
 held-activation-no-longer : (bytes : List ℕ) (r : Record) → held-activation bytes ≡ some r → No-longer bytes r
-unfolding held-activation record-spelling
-held-activation-no-longer =
-    numbered-no-longer 2 (λ numbers. Activate (getD numbers 0 0) (getD numbers 1 0)) (λ numbers. length-activation-le (getD numbers 0 0) (getD numbers 1 0))
+unfolding held-activation as-activation record-spelling
+held-activation-no-longer = numbered-no-longer 2 as-activation (λ numbers. length-activation-le (getD numbers 0 0) (getD numbers 1 0))
 
 refresh-no-longer : (bytes : List ℕ) (r : Record) → refresh bytes ≡ some r → No-longer bytes r
 unfolding refresh record-spelling
@@ -91,26 +90,14 @@ refresh-no-longer [] r e =
 refresh-no-longer (b ∷ bytes) r e = missing e
 
 record-no-longer : (bytes : List ℕ) (r : Record) → record-of bytes ≡ some r → length (record-spelling r) ≤ suc (length bytes)
-unfolding record-of record-spelling
-record-no-longer [] r e =
-    let same : Blank ≡ r = cc in
-    subst (λ (r : Record). length (record-spelling r) ≤ 1) same (omega arith)
-record-no-longer (b ∷ bytes) r e =
-    split (eqb b letter-S)
-    (λ s. settings-no-longer bytes r (rw s at e))
-    (λ s.
-    split (eqb b letter-A)
-    (λ a. activation-no-longer bytes r (rw (s, a) at e))
-    (λ a.
-    split (eqb b letter-R)
-    (λ f. refresh-no-longer bytes r (rw (s, a, f) at e))
-    (λ f.
-    split (eqb b letter-F)
-    (λ m. remap-no-longer bytes r (rw (s, a, f, m) at e))
-    (λ m.
-    split (eqb b letter-H)
-    (λ o. held-activation-no-longer bytes r (rw (s, a, f, m, o) at e))
-    (λ o. missing (rw (s, a, f, m, o) at e))))))
+unfolding record-spelling
+record-no-longer =
+    by-letter (λ bytes r. length (record-spelling r) ≤ suc (length bytes)) (omega arith)
+    (λ b. settings-no-longer)
+    (λ b. activation-no-longer)
+    (λ b. refresh-no-longer)
+    (λ b. remap-no-longer)
+    (λ b. held-activation-no-longer)
 
 extent-line : (text : List ℕ) → ended text ≡ true → extent text ≡ suc (length (line text))
 unfolding extent ended line

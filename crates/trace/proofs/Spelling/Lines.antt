@@ -7,7 +7,7 @@ use Prim.Native.Nat.{ℕ, _<_}
 use native.Mathlib.Omega.{arith}
 use borrow.Author.Tests.{eqb-true, eq-eqb}
 use lib.Dec.{eqb}
-use lib.ListN.{length, getD, length-append}
+use lib.ListN.{length, length-append}
 use lib.Seq.{drop-append-add}
 use Rattle.device.specs.declared.Settings.{Settings}
 use Rattle.device.specs.Refusal.{accepted}
@@ -18,7 +18,7 @@ use Rattle.trace.specs.declared.Record.the-variants.{Set, Remap, Activat
 use Rattle.trace.specs.Bytes.{letter-A, letter-F, letter-H, letter-R, letter-S}
 use Rattle.trace.specs.Lines.{ended}
 use Rattle.trace.specs.Reading.{or-refused, reading, reading-by}
-use Rattle.trace.specs.Records.{as-settings, as-sixteen, sixteen-of, numbered, settings, remap, activation, held-activation, refresh, record-of}
+use Rattle.trace.specs.Records.{as-settings, as-sixteen, as-activation, sixteen-of, numbered, settings, remap, activation, held-activation, refresh, record-of}
 use Rattle.trace.specs.Output.{number-columns}
 use Rattle.trace.specs.Spelling.{settings-numbers, spelled-line, activation-spelling, record-spelling}
 use Rattle.trace.specs.Texts.{read, outcomes}
@@ -60,9 +60,8 @@ unfolding activation bind number-columns
 activation-spelled row h = rw (eq-eqb _ _ (length-number-columns (row ∷ [])), field-printed row [] h)
 
 held-activation-spelled : (row hold : ℕ) → row < 1000000 → hold < 1000000 → held-activation (number-columns (row ∷ hold ∷ [])) ≡ some (Activate row hold)
-unfolding held-activation
-held-activation-spelled row hold h k =
-    numbered-spelled (λ numbers. Activate (getD numbers 0 0) (getD numbers 1 0)) (one-more h (one-more k no-number))
+unfolding held-activation as-activation
+held-activation-spelled row hold h k = numbered-spelled as-activation (one-more h (one-more k no-number))
 
 pub outcomes-settings : (s : Settings) (rest : List ℕ) → Narrow (settings-numbers s) → outcomes (record-spelling (Set s) ++ rest) ≡ accepted (Set s) ∷ outcomes rest
 unfolding record-spelling record-of ended

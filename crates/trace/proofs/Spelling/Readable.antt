@@ -14,15 +14,14 @@ use Rattle.laws.proofs.Cases.{split, clash, missing, and-both, cond-test, cond-
 use Rattle.trace.specs.declared.Sixteen.{Sixteen}
 use Rattle.trace.specs.declared.Record.{Record}
 use Rattle.trace.specs.declared.Record.the-variants.{Set, Remap, Activate, Refresh, Blank}
-use Rattle.trace.specs.Bytes.{letter-A, letter-F, letter-H, letter-R, letter-S}
 use Rattle.trace.specs.Lines.{line, ended}
 use Rattle.trace.specs.Numbers.{is-digit, digits, number, field, fields}
 use Rattle.trace.specs.Reading.{or-refused, reading, reading-by}
-use Rattle.trace.specs.Records.{as-settings, as-sixteen, sixteen-of, numbered, settings, remap, activation, held-activation, refresh, record-of}
+use Rattle.trace.specs.Records.{as-settings, as-sixteen, as-activation, sixteen-of, numbered, settings, remap, activation, held-activation, refresh, record-of}
 use Rattle.trace.specs.Spelling.{settings-numbers, unrefused}
 use Rattle.trace.specs.Texts.{lines, read, outcomes}
 use Rattle.trace.proofs.Numbers.Digits.{Room, room-zero, room-digit, room-lt}
-use Rattle.trace.proofs.Records.{numbers-of, places}
+use Rattle.trace.proofs.Records.{numbers-of, places, by-letter}
 use Rattle.trace.proofs.Spelling.Numbers.{Narrow, no-number, one-more}
 
 is-digit-le : (b : ℕ) → is-digit b ≡ true → b - 48 ≤ 9
@@ -114,9 +113,8 @@ activation-readable bytes r e =
     subst (λ (r : Record). Readable (accepted r)) same (of-activation (field-lt (row .0) bytes (row .1)) (omega arith))
 
 held-activation-readable : (bytes : List ℕ) (r : Record) → held-activation bytes ≡ some r → Readable (accepted r)
-unfolding held-activation
-held-activation-readable =
-    numbered-readable 2 (λ numbers. Activate (getD numbers 0 0) (getD numbers 1 0)) (λ numbers h. of-activation (narrow-at h 0) (narrow-at h 1))
+unfolding held-activation as-activation
+held-activation-readable = numbered-readable 2 as-activation (λ numbers h. of-activation (narrow-at h 0) (narrow-at h 1))
 
 refresh-readable : (bytes : List ℕ) (r : Record) → refresh bytes ≡ some r → Readable (accepted r)
 unfolding refresh
@@ -126,26 +124,13 @@ refresh-readable [] r e =
 refresh-readable (b ∷ bytes) r e = missing e
 
 record-readable : (bytes : List ℕ) (r : Record) → record-of bytes ≡ some r → Readable (accepted r)
-unfolding record-of
-record-readable [] r e =
-    let same : Blank ≡ r = cc in
-    subst (λ (r : Record). Readable (accepted r)) same of-blank
-record-readable (b ∷ bytes) r e =
-    split (eqb b letter-S)
-    (λ s. settings-readable bytes r (rw s at e))
-    (λ s.
-    split (eqb b letter-A)
-    (λ a. activation-readable bytes r (rw (s, a) at e))
-    (λ a.
-    split (eqb b letter-R)
-    (λ f. refresh-readable bytes r (rw (s, a, f) at e))
-    (λ f.
-    split (eqb b letter-F)
-    (λ m. remap-readable bytes r (rw (s, a, f, m) at e))
-    (λ m.
-    split (eqb b letter-H)
-    (λ o. held-activation-readable bytes r (rw (s, a, f, m, o) at e))
-    (λ o. missing (rw (s, a, f, m, o) at e))))))
+record-readable =
+    by-letter (λ bytes r. Readable (accepted r)) of-blank
+    (λ b. settings-readable)
+    (λ b. activation-readable)
+    (λ b. refresh-readable)
+    (λ b. remap-readable)
+    (λ b. held-activation-readable)
 
 answer-readable : (o : Option Record) (os : List (Outcome Record)) → ((r : Record) → o ≡ some r → Readable (accepted r))
     → unrefused (or-refused o ∷ os) ≡ true → Readable (or-refused o) × (unrefused os ≡ true)

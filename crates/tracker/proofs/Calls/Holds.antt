@@ -1,5 +1,5 @@
 -- An activation's hold: what an accepted call leaves, how far its units raise counts, and units done in two calls.
-use mathlib.Core.Path.{_≡_}
+use mathlib.Core.Path.{_≡_, sym}
 use mathlib.Core.Bool.{true}
 use mathlib.Core.List.{List}
 use Prim.Native.Nat.{ℕ, _+_, _*_, _≤_}
@@ -15,10 +15,11 @@ use Rattle.device.proofs.Victims.{length-victims-le}
 use Rattle.summary.specs.Steps.{Summary, activation}
 use Rattle.summary.specs.Rules.{Room}
 use Rattle.tracker.specs.State.{State, summary-of, state-of, most-count}
-use Rattle.tracker.specs.Calls.{victims-in, kept-unless, activation-tests, activation-to, activation-on}
+use Rattle.tracker.specs.Calls.{victims-in, activation-tests, activation-to, activation-on}
 use Rattle.tracker.proofs.States.StateOf.{read-back}
 use Rattle.tracker.proofs.Steps.Units.{room-units}
 use Rattle.tracker.proofs.Calls.Ready.{activation-passed, passed-activation, activation-ready, diameter-four}
+use Rattle.tracker.proofs.Calls.Outcomes.{activation-done, activation-leaves}
 
 module _ (s : Settings) (remap : List ℕ) (st : State) (row : ℕ) where
   -- the summary after so many units
@@ -31,17 +32,20 @@ module _ (s : Settings) (remap : List ℕ) (st : State) (row : ℕ) where
 
   -- an accepted activation, by what it leaves
   accepted-call : (hold : ℕ) → first-failed (activation-tests s remap st row hold) ≡ 0 → activation-on s remap st row hold ≡ record { accepts = true; refusal = 0; state = state-of s (st .position .events) (st .position .activations + hold) (units-of hold) }
-  unfolding activation-to kept-unless units-of
-  accepted-call hold e = rw e
+  unfolding units-of
+  accepted-call hold e = sym (activation-done s remap st row hold e (sym (activation-leaves s remap st row hold e)))
 
-  pub counts-within : (hold : ℕ) → activation-on s remap st row hold .accepts ≡ true → Room (most-count + s .«blast_diameter» * hold) (summary-of (activation-on s remap st row hold .state)) × (s .«blast_diameter» * hold ≤ 64)
+  pub counts-within : (hold : ℕ) → activation-on s remap st row hold .accepts ≡ true → Room most-count (summary-of st) × ((most : ℕ) → Room most (summary-of st) → Room (most + s .«blast_diameter» * hold) (summary-of (activation-on s remap st row hold .state))) × (s .«blast_diameter» * hold ≤ 64)
   unfolding units-of victims-in
   counts-within hold ok =
       let e = accepted-tests hold ok in
       let r = activation-ready s remap st row hold e in
-      let at = physical remap row in (
-        rw (accepted-call hold e, read-back s (st .position .events) (st .position .activations + hold) (units-of hold))
-            (room-units (s .counters) (victims-in s) at (s .«blast_diameter») (length-victims-le (s .rows) (s .«blast_diameter») at) hold (summary-of st) (r .state .facts .room)),
+      let at = physical remap row in
+      let few = length-victims-le (s .rows) (s .«blast_diameter») at in (
+        r .state .facts .room,
+        (λ most room.
+            rw (activation-leaves s remap st row hold e, read-back s (st .position .events) (st .position .activations + hold) (units-of hold))
+            (room-units (s .counters) (victims-in s) at (s .«blast_diameter») few hold (summary-of st) room)),
         mul-le-mul (diameter-four (r .state .settings)) (r .units .most),
       )
 

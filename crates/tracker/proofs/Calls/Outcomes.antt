@@ -2,16 +2,18 @@
 use mathlib.Core.Path.{_≡_, refl, sym}
 use mathlib.Core.Bool.{Bool, true, false, _&&_}
 use mathlib.Core.List.{List}
-use Prim.Native.Nat.{ℕ, zero, suc}
+use Prim.Native.Nat.{ℕ, zero, suc, _+_}
 use native.Mathlib.Nat.{sub-zero}
 use borrow.Author.Tests.{ne-eqb, eq-eqb}
 use lib.Dec.{eqb}
 use lib.ListN.{length, replicate}
 use Rattle.device.specs.declared.Settings.{Settings}
 use Rattle.device.specs.Refusal.{first-failed, refused, accepted as accepted-with, tested}
+use Rattle.device.specs.Remap.{physical}
+use Rattle.device.specs.Hold.{repeated}
 use Rattle.device.proofs.Refusal.{tested-failed}
 use Rattle.summary.specs.Entries.{rows-of, counts-of}
-use Rattle.summary.specs.Steps.{empty, picked, event}
+use Rattle.summary.specs.Steps.{empty, activation, picked, event}
 use Rattle.summary.specs.Tables.{table}
 use Rattle.summary.specs.Contracts.{Holds, PickedFrom}
 use Rattle.tracker.specs.State.{State, summary-of, state-of}
@@ -40,6 +42,10 @@ activation-refused s remap st row hold (suc k) e h = rw (← e, ne-eqb (suc k) 0
 pub activation-done : (s : Settings) (remap : List ℕ) (st : State) (row hold : ℕ) {st′ : State} → first-failed (activation-tests s remap st row hold) ≡ 0 → st′ ≡ activation-on s remap st row hold .state → record { accepts = true; refusal = 0; state = st′ } ≡ activation-on s remap st row hold
 unfolding activation-to
 activation-done s remap st row hold e same = λ i. record { accepts = eqb (sym e i) 0; refusal = sym e i; state = same i }
+
+pub activation-leaves : (s : Settings) (remap : List ℕ) (st : State) (row hold : ℕ) → first-failed (activation-tests s remap st row hold) ≡ 0 → activation-on s remap st row hold .state ≡ state-of s (st .position .events) (st .position .activations + hold) (repeated hold (activation (s .counters) (victims-in s) (physical remap row)) (summary-of st))
+unfolding activation-to kept-unless
+activation-leaves s remap st row hold e = rw e
 
 pub refresh-refused : (s : Settings) (st : State) (picks : List ℕ) (k : ℕ) → k ≡ first-failed (refresh-tests s st picks) → (k ≡ 0 → ⊥) → record { accepts = false; refusal = k; count = 0; state = st; picks = picks } ≡ refresh-on s st picks
 unfolding refresh-to kept-unless

@@ -13,10 +13,11 @@ use Rattle.summary.specs.Contracts.{Holds}
 use Rattle.summary.proofs.Rules.Room.{room-more}
 use Rattle.summary.proofs.Contracts.Holds.{tracked-le}
 use Rattle.tracker.specs.State.{summary-of, state-of}
-use Rattle.tracker.specs.Calls.{activation-to, kept-unless, victims-in}
+use Rattle.tracker.specs.Calls.{victims-in}
 use Rattle.tracker.specs.Answers.{given}
 use Rattle.tracker.proofs.States.StateOf.{state-of-holds}
 use Rattle.tracker.proofs.Calls.Ready.{activation-ready, ready-held, diameter-four}
+use Rattle.tracker.proofs.Calls.Outcomes.{activation-leaves}
 use Rattle.tracker.proofs.activate_accepted.Statement.{statement}
 use Rattle.tracker.proofs.activate_accepted.Tie as tie
 
@@ -60,14 +61,14 @@ made-by : (s : Settings) (e a : ℕ) (sum : Summary) (at : ℕ) (remap : List �
 made-by s e a sum at remap row hold same h = state-of-holds s e a h ∙ ap (λ x. state-of s e a (repeated hold (activation (s .counters) (victims-in s) x) sum)) same
 
 returns : tie.Need-returns
-unfolding activation-to kept-unless given summary-of
+unfolding given summary-of
 returns c =
     let activate-units = c .before .before .before .before .before .before .activate-units in
     let a = c .before .before .before .before .before .before .before .before .before .before .before .before .before in
     let st = given (a .args .rows .now) (a .args .counts .now) (a .args .p) in
     let r = activation-ready (a .args .s) (a .args .remap) st (a .args .row) (a .args .hold) (a .pre) in
     let f = c .before .before .before .before .before .before .before .before .before .physical-row in
-    rw (a .pre)
+    rw (activation-leaves (a .args .s) (a .args .remap) st (a .args .row) (a .args .hold) (a .pre))
     (made-by (a .args .s) (a .args .p .events) (a .args .p .activations + a .args .hold) (summary-of st) (f .result) (a .args .remap) (a .args .row) (a .args .hold) (f .ensures) (rw (r .state .fitting .rows-long) at (activate-units .ensures)))
 
 pub activate-accepted-spec : {M : Type 1} → statement M

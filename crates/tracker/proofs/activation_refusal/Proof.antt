@@ -1,17 +1,40 @@
 -- `tracker::activation_refusal` meets its contract.
-use mathlib.Core.Path.{sym, _∙_}
+use mathlib.Core.Path.{_≡_, sym, _∙_}
+use mathlib.Core.Bool.{true}
 use native.Mathlib.Omega.{arith}
 use borrow.Author.Needs.{needs}
 use borrow.Author.Tests.{lt-ltb, le-ltb, not-true, not-false}
-use Rattle.device.specs.Refusal.{refuse}
+use lib.Dec.{ltb}
+use Rattle.device.specs.Refusal.{refuse, first-failed}
+use Rattle.device.specs.Remap.{remap-allowed}
+use Rattle.device.specs.Hold.{hold-allowed}
 use Rattle.device.proofs.Acceptance.{accepted-settings}
 use Rattle.device.proofs.Hold.{hold-between}
 use Rattle.tracker.specs.Answers.{given}
+use Rattle.tracker.specs.Contracts.{tables-tests}
+use Rattle.tracker.specs.State.{valid}
 use Rattle.tracker.proofs.States.Valid.{valid-facts}
 use Rattle.tracker.proofs.Calls.Tests.{activation-tested, or-later-first, or-later-zero}
 use Rattle.tracker.proofs.Calls.Ready.{open-tables}
 use Rattle.tracker.proofs.activation_refusal.Statement.{statement}
 use Rattle.tracker.proofs.activation_refusal.Tie as tie
+
+-- what each test says where it passed
+tables : (c : tie.Else1) → let a = c .before .before .before .before .args in first-failed (tables-tests (a .s) (a .rows .now) (a .counts .now)) ≡ 0
+tables c = sym (c .before .tables-refusal .ensures) ∙ c .if1 .left
+
+inside : (c : tie.Else2) → let a = c .before .before .before .before .before .before .args in ltb (a .row) (a .s .rows) ≡ true
+inside c = lt-ltb _ _ (c .if2 .left)
+
+held : (c : tie.Else3) → hold-allowed (c .before .before .before .before .before .before .before .before .args .hold) ≡ true
+held c = sym (c .before .hold-allowed .ensures) ∙ not-false _ (c .if3 .left)
+
+allowed : (c : tie.Else4) → remap-allowed (c .before .before .before .before .before .before .before .before .before .before .args .remap) ≡ true
+allowed c = sym (c .before .remap-allowed .ensures) ∙ not-false _ (c .if4 .left)
+
+sound : (c : tie.Else5) → let a = c .before .before .before .before .before .before .before .before .before .before .before .before .args in valid (a .s) (given (a .rows .now) (a .counts .now) (a .p)) ≡ true
+unfolding given
+sound c = sym (c .before .valid-state .ensures) ∙ not-false _ (c .if5 .left)
 
 returns : tie.Need-returns
 unfolding given
@@ -22,88 +45,65 @@ returns c =
 returns-2 : tie.Need-returns-2
 unfolding given refuse
 returns-2 c =
-    let a = c .before .before .before .before .before .before .args in
-    let k = c .before .before .before .tables-refusal in
-    rw (activation-tested (a .s) (a .remap) (given (a .rows .now) (a .counts .now) (a .p)) (a .row) (a .hold), or-later-zero _ _ (sym (k .ensures) ∙ c .before .before .if1 .left), le-ltb (a .row) (a .s .rows) (c .if2 .taken))
+    let c1 = c .before .before in
+    let a = c1 .before .before .before .before .args in
+    rw (activation-tested (a .s) (a .remap) (given (a .rows .now) (a .counts .now) (a .p)) (a .row) (a .hold), or-later-zero _ _ (tables c1), le-ltb (a .row) (a .s .rows) (c .if2 .taken))
 
 returns-3 : tie.Need-returns-3
 unfolding given refuse
 returns-3 c =
-    let a = c .before .before .before .before .before .before .before .before .args in
-    let k = c .before .before .before .before .before .tables-refusal in
-    rw (
-      activation-tested (a .s) (a .remap) (given (a .rows .now) (a .counts .now) (a .p)) (a .row) (a .hold),
-      or-later-zero _ _ (sym (k .ensures) ∙ c .before .before .before .before .if1 .left),
-      lt-ltb (a .row) (a .s .rows) (c .before .before .if2 .left),
-      sym (c .before .hold-allowed .ensures) ∙ not-true _ (c .if3 .taken),
-    )
+    let c2 = c .before .before in
+    let c1 = c2 .before .before in
+    let a = c1 .before .before .before .before .args in
+    rw (activation-tested (a .s) (a .remap) (given (a .rows .now) (a .counts .now) (a .p)) (a .row) (a .hold), or-later-zero _ _ (tables c1), inside c2, sym (c .before .hold-allowed .ensures) ∙ not-true _ (c .if3 .taken))
 
 returns-4 : tie.Need-returns-4
 unfolding given refuse
 returns-4 c =
-    let b = c .before .before in
-    let a = b .before .before .before .before .before .before .before .before .args in
-    let k = b .before .before .before .before .before .tables-refusal in
-    rw (
-      activation-tested (a .s) (a .remap) (given (a .rows .now) (a .counts .now) (a .p)) (a .row) (a .hold),
-      or-later-zero _ _ (sym (k .ensures) ∙ b .before .before .before .before .if1 .left),
-      lt-ltb (a .row) (a .s .rows) (b .before .before .if2 .left),
-      sym (b .before .hold-allowed .ensures) ∙ not-false _ (b .if3 .left),
-      sym (c .before .remap-allowed .ensures) ∙ not-true _ (c .if4 .taken),
-    )
+    let c3 = c .before .before in
+    let c2 = c3 .before .before in
+    let c1 = c2 .before .before in
+    let a = c1 .before .before .before .before .args in
+    rw (activation-tested (a .s) (a .remap) (given (a .rows .now) (a .counts .now) (a .p)) (a .row) (a .hold), or-later-zero _ _ (tables c1), inside c2, held c3, sym (c .before .remap-allowed .ensures) ∙ not-true _ (c .if4 .taken))
 
 valid-state-requires : tie.Need-valid-state-requires
 valid-state-requires c κs =
-    let a = c .before .before .before .before .before .before .before .before .before .before .args in
-    let k = c .before .before .before .before .before .before .before .tables-refusal in
-    let o = open-tables (a .s) (a .rows .now) (a .counts .now) (sym (k .ensures) ∙ c .before .before .before .before .before .before .if1 .left) in
+    let c1 = c .before .before .before .before .before .before in
+    let a = c1 .before .before .before .before .args in
+    let o = open-tables (a .s) (a .rows .now) (a .counts .now) (tables c1) in
     (o .rows-long, o .counts-long)
 
 returns-5 : tie.Need-returns-5
 unfolding given refuse
 returns-5 c =
-    let d = c .before .before in
-    let b = d .before .before in
-    let a = b .before .before .before .before .before .before .before .before .args in
-    let k = b .before .before .before .before .before .tables-refusal in
-    rw (
-      activation-tested (a .s) (a .remap) (given (a .rows .now) (a .counts .now) (a .p)) (a .row) (a .hold),
-      or-later-zero _ _ (sym (k .ensures) ∙ b .before .before .before .before .if1 .left),
-      lt-ltb (a .row) (a .s .rows) (b .before .before .if2 .left),
-      sym (b .before .hold-allowed .ensures) ∙ not-false _ (b .if3 .left),
-      sym (d .before .remap-allowed .ensures) ∙ not-false _ (d .if4 .left),
-      sym (c .before .valid-state .ensures) ∙ not-true _ (c .if5 .taken),
-    )
+    let c4 = c .before .before in
+    let c3 = c4 .before .before in
+    let c2 = c3 .before .before in
+    let c1 = c2 .before .before in
+    let a = c1 .before .before .before .before .args in
+    rw (activation-tested (a .s) (a .remap) (given (a .rows .now) (a .counts .now) (a .p)) (a .row) (a .hold), or-later-zero _ _ (tables c1), inside c2, held c3, allowed c4, sym (c .before .valid-state .ensures) ∙ not-true _ (c .if5 .taken))
 
 add-refuse-unless : tie.Need-add-refuse-unless
 unfolding given
 add-refuse-unless c =
-    let d = c .before .before .before in
-    let b = d .before .before in
-    let a = b .before .before .before .before .before .before .before .before .args in
-    let k = b .before .before .before .before .before .tables-refusal in
-    let o = open-tables (a .s) (a .rows .now) (a .counts .now) (sym (k .ensures) ∙ b .before .before .before .before .if1 .left) in
-    let facts = valid-facts (a .s) (given (a .rows .now) (a .counts .now) (a .p)) (o .long) (sym (c .before .before .valid-state .ensures) ∙ not-false _ (c .before .if5 .left)) in
-    let units = hold-between (a .hold) (sym (b .before .hold-allowed .ensures) ∙ not-false _ (b .if3 .left)) in
-    omega (arith, facts .within, accepted-settings (a .s) (o .settled) .others .interval .most, units .most)
+    let c5 = c .before in
+    let c3 = c5 .before .before .before .before in
+    let c1 = c3 .before .before .before .before in
+    let a = c1 .before .before .before .before .args in
+    let o = open-tables (a .s) (a .rows .now) (a .counts .now) (tables c1) in
+    let facts = valid-facts (a .s) (given (a .rows .now) (a .counts .now) (a .p)) (o .long) (sound c5) in
+    omega (arith, facts .within, accepted-settings (a .s) (o .settled) .others .interval .most, hold-between (a .hold) (held c3) .most)
 
 returns-6 : tie.Need-returns-6
 unfolding given refuse
 returns-6 c =
-    let e = c .before .before .before in
-    let d = e .before .before in
-    let b = d .before .before in
-    let a = b .before .before .before .before .before .before .before .before .args in
-    let k = b .before .before .before .before .before .tables-refusal in
-    rw (
-      activation-tested (a .s) (a .remap) (given (a .rows .now) (a .counts .now) (a .p)) (a .row) (a .hold),
-      or-later-zero _ _ (sym (k .ensures) ∙ b .before .before .before .before .if1 .left),
-      lt-ltb (a .row) (a .s .rows) (b .before .before .if2 .left),
-      sym (b .before .hold-allowed .ensures) ∙ not-false _ (b .if3 .left),
-      sym (d .before .remap-allowed .ensures) ∙ not-false _ (d .if4 .left),
-      sym (e .before .valid-state .ensures) ∙ not-false _ (e .if5 .left),
-    )
-    (c .refuse-unless .ensures)
+    let c5 = c .before .before .before in
+    let c4 = c5 .before .before in
+    let c3 = c4 .before .before in
+    let c2 = c3 .before .before in
+    let c1 = c2 .before .before in
+    let a = c1 .before .before .before .before .args in
+    rw (activation-tested (a .s) (a .remap) (given (a .rows .now) (a .counts .now) (a .p)) (a .row) (a .hold), or-later-zero _ _ (tables c1), inside c2, held c3, allowed c4, sound c5) (c .refuse-unless .ensures)
 
 pub activation-refusal-spec : {M : Type 1} → statement M
 activation-refusal-spec =
