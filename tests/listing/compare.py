@@ -4,10 +4,10 @@
     python3 tests/listing/compare.py [--seed N] [--program COMMAND]
 
 Builds the model, then compares on document 01's example (example.*), on edges with a listing
-written by hand (edges.*, subarrays.*, large.*, remaps.*, loaded.*, holds.*, hold_forms.*), on traces
-with the listings that are kept (kept/), and on random traces (traces.py), with one fixed and one
-fresh seed (--seed repeats a fresh one). Traces come from a file, through a pipe, or in small pieces
-through a pipe.
+written by hand (edges.*, subarrays.*, large.*, remaps.*, loaded.*, holds.*, hold_forms.*, aids.*),
+on traces with the listings that are kept (kept/), and on random traces (traces.py and aids.py), with
+one fixed and one fresh seed (--seed repeats a fresh one). Traces come from a file, through a pipe, or
+in small pieces through a pipe.
 What differs stays in target/listing/.
 Exit status: 0 all equal; 1 a difference; 2 something is missing or cannot be built.
 """
@@ -15,6 +15,7 @@ Exit status: 0 all equal; 1 a difference; 2 something is missing or cannot be bu
 import argparse
 import collections
 import glob
+import itertools
 import os
 import pathlib
 import random
@@ -23,6 +24,7 @@ import sys
 
 sys.dont_write_bytecode = True
 sys.path.insert(0, str(pathlib.Path(__file__).resolve().parents[1]))
+from aids import AID_KINDS, aid_traces
 from comparison import (
     BUILD_MODEL, FIXED_SEED, MODEL, ROOT, Tally, arguments_with_seeds, build, give_up,
 )
@@ -40,7 +42,7 @@ HERE = "tests/listing"
 OUT = "target/listing"
 MODEL_LISTING = [MODEL, "listing"]
 
-WRITTEN = ("example", "edges", "subarrays", "large", "remaps", "loaded", "holds", "hold_forms")
+WRITTEN = ("example", "edges", "subarrays", "large", "remaps", "loaded", "holds", "hold_forms", "aids")
 KEPT = ("smallest_bank", "bank_of_1040", "bank_of_65520", "bank_of_65536", "many_counters",
         "refused_lines", "almost_good_lines", "long_lines_cut_off")
 
@@ -80,7 +82,7 @@ def compare(tally, kinds, command, seed, name):
     tally.begin(f"{name}: random traces")
     rng = random.Random(seed)
     count = 0
-    for kind, text in random_traces(rng):
+    for kind, text in itertools.chain(random_traces(rng), aid_traces(rng)):
         feed = rng.choice((from_file, through_pipe))
         count += 1
         compare_one(tally, kinds, command, feed, f"{name} {count} ({kind})", text, kind)
@@ -115,7 +117,7 @@ def line_kinds(listing):
 
 
 EXPECTED_KINDS = (
-    *KINDS, "in pieces", *LONG, "bound",
+    *KINDS, *AID_KINDS, "in pieces", *LONG, "bound",
     *(f"event with {picked} picked rows" for picked in range(17)),
     *(f"line refused with {number}" for number in REFUSALS),
 )
