@@ -3,28 +3,27 @@
 
     python3 bench/rowlist.py [--rounds N]
 
-The traces are those of traces.py: one whole window each. Both programs read the trace from a file
-and write to a file; the listings have to be equal. Of several rounds the least time counts.
+The traces are those of traces.py: one whole window each, which a DRAM has 64 ms for, and the last column
+is these over rowlist's time. Both programs read the trace from a file and write to a file; the listings
+have to be equal. Of several rounds the least time counts.
 """
 
-import subprocess
 import sys
 
 sys.dont_write_bytecode = True
-from against_plain import ROOT, TRACES, build_plain, print_ratio, rounds_asked
+import traces
+from against_plain import TRACES, build_plain, least_times, rounds_asked
 
-PATTERNS = ("uniform", "hot", "feinting", "remapped", "held")
-COUNTERS = (64, 677, 2_048)
+WINDOW_TIME = 0.064  # seconds
 
 
 def main():
     rounds = rounds_asked("rowlist's time over a plain program's.", 3)
     build_plain("rowlist")
-    subprocess.run([sys.executable, ROOT / "bench/traces.py"], stdout=subprocess.DEVNULL, check=True)
-    print("trace           rowlist / plain")
-    for pattern in PATTERNS:
-        for counters in COUNTERS:
-            print_ratio(f"{pattern} {counters}", "rowlist", TRACES / f"{pattern}-{counters}.trace", rounds)
+    print("trace                   rowlist / plain   rowlist    64 ms / rowlist")
+    for title, trace in traces.write_all(TRACES):
+        ours, plain = least_times("rowlist", trace, rounds)
+        print(f"{title:<24}{ours / plain:15.2f}{ours:8.3f} s{WINDOW_TIME / ours:19.2f}", flush=True)
 
 
 if __name__ == "__main__":

@@ -22,8 +22,8 @@ def write_traces():
     TRACES.mkdir(parents=True, exist_ok=True)
     spelled, respelled = TRACES / "uniform-677.trace", TRACES / "uniform-677-respelled.trace"
     held = TRACES / "held-677.trace"
-    traces.write(spelled, traces.uniform, blast_diameter=2, volume=2, counters=677)
-    traces.write(held, traces.held, blast_diameter=2, volume=2, counters=677)
+    traces.write(spelled, traces.uniform, counters=677)
+    traces.write(held, traces.held, counters=677)
     rng = random.Random(1)
     with open(spelled) as source, open(respelled, "w") as sink:
         for line in source:

@@ -1,11 +1,12 @@
 #!/usr/bin/env python3
 """Writes traces of one whole window for measurements: 8,192 intervals of 166 activations each.
 
-    python3 bench/traces.py [--folder FOLDER] [--blast-diameter B] [--volume V]
+    python3 bench/traces.py [--folder FOLDER]
 
-Writes PATTERN-COUNTERS.trace for each pattern of rows (uniform, hot, feinting, remapped, which is hot
-with a remap loaded, and held, which is hot with holds) and for 64, 677 and 2,048 counters, about 11 MB
-each and with holds 2 MB, into target/traces/ unless told otherwise. They are the same every time.
+The patterns of rows are uniform, hot, feinting, remapped, which is hot with a remap loaded, and held, which
+is hot with holds. Each is written for 64, 677 and 2,048 counters, in a bank of 65,536 rows with a blast
+diameter of 2 and a volume of 2, and some with 677 counters and one of these changed: about 11 MB each and
+with holds 2 MB, into target/traces/ unless told otherwise. They are the same every time.
 """
 
 import argparse
@@ -14,8 +15,7 @@ import itertools
 import pathlib
 import random
 
-ROWS, INTERVAL, WINDOW, BLOCK = 65_536, 166, 8_192, 8
-COUNTERS = (64, 677, 2_048)
+INTERVAL, WINDOW = 166, 8_192
 HOT_ROWS = 64
 LONGEST_HOLD = 16
 
@@ -28,25 +28,25 @@ def remap(row):
 # Patterns: the logical rows of each interval, with their holds where a pattern has holds
 
 
-def uniform(rng, *_):
+def uniform(rng, rows, *_):
     while True:
-        yield [rng.randrange(ROWS) for _ in range(INTERVAL)]
+        yield [rng.randrange(rows) for _ in range(INTERVAL)]
 
 
-def hot(rng, *_):
+def hot(rng, rows, *_):
     """Nine activations of ten go to a few rows."""
-    hot_rows = [rng.randrange(ROWS) for _ in range(HOT_ROWS)]
+    hot_rows = [rng.randrange(rows) for _ in range(HOT_ROWS)]
     while True:
-        yield [rng.choice(hot_rows) if rng.random() < 0.9 else rng.randrange(ROWS)
+        yield [rng.choice(hot_rows) if rng.random() < 0.9 else rng.randrange(rows)
                for _ in range(INTERVAL)]
 
 
-def feinting(_, blast_diameter, volume, counters):
+def feinting(_, rows, blast_diameter, volume, counters):
     """The attack FEINTING-Ghost of source document 000: as many decoys as the remaining events
     cannot all refresh, one more than the counters at most, are disturbed in unison. Each
     aggressor has its own victims; the one activated last is given up at the event, and as long
     as the counters limit the decoys another takes its place."""
-    apart = range(blast_diameter // 2, ROWS, blast_diameter + 1)
+    apart = range(blast_diameter // 2, rows, blast_diameter + 1)
     fresh = itertools.cycle(remap(row) for row in apart)
     aggressors = collections.deque()  # the least activated first
     for event in range(WINDOW):
@@ -56,33 +56,32 @@ def feinting(_, blast_diameter, volume, counters):
             aggressors.pop()
         while len(aggressors) < wanted:
             aggressors.appendleft(next(fresh))
-        rows = []
+        activated = []
         for _ in range(INTERVAL):
-            rows.append(aggressors[0])
+            activated.append(aggressors[0])
             aggressors.rotate(-1)
-        yield rows
+        yield activated
         if decoys > counters and len(aggressors) > 1:
             for _ in range(max(1, volume // blast_diameter)):
                 aggressors.pop()
 
 
-def remapped(rng, *_):
-    return hot(rng)
+def remapped(rng, rows, *_):
+    return hot(rng, rows)
 
 
-def held(rng, *_):
+def held(rng, rows, *_):
     """The units of each interval's holds are as many as it takes."""
-    rows = itertools.chain.from_iterable(hot(rng))
+    activated = itertools.chain.from_iterable(hot(rng, rows))
     while True:
         activations, left = [], INTERVAL
         while left > 0:
             hold = min(left, rng.randint(1, LONGEST_HOLD))
-            activations.append((next(rows), hold))
+            activations.append((next(activated), hold))
             left -= hold
         yield activations
 
 
-PATTERNS = (uniform, hot, feinting, remapped, held)
 LOADED = {remapped: (11, 4, 14, 0, 9, 2, 7, 13, 5, 15, 1, 8, 12, 6, 3, 10)}
 
 
@@ -90,9 +89,9 @@ def activation_line(row, hold=1):
     return f"A{row:6}\n" if hold == 1 else f"H{row:6}{hold:6}\n"
 
 
-def write(path, pattern, blast_diameter, volume, counters):
-    settings = (ROWS, blast_diameter, volume, counters, INTERVAL, WINDOW, BLOCK)
-    intervals = pattern(random.Random(1), blast_diameter, volume, counters)
+def write(path, pattern, counters, rows=65_536, blast_diameter=2, volume=2):
+    settings = (rows, blast_diameter, volume, counters, INTERVAL, WINDOW, rows // WINDOW)
+    intervals = pattern(random.Random(1), rows, blast_diameter, volume, counters)
     with open(path, "w") as file:
         if pattern in LOADED:
             file.write("F" + "".join(f"{number:6}" for number in LOADED[pattern]) + "\n")
@@ -103,19 +102,33 @@ def write(path, pattern, blast_diameter, volume, counters):
             file.write("".join(lines) + "R\n")
 
 
+# All traces
+
+KINDS = (  # what a title ends in, the counters, other settings that are changed, and the patterns
+    ("", (64, 677, 2_048), {}, (uniform, hot, feinting, remapped, held)),
+    (" B=4", (677,), {"blast_diameter": 4}, (hot, feinting, held)),
+    (" V=16", (677,), {"volume": 16}, (hot, feinting, held)),
+    (" N=262144", (677,), {"rows": 262_144}, (uniform, hot, held)),
+)
+
+
+def write_all(folder):
+    """Pairs of a title and the path of a trace, each when it is written."""
+    folder.mkdir(parents=True, exist_ok=True)
+    for ending, counters, changes, patterns in KINDS:
+        for pattern, number in itertools.product(patterns, counters):
+            title = f"{pattern.__name__} {number}{ending}"
+            path = folder / f"{title.replace(' ', '-')}.trace"
+            write(path, pattern, number, **changes)
+            yield title, path
+
+
 def main():
     root = pathlib.Path(__file__).resolve().parents[1]
     parser = argparse.ArgumentParser(description="Writes traces of one whole window.")
     parser.add_argument("--folder", type=pathlib.Path, default=root / "target/traces")
-    parser.add_argument("--blast-diameter", type=int, default=2, choices=(2, 4))
-    parser.add_argument("--volume", type=int, default=2)
-    arguments = parser.parse_args()
-    arguments.folder.mkdir(parents=True, exist_ok=True)
-    for pattern in PATTERNS:
-        for counters in COUNTERS:
-            path = arguments.folder / f"{pattern.__name__}-{counters}.trace"
-            write(path, pattern, arguments.blast_diameter, arguments.volume, counters)
-            print(path)
+    for _, path in write_all(parser.parse_args().folder):
+        print(path)
 
 
 if __name__ == "__main__":
