@@ -1,0 +1,3 @@
+-- Laws of specs/Dense.antt.
+pub mod EntriesFrom
+pub mod Kept
