@@ -19,7 +19,7 @@ each-append counters [] ys s = refl
 each-append counters (x ∷ xs) ys s = each-append counters xs ys (disturb counters x s)
 
 -- the row behind the highest within reach in a subarray, where the bank may end before it
-behind-top : (row reach end rows : ℕ) {high top : ℕ} → 0 < end → top ≡ min (row + reach) (end - 1) → high ≡ min (top + 1) rows → high ≡ min (row + 1 + reach) (min end rows)
+pub behind-top : (row reach end rows : ℕ) {high top : ℕ} → 0 < end → top ≡ min (row + reach) (end - 1) → high ≡ min (top + 1) rows → high ≡ min (row + 1 + reach) (min end rows)
 behind-top row reach end rows some et eh = omega arith
 
 -- the victims of a row: those below it, from the lowest within its subarray on, then those above it, up to the highest there that the bank has

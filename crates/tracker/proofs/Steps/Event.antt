@@ -31,11 +31,11 @@ unfolding empty table rows-of counts-of
 holds-empty places er ec =
     record { rows-laid = rw (er, sub-zero places); counts-laid = rw (ec, sub-zero places); tracked-is = refl; spillover-is = refl; sound = sound-empty }
 
-room-taken-out : {most : ℕ} (volume : ℕ) (block : List ℕ) {sum : Summary} → Room most sum → Room most (taken-out volume block sum)
+pub room-taken-out : {most : ℕ} (volume : ℕ) (block : List ℕ) {sum : Summary} → Room most sum → Room most (taken-out volume block sum)
 unfolding taken-out
 room-taken-out volume block {sum} r = room-drop (picked volume sum ++ block) r
 
-room-cleared : {most : ℕ} (last : Bool) {sum : Summary} → Room most sum → Room most (cleared-if last sum)
+pub room-cleared : {most : ℕ} (last : Bool) {sum : Summary} → Room most sum → Room most (cleared-if last sum)
 unfolding cleared-if empty
 room-cleared true r = record { counts = bare; spillover-le = omega arith }
 room-cleared false r = r

@@ -53,12 +53,12 @@ spreading-again {places} {victims-of} row l few x =
     }
 
 -- a row that is listed is passed over
-besides-one : (names : List ℕ) (row : ℕ) (rest : List ℕ) (counters : ℕ) (victims-of : ℕ → List ℕ) (sum : Summary) → spread counters victims-of (besides names (row ∷ rest)) sum ≡ spread counters victims-of (besides names rest) (spread counters victims-of (besides names (row ∷ [])) sum)
+pub besides-one : (names : List ℕ) (row : ℕ) (rest : List ℕ) (counters : ℕ) (victims-of : ℕ → List ℕ) (sum : Summary) → spread counters victims-of (besides names (row ∷ rest)) sum ≡ spread counters victims-of (besides names rest) (spread counters victims-of (besides names (row ∷ [])) sum)
 unfolding besides spread
 besides-one names row rest counters victims-of sum =
     split (in-rows row names) (λ on. rw on) (λ off. rw off)
 
-room-besides : (names : List ℕ) (row counters : ℕ) (victims-of : ℕ → List ℕ) (sum : Summary) {most : ℕ} → Room most sum → length (victims-of row) ≤ 4 → Room (most + 4) (spread counters victims-of (besides names (row ∷ [])) sum)
+pub room-besides : (names : List ℕ) (row counters : ℕ) (victims-of : ℕ → List ℕ) (sum : Summary) {most : ℕ} → Room most sum → length (victims-of row) ≤ 4 → Room (most + 4) (spread counters victims-of (besides names (row ∷ [])) sum)
 unfolding besides spread
 room-besides names row counters victims-of sum r few =
     split (in-rows row names)

@@ -18,7 +18,7 @@ use Rattle.summary.proofs.Rules.Room.{room-more, room-drop, room-each}
 use Rattle.summary.proofs.Steps.Untracked.{Others, untracked-each, untracked-dropped, drop-untracked}
 
 -- a step that raises no count, and not the spillover, by more than a few
-room-repeated : (step : Summary → Summary) (few : ℕ) → ((most : ℕ) (x : Summary) → Room most x → Room (most + few) (step x)) → {most : ℕ} (units : ℕ) (sum : Summary) → Room most sum → Room (most + few * units) (repeated units step sum)
+pub room-repeated : (step : Summary → Summary) (few : ℕ) → ((most : ℕ) (x : Summary) → Room most x → Room (most + few) (step x)) → {most : ℕ} (units : ℕ) (sum : Summary) → Room most sum → Room (most + few * units) (repeated units step sum)
 unfolding repeated
 room-repeated step few each zero sum r = room-more r (omega arith)
 room-repeated step few each {most} (suc units) sum r =

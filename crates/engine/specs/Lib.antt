@@ -1,0 +1,1 @@
+-- The tracker's steps on a summary in one table have no definitions of their own: they are the summary's.
