@@ -8,7 +8,7 @@ ghost use lib.Seq.{slice};
 ghost use Rattle.trace.specs.Numbers.{digits, field, fields, digit-or-blank, printed, written};
 ghost use Rattle.trace.specs.Lines.{extent};
 ghost use Rattle.trace.specs.Records.{as-settings, as-sixteen, sixteen-of, settings, remap, activation, held-activation, refresh};
-ghost use Rattle.trace.specs.Contracts.{found, found-all, ends-after, line-fields, Copies-front};
+ghost use Rattle.trace.specs.Contracts.{found, number-found, found-all, ends-after, line-fields, Activates, Copies-front};
 ghost use Rattle.trace.specs.Reading.{said, reading, reading-by, Handed-on};
 ghost use Rattle.trace.specs.Texts.{kept-bytes};
 ghost use Rattle.trace.specs.Output.{number-columns, refusal-line, Prints-into};
@@ -21,6 +21,9 @@ const KEPT: usize = 128;
 
 // Line numbers are printed modulo this.
 pub const LINES: u64 = 10_000_000_000;
+
+// No 6 columns hold this number: it stands for none.
+const NO_NUMBER: u32 = 4_294_967_295;
 
 // What some columns hold.
 pub enum Field {
@@ -103,30 +106,30 @@ fn ends_after(text: &[u8], at: usize, width: usize) -> bool
 }
 
 // The digits from a place to an end.
-fn read_digits(text: &[u8], from: usize, end: usize) -> Field
+fn read_digits(text: &[u8], from: usize, end: usize) -> u32
     requires { ⌜ (from ≤ end) × (end ≤ from + 6) × (end ≤ length (now text)) ⌝ }
-    ensures { λ r. ⌜ found r ≡ digits 0 (slice from end (now (text .entry))) ⌝ }
+    ensures { λ r. ⌜ number-found r ≡ digits 0 (slice from end (now (text .entry))) ⌝ }
 {
     let mut n: u32 = 0;
     let mut i = from;
     while i < end {
         let b = text[i];
         if b < b'0' {
-            return Field::Other;
+            return NO_NUMBER;
         }
         if b'9' < b {
-            return Field::Other;
+            return NO_NUMBER;
         }
         n = n * 10 + (b - b'0') as u32;
         i += 1;
     }
-    Field::Number(n)
+    n
 }
 
 // The number in the 6 columns from a place on: blanks, then digits.
-fn read_field(text: &[u8], from: usize) -> Field
+fn read_padded(text: &[u8], from: usize) -> u32
     requires { ⌜ from + 6 ≤ length (now text) ⌝ }
-    ensures { λ r. ⌜ found r ≡ field from (now (text .entry)) ⌝ }
+    ensures { λ r. ⌜ number-found r ≡ field from (now (text .entry)) ⌝ }
 {
     let end = from + COLUMNS;
     let mut i = from;
@@ -136,7 +139,45 @@ fn read_field(text: &[u8], from: usize) -> Field
         }
         i += 1;
     }
-    Field::Other
+    NO_NUMBER
+}
+
+// The same; a number of four or five digits, as most rows are, without a loop over the blanks.
+fn read_number(text: &[u8], from: usize) -> u32
+    requires { ⌜ from + 6 ≤ length (now text) ⌝ }
+    ensures { λ r. ⌜ number-found r ≡ field from (now (text .entry)) ⌝ }
+{
+    let low = read_digits(text, from + 2, from + COLUMNS);
+    if low == NO_NUMBER {
+        return read_padded(text, from);
+    }
+    if text[from] != b' ' {
+        return read_padded(text, from);
+    }
+    let b = text[from + 1];
+    if b == b' ' {
+        return low;
+    }
+    if b < b'0' {
+        return NO_NUMBER;
+    }
+    if b'9' < b {
+        return NO_NUMBER;
+    }
+    (b - b'0') as u32 * 10000 + low
+}
+
+// The same as an enum.
+fn read_field(text: &[u8], from: usize) -> Field
+    requires { ⌜ from + 6 ≤ length (now text) ⌝ }
+    ensures { λ r. ⌜ found r ≡ field from (now (text .entry)) ⌝ }
+{
+    let n = read_number(text, from);
+    if n == NO_NUMBER {
+        Field::Other
+    } else {
+        Field::Number(n)
+    }
 }
 
 // The numbers in so many fields from a place on.
@@ -296,6 +337,24 @@ fn read_refresh(text: &[u8], at: usize) -> Read
     } else {
         Read::Refused(line_end(text, at))
     }
+}
+
+// The row of an activation line of one unit that stands at a place, or a number that is no row where another line stands there: a caller that wants
+// nothing but such lines makes no record of them.
+pub fn activation_row(text: &[u8], place: usize) -> u32
+    requires { ⌜ place ≤ length (now text) ⌝ }
+    ensures { λ r. ⌜ Activates (now (text .entry)) place r ⌝ }
+{
+    if text.len() - place < 8 {
+        return NO_NUMBER;
+    }
+    if text[place] != b'A' {
+        return NO_NUMBER;
+    }
+    if text[place + 7] != b'\n' {
+        return NO_NUMBER;
+    }
+    read_number(text, place + 1)
 }
 
 // The line at a place of the text.

@@ -1,8 +1,8 @@
 -- Digits in columns: a number column by column, how large it gets, and that it holds no byte 10.
-use mathlib.Core.Path.{_≡_, refl, sym}
+use mathlib.Core.Path.{_≡_, refl, ap}
 use mathlib.Core.Bool.{true, false}
 use mathlib.Core.List.{List, [], _∷_}
-use mathlib.Core.Option.{none, some}
+use mathlib.Core.Option.{none, some, Option·some-injective}
 use Prim.Native.Nat.{ℕ, zero, suc, _+_, _-_, _*_, _^_, _≤_, _<_}
 use native.Mathlib.Nat.{zero-add, suc-add, pow-suc, pow-le-pow-right, one-le-pow, mul-le-mul-left, mul-le-mul-right}
 use native.Mathlib.Numerals.{add-one}
@@ -11,7 +11,7 @@ use borrow.Author.Tests.{eqb-true, eq-eqb, ne-eqb, leb-true, le-leb, lt-leb}
 use lib.Dec.{eqb, leb}
 use lib.ListN.{length, getD, take, drop}
 use lib.Seq.{slice, slice-cons, slice-empty, take-nil}
-use Rattle.laws.proofs.Cases.{split, clash, missing, cond-test, cond-some}
+use Rattle.laws.proofs.Cases.{split, missing, and-both, cond-test, cond-some}
 use Rattle.trace.specs.Lines.{ended}
 use Rattle.trace.specs.Numbers.{is-digit, digits, number}
 
@@ -26,6 +26,18 @@ is-digit-above b h = split (leb 48 b) (λ e. rw (e, lt-leb _ _ h)) (λ e. rw e)
 pub is-digit-within : (b : ℕ) → 48 ≤ b → b ≤ 57 → is-digit b ≡ true
 unfolding is-digit
 is-digit-within b h k = rw (le-leb _ _ h, le-leb _ _ k)
+
+-- a digit's byte lies from that of 0 to that of 9
+is-digit-range : (b : ℕ) → is-digit b ≡ true → (48 ≤ b) × (b ≤ 57)
+unfolding is-digit
+is-digit-range b h = let both = and-both (leb 48 b) (leb b 57) h in (leb-true 48 b (both .0), leb-true b 57 (both .1))
+
+-- digits that were found begin with a digit, so not with a blank
+number-of-digits : (m b : ℕ) (bytes : List ℕ) → digits 0 (b ∷ bytes) ≡ some m → number (b ∷ bytes) ≡ some m
+unfolding digits number
+number-of-digits m b bytes h =
+    let least = is-digit-range b (cond-test (is-digit b) (digits (0 * 10 + (b - 48)) bytes) m h) .0 in
+    rw (ne-eqb b 32 (λ w. absurd (omega arith))) h
 
 module _ (text : List ℕ) (i end : ℕ) (h : i < end) (fits : end ≤ length text) where
   pub digits-other : (n : ℕ) → is-digit (getD text i 0) ≡ false → digits n (slice i end text) ≡ none
@@ -43,6 +55,9 @@ module _ (text : List ℕ) (i end : ℕ) (h : i < end) (fits : end ≤ length te
   pub number-not-blank : (getD text i 0 ≡ 32 → ⊥) → number (slice i end text) ≡ digits 0 (slice i end text)
   unfolding number
   number-not-blank e = rw (slice-cons i end text 0 h fits, ne-eqb _ _ e)
+
+  pub number-digits : (m : ℕ) → digits 0 (slice i end text) ≡ some m → number (slice i end text) ≡ some m
+  number-digits m e = rw (slice-cons i end text 0 h fits) (number-of-digits m _ _ (rw (slice-cons i end text 0 h fits) at e))
 
 pub digits-empty : (n end : ℕ) (text : List ℕ) → digits n (slice end end text) ≡ some n
 unfolding digits
@@ -74,13 +89,29 @@ room-digit n d k r h =
     let le : (n * 10 + d + 1) * 10 ^ k ≤ (n * 10 + 10) * 10 ^ k = mul-le-mul-right (10 ^ k) (omega arith) in
     record { room = omega (arith, le, rw one-more at (r .room)) }
 
+-- digits with room for them stay below 1,000,000
+pub digits-lt : (m n : ℕ) (bytes : List ℕ) → Room n (length bytes) → digits n bytes ≡ some m → m < 1000000
+unfolding digits
+digits-lt m n [] r h = rw (Option·some-injective n m h) at (room-lt n 0 r)
+digits-lt m n (b ∷ bytes) r h =
+    let rest = digits (n * 10 + (b - 48)) bytes in
+    let range = is-digit-range b (cond-test (is-digit b) rest m h) in
+    digits-lt m (n * 10 + (b - 48)) bytes (room-digit n (b - 48) (length bytes) r (omega (arith, range .1))) (cond-some (is-digit b) rest m h)
+
+-- behind n more, they make n times a power of 10 more
+pub digits-behind : (n k m : ℕ) (bytes : List ℕ) → digits k bytes ≡ some m → digits (n + k) bytes ≡ some (n * 10 ^ length bytes + m)
+unfolding digits
+digits-behind n k m [] h = let same = Option·some-injective k m h in ap some (omega arith)
+digits-behind n k m (b ∷ bytes) h =
+    let rest = digits (k * 10 + (b - 48)) bytes in
+    let front : (n + k) * 10 + (b - 48) ≡ n * 10 + (k * 10 + (b - 48)) = omega arith in
+    let power : n * (10 ^ length bytes * 10) + m ≡ n * 10 * 10 ^ length bytes + m = omega arith in
+    rw (cond-test (is-digit b) rest m h, front, pow-suc 10 (length bytes), power)
+    (digits-behind (n * 10) (k * 10 + (b - 48)) m bytes (cond-some (is-digit b) rest m h))
+
 -- a number's columns hold no byte 10
 is-digit-not-end : (b : ℕ) → is-digit b ≡ true → eqb b 10 ≡ false
-unfolding is-digit
-is-digit-not-end b h =
-    split (leb 48 b)
-    (λ e. let least = leb-true 48 b e in ne-eqb b 10 (λ w. absurd (omega arith)))
-    (λ e. clash (sym (rw e at h)))
+is-digit-not-end b h = let least = is-digit-range b h .0 in ne-eqb b 10 (λ w. absurd (omega arith))
 
 ended-digits : (m n : ℕ) (bytes : List ℕ) → digits n bytes ≡ some m → ended bytes ≡ false
 unfolding digits ended

@@ -1,13 +1,13 @@
 -- `trace::read_digits` meets its contract. The invariant: the digits from i on, behind n, make what all of them make; and n leaves room for them.
 use mathlib.Core.Path.{_≡_, refl, sym, _∙_}
 use mathlib.Core.List.{List}
-use mathlib.Core.Option.{some}
 use Prim.Native.Nat.{ℕ, suc, _+_, _-_, _*_, _≤_, _<_}
 use native.Mathlib.Omega.{arith}
 use lib.ListN.{length, getD}
 use lib.Seq.{slice}
-use Rattle.trace.specs.Contracts.{found}
+use Rattle.trace.specs.Contracts.{number-found}
 use Rattle.trace.specs.Numbers.{digits}
+use Rattle.trace.proofs.Contracts.{number-found-none, number-found-some}
 use Rattle.trace.proofs.Numbers.Digits.{is-digit-below, is-digit-above, is-digit-within, digits-other, digits-digit, digits-empty, Room, room-zero, room-lt, room-digit}
 use Rattle.trace.proofs.read_digits.Statement.{statement}
 use Rattle.trace.proofs.read_digits.Tie as tie
@@ -36,25 +36,27 @@ again {text} {from} {end} {n} {i} l h fits low high =
       room = room-digit n (getD text i 0 - 48) (end - (i + 1)) (rw one-more at (l .room)) (omega arith);
     }
 
-done : {text : List ℕ} {from end n i : ℕ} → Left text from end n i → i ≡ end → some n ≡ digits 0 (slice from end text)
-done {text} {from} {end} {n} {i} l h = sym (digits-empty n end text) ∙ rw h at (l .same)
+done : {text : List ℕ} {from end n i : ℕ} → Left text from end n i → i ≡ end → number-found n ≡ digits 0 (slice from end text)
+done {text} {from} {end} {n} {i} l h =
+    let lt = small l in
+    number-found-some n (λ e. absurd (omega (arith, lt))) ∙ sym (digits-empty n end text) ∙ rw h at (l .same)
 
 loop-holds : tie.Need-loop-holds Inv-loop μ-loop
 loop-holds c = record { same = refl; most = omega arith; room = room-zero _ (omega arith) }
 
 returns : tie.Need-returns Inv-loop μ-loop
-unfolding found
 returns c =
     let l = c .before .before .before .loop in
     let a = c .before .before .before .before .args in
-    sym (digits-other (a .text .now) (l .i) (a .end) (omega arith) (omega arith) (l .n) (is-digit-below _ (c .if1 .taken))) ∙ l .inv .same
+    number-found-none _ refl
+    ∙ sym (digits-other (a .text .now) (l .i) (a .end) (omega arith) (omega arith) (l .n) (is-digit-below _ (c .if1 .taken))) ∙ l .inv .same
 
 returns-2 : tie.Need-returns-2 Inv-loop μ-loop
-unfolding found
 returns-2 c =
     let l = c .before .before .before .before .loop in
     let a = c .before .before .before .before .before .args in
-    sym (digits-other (a .text .now) (l .i) (a .end) (omega arith) (omega arith) (l .n) (is-digit-above _ (c .if2 .taken))) ∙ l .inv .same
+    number-found-none _ refl
+    ∙ sym (digits-other (a .text .now) (l .i) (a .end) (omega arith) (omega arith) (l .n) (is-digit-above _ (c .if2 .taken))) ∙ l .inv .same
 
 fits-more : tie.Need-mul-n Inv-loop μ-loop
 fits-more c = omega (arith, small (c .before .before .before .before .loop .inv))
@@ -66,7 +68,6 @@ loop-again : tie.Need-loop-again Inv-loop μ-loop
 loop-again c = again (c .before .before .before .before .loop .inv) (omega arith) (omega arith) (c .before .if1 .left) (c .if2 .left)
 
 returns-3 : tie.Need-returns-3 Inv-loop μ-loop
-unfolding found
 returns-3 c = done (c .before .loop .inv) (omega arith)
 
 pub read-digits-spec : {M : Type 1} → statement M
