@@ -12,7 +12,7 @@ SPECIAL_BYTES = b"\x00\x01\t\n\r +-09AFHRSX\x7f\x80\xff"
 LINE_SIZES = (0, 1, 2, 6, 7, 8, 9, 12, 13, 14, 42, 43, 44, 45, 63, 64, 65, 96, 97, 98, 99, 4095, 4096, 4097,
               65_535, 65_536, 65_537, 131_072, 200_000)
 WIDEST = 97  # bytes of an `F` line, byte 10 not counted
-BOUNDARIES = (64, 4096, 65_536)
+BOUNDARIES = (64, 4096, 6144, 65_536)
 
 
 # Lines

@@ -1,9 +1,8 @@
--- Reachable states: setting up reaches one, and so does one more call; their calls are refused with 9, 15, 14, 22 or 10 only, and their tables have C places.
+-- Reachable states: setting up reaches one, and so does one more call; their calls are refused with 9, 15, 14, 22 or 10 only.
 use mathlib.Core.Path.{_≡_, refl, sym, _∙_, ap}
 use mathlib.Core.Bool.{not}
 use mathlib.Core.List.{List, [], _∷_, _++_}
 use Prim.Native.Nat.{ℕ, _+_, _≤_}
-use native.Mathlib.Omega.{arith}
 use lib.Dec.{ltb, leb}
 use lib.ListN.{length}
 use Rattle.device.specs.declared.Settings.{Settings}
@@ -11,10 +10,7 @@ use Rattle.device.specs.Refusal.{first-failed, refuse}
 use Rattle.device.specs.Acceptance.{settings-tests}
 use Rattle.device.specs.Remap.{remap-allowed}
 use Rattle.device.specs.Hold.{hold-allowed}
-use Rattle.summary.specs.Entries.{rows-of, counts-of}
 use Rattle.summary.specs.Steps.{Summary}
-use Rattle.summary.proofs.Entries.Lengths.{length-rows, length-counts}
-use Rattle.summary.proofs.Tables.{length-table}
 use Rattle.tracker.specs.State.{State, state-of}
 use Rattle.tracker.specs.Calls.{activation-on, refresh-on, activation-tests, refresh-tests}
 use Rattle.tracker.proofs.Calls.SoundTests.{Held, activation-refusals, refresh-refusals}
@@ -83,14 +79,3 @@ pub refresh-refused-with : {s : Settings} {st : State} → Reached s st → (pic
 refresh-refused-with {s} r picks =
     let k = reached-sum r in
     rw (k .stored) (refresh-refusals s (k .events) (k .activations) (k .sum) (reached-accepted r) (k .holds) picks)
-
-pub reached-length : {s : Settings} {st : State} → Reached s st → (length (st .rows) ≡ s .counters) × (length (st .counts) ≡ s .counters)
-unfolding state-of
-reached-length {s} r =
-    let k = reached-sum r in
-    let es = k .sum .entries in
-    let fits = k .holds .sound .fits in
-    rw (k .stored) (
-      length-table (s .counters) (rows-of es) (omega (arith, length-rows es)),
-      length-table (s .counters) (counts-of es) (omega (arith, length-counts es)),
-    )

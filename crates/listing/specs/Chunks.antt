@@ -15,7 +15,7 @@ use Rattle.listing.specs.declared.Chunk.{Chunk}
 use Rattle.trace.specs.Output.{line-modulus, refusal-line}
 use Rattle.listing.specs.Steps.{Step, line-step, loaded-behind}
 use Rattle.trace.specs.Texts.{lines, read, kept-bytes}
-use Rattle.listing.specs.Memory.{Memory, memory-of, tracker-of, stored}
+use Rattle.listing.specs.Memory.{Memory, memory-of}
 
 -- the number of the line behind so many
 unfoldable pub next-number : ℕ → ℕ
@@ -23,10 +23,15 @@ next-number lines = lines % line-modulus + 1
 
 -- what the next line does, as it was read, and what it leaves
 unfoldable pub step-in : Memory → Outcome Record → Step
-step-in m o = line-step (next-number (m .place .lines)) (m .place .loaded) (tracker-of m) o
+step-in m o = line-step (next-number (m .lines)) (m .loaded) (m .tracker) o
 
 unfoldable pub next-in : Memory → Outcome Record → Memory
-next-in m o = stored (step-in m o .tracker) (loaded-behind (m .place .loaded) o) (next-number (m .place .lines)) m
+next-in m o =
+    record {
+      tracker = step-in m o .tracker;
+      loaded = loaded-behind (m .loaded) o;
+      lines = next-number (m .lines);
+    }
 
 -- the room before a line: the longest that is printed has 110 bytes
 abbrev pub line-room : ℕ
@@ -89,15 +94,15 @@ unfoldable pub last-line : ℕ → List ℕ → ℕ → List ℕ
 last-line number [] room = []
 last-line number (b ∷ bs) room = cond (ltb room 18) [] (refusal-line number 11)
 
--- what the calls' answers say, with what they left in the lent memory
-abbrev pub part-left : Part → Lent → Lent → Lent → Going
-part-left r rows counts out =
-    record { memory = memory-of (r .place) (rows .exit) (counts .exit); taken = r .taken; buffer = now (out .exit); end = r .end }
+-- what the calls' answers say, with what they left in the lent memory: of the tables, the tracker that they hold
+abbrev pub part-left : Part → Lent → Lent → Going
+part-left r counts out =
+    record { memory = memory-of (r .place) (counts .exit); taken = r .taken; buffer = now (out .exit); end = r .end }
 
-abbrev pub chunk-left : Chunk → Lent → Lent → Lent → Lent → Chunked
-chunk-left r rows counts text out =
+abbrev pub chunk-left : Chunk → Lent → Lent → Lent → Chunked
+chunk-left r counts text out =
     record {
-      memory = memory-of (r .place) (rows .exit) (counts .exit);
+      memory = memory-of (r .place) (counts .exit);
       buffer = now (out .exit);
       end = r .end;
       text = now (text .exit);

@@ -41,7 +41,7 @@ Chunk-moves =
 unfoldable pub End-moves : Type 0
 End-moves =
     (m : Memory) (g : Progress) (text : List ℕ) (room : ℕ) → Represents m g → ended text ≡ false → 18 ≤ room →
-    Printed g text [] (last-line (next-number (m .place .lines)) text room)
+    Printed g text [] (last-line (next-number (m .lines)) text room)
 
 -- whatever lines came before, the remap for the next `S` is an accepted one: no `S` is refused with 14
 unfoldable pub Loaded-allowed : Type 0

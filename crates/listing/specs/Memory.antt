@@ -1,34 +1,43 @@
--- How a listing is carried from line to line: a place, and two lent tables of 2,048 places, of which the first C are the tracker's.
+-- How a listing is carried from line to line: a place, and three lent tables with a count for every row of the largest bank and its search aids.
 use Prim.Native.Nat.{ℕ, _%_}
 use mathlib.Core.Path.{_≡_}
 use mathlib.Core.Bool.{true, false, cond}
-use mathlib.Core.List.{List, _++_}
+use mathlib.Core.List.{List}
 use mathlib.Core.Option.{Option, none, some}
-use lib.ListN.{length, take, drop}
+use lib.ListN.{length}
 use denote.Ref.{now}
-use Rattle.device.specs.Acceptance.{most-counters}
 use Rattle.device.specs.Remap.{own-remap, remap-allowed}
 use Rattle.laws.specs.Lent.{Slice}
-use Rattle.device.specs.declared.Settings.{Settings}
-use Rattle.tracker.specs.declared.Position.{Position}
-use Rattle.tracker.specs.Answers.{given}
+use Rattle.tracker.specs.State.{State, state-of}
 use Rattle.limit.specs.Reachable.{Reached}
+use Rattle.aids.specs.Marks.{Marked}
+use Rattle.aids.specs.Bounds.{all-bounds}
+use Rattle.dense.specs.Dense.{dense, Bank}
 use Rattle.listing.specs.declared.Place.{Place}
 use Rattle.trace.specs.Output.{line-modulus}
 use Rattle.listing.specs.Steps.{Tracker, Progress}
 
--- what the caller keeps of a listing: where it is, and both tables
+-- what is carried: the tracker, if one stands, the remap that is loaded, and the lines so far, which are counted modulo 10,000,000,000
 pub record Memory : Type 0 where
-  pub place : Place
-  pub rows : List ℕ
-  pub counts : List ℕ
+  pub tracker : Option Tracker
+  pub loaded : List ℕ
+  pub lines : ℕ
 
-abbrev pub memory : Place → List ℕ → List ℕ → Memory
-memory place rows counts = record { place = place; rows = rows; counts = counts }
+-- the state that a place and a table of counts hold: the summary of the counts, as it lies in tables of C places
+abbrev pub state-in : Place → List ℕ → State
+state-in p counts = state-of (p .settings) (p .events) (p .activations) (dense counts (p .tally .spillover))
+
+-- the tracker that they hold, if one stands
+unfoldable pub tracker-in : Place → List ℕ → Option Tracker
+tracker-in p counts =
+    cond (p .active) (some (record { settings = p .settings; remap = p .remap; state = state-in p counts })) none
+
+abbrev pub memory : Place → List ℕ → Memory
+memory p counts = record { tracker = tracker-in p counts; loaded = p .loaded; lines = p .lines }
 
 -- the same of a call's parameters
-abbrev pub memory-of : Place → Slice → Slice → Memory
-memory-of place rows counts = memory place (now rows) (now counts)
+abbrev pub memory-of : Place → Slice → Memory
+memory-of p counts = memory p (now counts)
 
 -- where a listing begins: no tracker stands, our own remap is loaded, no line was read; where a tracker's numbers will stand, 0 and the same remap
 unfoldable pub start-place : Place
@@ -45,65 +54,35 @@ start-place =
         block = 0;
       };
       remap = own-remap;
-      position = record { events = 0; activations = 0; tracked = 0; spillover = 0 };
+      events = 0;
+      activations = 0;
+      tally = record { tracked = 0; spillover = 0; hint = 0 };
       loaded = own-remap;
       lines = 0;
     }
-
--- a tracker in tables of C places
-unfoldable pub tracker-in : Settings → List ℕ → List ℕ → List ℕ → Position → Option Tracker
-tracker-in s remap rows counts p = some (record { settings = s; remap = remap; state = given rows counts p })
-
--- the tracker that the memory holds, if one stands
-unfoldable pub tracker-of : Memory → Option Tracker
-tracker-of m =
-    let s = m .place .settings in
-    cond (m .place .active) (tracker-in s (m .place .remap) (take (s .counters) (m .rows)) (take (s .counters) (m .counts)) (m .place .position)) none
-
--- the memory with a tracker, if one stands, a loaded remap and so many lines: places that are not the tracker's keep what they had, and so do
--- settings, their remap and position where none stands
-unfoldable pub stored : Option Tracker → List ℕ → ℕ → Memory → Memory
-stored none loaded lines m =
-    memory
-    (record {
-      active = false;
-      settings = m .place .settings;
-      remap = m .place .remap;
-      position = m .place .position;
-      loaded = loaded;
-      lines = lines;
-    })
-    (m .rows)
-    (m .counts)
-stored (some t) loaded lines m =
-    let c = t .settings .counters in
-    memory
-    (record {
-      active = true;
-      settings = t .settings;
-      remap = t .remap;
-      position = t .state .position;
-      loaded = loaded;
-      lines = lines;
-    })
-    (t .state .rows ++ drop c (m .rows))
-    (t .state .counts ++ drop c (m .counts))
 
 -- a tracker that stands was reached by calls after an accepted setting up, and its remap is an accepted one
 unfoldable pub Running : Option Tracker → Type 0
 Running none = Unit {0}
 Running (some t) = Reached (t .settings) (t .state) × (remap-allowed (t .remap) ≡ true)
 
--- the memory is a listing's: both tables have 2,048 places, a tracker that stands was reached, and the loaded remap is an accepted one
+-- what is carried is a listing's: a tracker that stands was reached, and the loaded remap is an accepted one
 pub record Ready (m : Memory) : Type 0 where
-  pub running : Running (tracker-of m)
-  pub loadable : remap-allowed (m .place .loaded) ≡ true
-  pub rows-long : length (m .rows) ≡ most-counters
-  pub counts-long : length (m .counts) ≡ most-counters
+  pub running : Running (m .tracker)
+  pub loadable : remap-allowed (m .loaded) ≡ true
 
--- the memory holds where a listing is, its lines counted modulo 10,000,000,000
+-- the tables are a listing's: they have a place for every row, mark or bound, and those of a tracker that stands are its bank's
+pub record Banked (p : Place) (counts marks bounds : List ℕ) : Type 0 where
+  pub marked : Marked counts marks
+  pub bounds-long : length bounds ≡ all-bounds
+  pub bank : p .active ≡ true → Bank (p .settings .rows) (p .settings .counters) counts marks bounds (p .tally)
+
+abbrev pub Banked-in : Place → Slice → Slice → Slice → Type 0
+Banked-in p counts marks bounds = Banked p (now counts) (now marks) (now bounds)
+
+-- what is carried is where a listing is, its lines counted modulo 10,000,000,000
 pub record Represents (m : Memory) (g : Progress) : Type 0 where
   pub ready : Ready m
-  pub tracker : g .tracker ≡ tracker-of m
-  pub loaded : g .loaded ≡ m .place .loaded
-  pub lines : m .place .lines % line-modulus ≡ g .count % line-modulus
+  pub tracker : g .tracker ≡ m .tracker
+  pub loaded : g .loaded ≡ m .loaded
+  pub lines : m .lines % line-modulus ≡ g .count % line-modulus

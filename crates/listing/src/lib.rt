@@ -2,41 +2,44 @@
 mod line;
 mod print;
 mod record;
+mod run;
 
+use dense::Tally;
 use device::Settings;
 use trace::LINES;
-use tracker::Position;
 ghost use mathlib.Core.Path.{_≡_};
 ghost use Prim.Native.Nat.{_+_, _*_, _≤_};
 ghost use lib.ListN.{length};
-ghost use Rattle.listing.specs.Memory.{memory-of, start-place, Ready};
+ghost use Rattle.listing.specs.Memory.{memory-of, start-place, Ready, Banked-in};
 ghost use Rattle.trace.specs.Output.{Prints-into};
 ghost use Rattle.listing.specs.Chunks.{next-number, line-room, part, part-left, chunk, chunk-left, last-line};
 
 // Room for the longest line that is printed, which has 110 bytes.
 const ROOM: usize = 200;
 
-// Where a listing is: whether a tracker stands, its settings, remap and position, the remap that is loaded for the next, and the lines so far, which
-// count modulo 10,000,000,000.
+// Where a listing is: whether a tracker stands, its settings and remap, its events and activations so far and what goes with its counts, the remap that is
+// loaded for the next, and the lines so far, which count modulo 10,000,000,000.
 pub struct Place {
     pub active: bool,
     pub settings: Settings,
     pub remap: [u32; 16],
-    pub position: Position,
+    pub events: u32,
+    pub activations: u32,
+    pub tally: Tally,
     pub loaded: [u32; 16],
     pub lines: u64,
-}
-
-// What a line left of a tracker that stands: its position, and the place behind what was printed.
-pub struct Moved {
-    pub position: Position,
-    pub end: usize,
 }
 
 // Where the listing is behind a line, and the place behind what was printed.
 pub struct Listed {
     pub place: Place,
     pub end: usize,
+}
+
+// Where the listing is behind a run of lines that print nothing, and the place behind them.
+pub struct Ran {
+    pub place: Place,
+    pub taken: usize,
 }
 
 // Where the listing is behind the lines that were taken, how many bytes of the text they were, and the place behind what was printed.
@@ -70,32 +73,45 @@ pub fn start() -> Place
             block: 0,
         },
         remap,
-        position: Position {
-            events: 0,
-            activations: 0,
+        events: 0,
+        activations: 0,
+        tally: Tally {
             tracked: 0,
             spillover: 0,
+            hint: 0,
         },
         loaded: remap,
         lines: 0,
     }
 }
 
-// Lists the lines at the front of a text, while they have ended and there is room to print in.
+// Lists the lines at the front of a text, while they have ended and there is room to print in: a run of accepted activations, then the line behind it.
 pub fn list_part(
     p: Place,
-    rows: &mut [u32],
     counts: &mut [u32],
+    marks: &mut [u64],
+    bounds: &mut [u32],
     text: &[u8],
     out: &mut [u8],
 ) -> Part
-    requires { ⌜ Ready (memory-of p rows counts) ⌝ }
-    ensures { λ r. ⌜ part-left r rows counts out ≡ part (memory-of p (rows .entry) (counts .entry)) (now (text .entry)) (now (out .entry)) ⌝ }
+    requires { ⌜ Ready (memory-of p counts) × Banked-in p counts marks bounds ⌝ }
+    ensures { λ r. ⌜ part-left r counts out ≡ part (memory-of p (counts .entry)) (now (text .entry)) (now (out .entry)) ⌝ }
+    ensures { λ r. ⌜ Banked-in (r .place) (counts .exit) (marks .exit) (bounds .exit) ⌝ }
 {
     let mut place = p;
     let mut at: usize = 0;
     let mut end: usize = 0;
     while at < text.len() && ROOM <= out.len() - end {
+        let run = run::run_activations(place, counts, marks, bounds, text, at);
+        place = run.place;
+        at = run.taken;
+        if at == text.len() {
+            return Part {
+                place,
+                taken: at,
+                end,
+            };
+        }
         let answer = trace::read_line(text, at);
         let next = trace::place_behind(answer);
         if text[next - 1] != b'\n' {
@@ -105,7 +121,7 @@ pub fn list_part(
                 end,
             };
         }
-        let listed = record::list_line(place, rows, counts, answer, out, end);
+        let listed = record::list_line(place, counts, marks, bounds, answer, out, end);
         place = listed.place;
         end = listed.end;
         at = next;
@@ -134,16 +150,18 @@ pub fn list_end(p: Place, text: &[u8], out: &mut [u8]) -> usize
 // the text's front.
 pub fn list_chunk(
     p: Place,
-    rows: &mut [u32],
     counts: &mut [u32],
+    marks: &mut [u64],
+    bounds: &mut [u32],
     text: &mut [u8],
     len: usize,
     out: &mut [u8],
 ) -> Chunk
-    requires { ⌜ Ready (memory-of p rows counts) × (len ≤ length (now text)) × (55 * len + line-room ≤ length (now out)) ⌝ }
-    ensures { λ r. ⌜ chunk-left r rows counts text out ≡ chunk (memory-of p (rows .entry) (counts .entry)) (now (text .entry)) len (now (out .entry)) ⌝ }
+    requires { ⌜ Ready (memory-of p counts) × Banked-in p counts marks bounds × (len ≤ length (now text)) × (55 * len + line-room ≤ length (now out)) ⌝ }
+    ensures { λ r. ⌜ chunk-left r counts text out ≡ chunk (memory-of p (counts .entry)) (now (text .entry)) len (now (out .entry)) ⌝ }
+    ensures { λ r. ⌜ Banked-in (r .place) (counts .exit) (marks .exit) (bounds .exit) ⌝ }
 {
-    let part = list_part(p, rows, counts, &text[0..len], out);
+    let part = list_part(p, counts, marks, bounds, &text[0..len], out);
     let place = part.place;
     let kept = trace::keep(text, part.taken, len);
     Chunk {

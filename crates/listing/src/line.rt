@@ -1,138 +1,170 @@
-// The lines of an activation and an event, on a tracker that stands, and of settings, on the caller's tables.
+// The lines of an activation, an event and settings, and the places that they leave.
 use crate::Listed;
-use crate::Moved;
 use crate::Place;
 use crate::print;
 use bound::Answer;
+use dense::Tally;
 use device::Settings;
-use tracker::Position;
-use tracker::SetUp;
 ghost use mathlib.Core.Path.{_≡_};
+ghost use mathlib.Core.Bool.{true};
 ghost use Prim.Native.Nat.{_+_, _≤_};
 ghost use lib.ListN.{length};
-ghost use mathlib.Core.Bool.{true};
-ghost use Rattle.device.specs.Acceptance.{most-counters};
-ghost use Rattle.device.specs.Remap.{remap-allowed};
 ghost use Rattle.bound.specs.Answers.{outcome, Small};
-ghost use Rattle.trace.specs.declared.Record.the-variants.{Set};
-ghost use Rattle.tracker.specs.Calls.{activation-on};
-ghost use Rattle.tracker.specs.Answers.{lent};
-ghost use Rattle.limit.specs.Reachable.{Reached};
-ghost use Rattle.listing.specs.Steps.{record-step, activation-step};
-ghost use Rattle.listing.specs.Memory.{memory-of, tracker-of};
+ghost use Rattle.trace.specs.declared.Record.the-variants.{Set, Activate, Refresh};
 ghost use Rattle.trace.specs.Output.{Prints-into};
-ghost use Rattle.listing.specs.Contracts.{settings-line, front, Lists-whole, Lists-front, Lists-event-whole, Lists-event-front, Keeps-behind, Sets-up-front, Lists-line};
+ghost use Rattle.listing.specs.Steps.{record-step};
+ghost use Rattle.listing.specs.Memory.{memory-of, Ready, Banked-in};
+ghost use Rattle.listing.specs.Contracts.{settings-line, at-line, moved, activation-refusal, Lists-line, Leaves-in};
 
-// An activation line, on tables of C places.
-fn list_activation(
-    s: Settings,
-    remap: [u32; 16],
-    rows: &mut [u32],
-    counts: &mut [u32],
-    p: Position,
-    row: u32,
-    hold: u32,
-    line: u64,
-    out: &mut [u8],
-    at: usize,
-) -> Moved
-    requires { ⌜ Reached s (lent rows counts p) × (at + 200 ≤ length (now out)) × (remap-allowed remap ≡ true) ⌝ }
-    ensures { λ r. ⌜ Lists-whole (activation-step line s remap (activation-on s remap (lent (rows .entry) (counts .entry) p) row hold)) s remap rows counts out at r ⌝ }
+// A place with another loaded remap, and so many lines.
+pub fn at_line(p: Place, loaded: [u32; 16], lines: u64) -> Place
+    ensures { λ r. ⌜ r ≡ at-line p loaded lines ⌝ }
 {
-    if s.rows <= row {
-        let end = trace::print_refusal(out, at, line, 9);
-        return Moved { position: p, end };
+    let settings = p.settings;
+    let remap = p.remap;
+    let tally = p.tally;
+    Place {
+        active: p.active,
+        settings,
+        remap,
+        events: p.events,
+        activations: p.activations,
+        tally,
+        loaded,
+        lines,
+    }
+}
+
+// A place whose tracker moved on, and so many lines.
+pub fn moved(p: Place, events: u32, activations: u32, tally: Tally, lines: u64) -> Place
+    ensures { λ r. ⌜ r ≡ moved p events activations tally lines ⌝ }
+{
+    let settings = p.settings;
+    let remap = p.remap;
+    let loaded = p.loaded;
+    Place {
+        active: p.active,
+        settings,
+        remap,
+        events,
+        activations,
+        tally,
+        loaded,
+        lines,
+    }
+}
+
+// The refusal of an activation line, or 0.
+fn activation_refusal(p: Place, row: u32, hold: u32) -> u32
+    requires { ⌜ (p .active ≡ true → p .activations ≤ 4096) ⌝ }
+    ensures { λ r. ⌜ r ≡ activation-refusal p row hold ⌝ }
+{
+    if !p.active {
+        return 11;
+    }
+    if p.settings.rows <= row {
+        return 9;
     }
     if !device::hold_allowed(hold) {
-        let end = trace::print_refusal(out, at, line, 15);
-        return Moved { position: p, end };
+        return 15;
     }
-    if s.interval < p.activations + hold {
-        let end = trace::print_refusal(out, at, line, 22);
-        return Moved { position: p, end };
-    }
-    let position = tracker::activate_accepted(s, remap, rows, counts, p, row, hold);
-    Moved { position, end: at }
+    device::refuse_unless(p.activations + hold <= p.settings.interval, 22, 0)
 }
 
-// An event line, on tables of C places.
-fn list_event(
-    s: Settings,
-    rows: &mut [u32],
+// An activation that no test refuses.
+fn activated(
+    p: Place,
     counts: &mut [u32],
-    p: Position,
+    marks: &mut [u64],
+    bounds: &mut [u32],
+    row: u32,
+    hold: u32,
     line: u64,
-    out: &mut [u8],
-    at: usize,
-) -> Moved
-    requires { ⌜ Reached s (lent rows counts p) × (at + 200 ≤ length (now out)) ⌝ }
-    ensures { λ r. ⌜ Lists-event-whole line s p rows counts out at r ⌝ }
+) -> Place
+    requires { ⌜ Ready (memory-of p counts) × Banked-in p counts marks bounds × (activation-refusal p row hold ≡ 0) ⌝ }
+    ensures { λ r. ⌜ Leaves-in (record-step line (p .loaded) (memory-of p (counts .entry) .tracker) (Activate row hold) .tracker) (p .loaded) line counts r ⌝ }
+    ensures { λ r. ⌜ Banked-in r (counts .exit) (marks .exit) (bounds .exit) ⌝ }
 {
-    let mut list = [0; 16];
-    let after = tracker::refresh_accepted(s, rows, counts, p, &mut list);
-    let position = after.position;
-    let end = print::print_refresh(out, at, p.events, &list, after.count as usize);
-    Moved { position, end }
+    let s = p.settings;
+    let remap = p.remap;
+    let t = p.tally;
+    let physical = device::physical_row(remap, row);
+    let tally = engine::activate(
+        s.rows,
+        s.blast_diameter,
+        s.counters,
+        counts,
+        marks,
+        bounds,
+        t,
+        physical,
+        hold,
+    );
+    moved(p, p.events, p.activations + hold, tally, line)
 }
 
-// An activation line, on the first C places.
-pub fn front_activation(
-    s: Settings,
-    remap: [u32; 16],
-    rows: &mut [u32],
+// The line of an activation.
+pub fn list_activation(
+    p: Place,
     counts: &mut [u32],
-    p: Position,
+    marks: &mut [u64],
+    bounds: &mut [u32],
     row: u32,
     hold: u32,
     line: u64,
     out: &mut [u8],
     at: usize,
-) -> Moved
-    requires { ⌜ Reached s (front s rows counts p) × (at + 200 ≤ length (now out)) × (s .counters ≤ length (now rows)) × (s .counters ≤ length (now counts)) × (remap-allowed remap ≡ true) ⌝ }
-    ensures { λ r. ⌜ Lists-front (activation-step line s remap (activation-on s remap (front s (rows .entry) (counts .entry) p) row hold)) s remap rows counts out at r ⌝ }
-    ensures { λ r. ⌜ Keeps-behind s rows counts ⌝ }
+) -> Listed
+    requires { ⌜ Ready (memory-of p counts) × Banked-in p counts marks bounds × (at + 200 ≤ length (now out)) ⌝ }
+    ensures { λ r. ⌜ Lists-line (record-step line (p .loaded) (memory-of p (counts .entry) .tracker) (Activate row hold)) (p .loaded) line counts out at r ⌝ }
+    ensures { λ r. ⌜ Banked-in (r .place) (counts .exit) (marks .exit) (bounds .exit) ⌝ }
 {
-    let c = s.counters as usize;
-    list_activation(
-        s,
-        remap,
-        &mut rows[0..c],
-        &mut counts[0..c],
-        p,
-        row,
-        hold,
-        line,
-        out,
-        at,
-    )
+    let k = activation_refusal(p, row, hold);
+    if k != 0 {
+        let loaded = p.loaded;
+        let end = trace::print_refusal(out, at, line, k);
+        return Listed {
+            place: at_line(p, loaded, line),
+            end,
+        };
+    }
+    let place = activated(p, counts, marks, bounds, row, hold, line);
+    Listed { place, end: at }
 }
 
-// An event line, on the first C places.
-pub fn front_event(
-    s: Settings,
-    rows: &mut [u32],
+// The line of an event; 11 where no tracker stands.
+pub fn list_event(
+    p: Place,
     counts: &mut [u32],
-    p: Position,
+    marks: &mut [u64],
+    bounds: &mut [u32],
     line: u64,
     out: &mut [u8],
     at: usize,
-) -> Moved
-    requires { ⌜ Reached s (front s rows counts p) × (at + 200 ≤ length (now out)) × (s .counters ≤ length (now rows)) × (s .counters ≤ length (now counts)) ⌝ }
-    ensures { λ r. ⌜ Lists-event-front line s p rows counts out at r ⌝ }
-    ensures { λ r. ⌜ Keeps-behind s rows counts ⌝ }
+) -> Listed
+    requires { ⌜ Ready (memory-of p counts) × Banked-in p counts marks bounds × (at + 200 ≤ length (now out)) ⌝ }
+    ensures { λ r. ⌜ Lists-line (record-step line (p .loaded) (memory-of p (counts .entry) .tracker) Refresh) (p .loaded) line counts out at r ⌝ }
+    ensures { λ r. ⌜ Banked-in (r .place) (counts .exit) (marks .exit) (bounds .exit) ⌝ }
 {
-    let c = s.counters as usize;
-    list_event(s, &mut rows[0..c], &mut counts[0..c], p, line, out, at)
-}
-
-// Sets up on the first C places.
-fn front_set_up(s: Settings, remap: [u32; 16], rows: &mut [u32], counts: &mut [u32]) -> SetUp
-    requires { ⌜ (s .counters ≤ length (now rows)) × (s .counters ≤ length (now counts)) ⌝ }
-    ensures { λ r. ⌜ Sets-up-front s remap rows counts r ⌝ }
-    ensures { λ r. ⌜ Keeps-behind s rows counts ⌝ }
-{
-    let c = s.counters as usize;
-    tracker::set_up(s, remap, &mut rows[0..c], &mut counts[0..c])
+    if !p.active {
+        let loaded = p.loaded;
+        let end = trace::print_refusal(out, at, line, 11);
+        return Listed {
+            place: at_line(p, loaded, line),
+            end,
+        };
+    }
+    let s = p.settings;
+    let t = p.tally;
+    let e = p.events;
+    let mut list = [0; 16];
+    let picked = engine::refresh(s, counts, marks, bounds, t, e, &mut list);
+    let tally = picked.tally;
+    let end = print::print_refresh(out, at, e, &list, picked.count);
+    Listed {
+        place: moved(p, tracker::next_event(s, e), 0, tally, line),
+        end,
+    }
 }
 
 // The line of settings, by the bound's answer; the place behind it.
@@ -146,51 +178,33 @@ fn print_settings(out: &mut [u8], at: usize, line: u64, answer: Answer) -> usize
     }
 }
 
-// A settings line: it sets up with the remap that is loaded. Refused, it leaves no tracker standing, and settings, their remap, position and tables as
-// they were.
+// A settings line: it sets up with the remap that is loaded. Refused, it leaves no tracker standing.
 pub fn list_settings(
     p: Place,
     s: Settings,
-    rows: &mut [u32],
     counts: &mut [u32],
+    marks: &mut [u64],
+    bounds: &mut [u32],
     line: u64,
     out: &mut [u8],
     at: usize,
 ) -> Listed
-    requires { ⌜ (at + 200 ≤ length (now out)) × (length (now rows) ≡ most-counters) × (length (now counts) ≡ most-counters) × (remap-allowed (p .loaded) ≡ true) ⌝ }
-    ensures { λ r. ⌜ Lists-line (record-step line (p .loaded) (tracker-of (memory-of p (rows .entry) (counts .entry))) (Set s)) (p .loaded) line p rows counts out at r ⌝ }
+    requires { ⌜ Ready (memory-of p counts) × Banked-in p counts marks bounds × (at + 200 ≤ length (now out)) ⌝ }
+    ensures { λ r. ⌜ Lists-line (record-step line (p .loaded) (memory-of p (counts .entry) .tracker) (Set s)) (p .loaded) line counts out at r ⌝ }
+    ensures { λ r. ⌜ Banked-in (r .place) (counts .exit) (marks .exit) (bounds .exit) ⌝ }
 {
     let end = print_settings(out, at, line, bound::bound(s));
     let loaded = p.loaded;
-    if device::settings_refusal(s) != 0 {
-        let settings = p.settings;
-        let remap = p.remap;
-        let position = p.position;
-        return Listed {
-            place: Place {
-                active: false,
-                settings,
-                remap,
-                position,
-                loaded,
-                lines: line,
-            },
-            end,
-        };
-    }
-    front_set_up(s, loaded, rows, counts);
-    let position = Position {
-        events: 0,
-        activations: 0,
-        tracked: 0,
-        spillover: 0,
-    };
+    let active = device::settings_refusal(s) == 0;
+    let tally = dense::clear(counts, marks, bounds);
     Listed {
         place: Place {
-            active: true,
+            active,
             settings: s,
             remap: loaded,
-            position,
+            events: 0,
+            activations: 0,
+            tally,
             loaded,
             lines: line,
         },

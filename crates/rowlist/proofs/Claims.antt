@@ -31,11 +31,11 @@ turns-printed {m} {g} {text} {kept} r e (goes-on text₁ buffer len q {parts} {o
     let printed = rw same at (turns-printed represents kept-so later) in
     rw same (comes (drop kept (take len text₁)) (rw (at-hand came) at (c .moves parts out printed)))
 turns-printed {m} {g} {text} {kept} r e (stops text₁ buffer q came room same) =
-    let prints : List ℕ = last-line (next-number (m .place .lines)) (take kept text) (length buffer) in
+    let prints : List ℕ = last-line (next-number (m .lines)) (take kept text) (length buffer) in
     rw (same, came .front, take-at prints (drop (0 + length prints) buffer) (length prints) refl)
     (end-moves m g (take kept text) (length buffer) r e (omega arith))
 
 pub turns-listed : Turns-listed
 unfolding Turns-listed Parts-joined ended
-turns-listed rows counts text rows-long counts-long parts out run =
-    parts-joined _ [] parts out (turns-printed (represents-start rows counts rows-long counts-long) refl run)
+turns-listed counts text parts out run =
+    parts-joined _ [] parts out (turns-printed (represents-start counts) refl run)

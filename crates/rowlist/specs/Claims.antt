@@ -2,8 +2,6 @@
 use Prim.Native.Nat.{ℕ}
 use mathlib.Core.Path.{_≡_}
 use mathlib.Core.List.{List}
-use lib.ListN.{length}
-use Rattle.device.specs.Acceptance.{most-counters}
 use Rattle.listing.specs.Steps.{start}
 use Rattle.listing.specs.Texts.{listing}
 use Rattle.listing.specs.Memory.{memory, start-place}
@@ -13,5 +11,5 @@ use Rattle.rowlist.specs.Turns.{Turns}
 -- from the start on, all that is to be written is the listing of all that the reads brought
 unfoldable pub Turns-listed : Type 0
 Turns-listed =
-    (rows counts text : List ℕ) → length rows ≡ most-counters → length counts ≡ most-counters → (parts : List (List ℕ)) (out : List ℕ) →
-    Turns (memory start-place rows counts) text 0 parts out → out ≡ listing start (joined parts)
+    (counts text : List ℕ) (parts : List (List ℕ)) (out : List ℕ) →
+    Turns (memory start-place counts) text 0 parts out → out ≡ listing start (joined parts)

@@ -36,7 +36,7 @@ turn-of m text kept (Bytes len) buffer =
       more = true;
     }
 turn-of m text kept End buffer =
-    let prints = last-line (next-number (m .place .lines)) (take kept text) (length buffer) in
+    let prints = last-line (next-number (m .lines)) (take kept text) (length buffer) in
     record {
       memory = m;
       text = text;
@@ -56,19 +56,19 @@ turn-of m text kept Failed buffer =
     }
 
 -- the same of the code's parameters: a turn from the one before it, what is asked for it, and what its answer says with what it left
-abbrev pub turn-from : Turn → Lent → Lent → Lent → Input → Lent → Turned
-turn-from from rows counts text input out =
-    turn-of (memory-of (from .place) (rows .entry) (counts .entry)) (now (text .entry)) (from .kept) input (now (out .entry))
+abbrev pub turn-from : Turn → Lent → Lent → Input → Lent → Turned
+turn-from from counts text input out =
+    turn-of (memory-of (from .place) (counts .entry)) (now (text .entry)) (from .kept) input (now (out .entry))
 
 pub record Readable (from : Turn) (input : Input) (text out : Slice) : Type 0 where
   pub within : Within input (from .kept) (length (now text))
   pub few : from .kept ≤ length (now text)
   pub room : 55 * length (now text) + line-room ≤ length (now out)
 
-abbrev pub turn-left : Turn → Lent → Lent → Lent → Lent → Turned
-turn-left r rows counts text out =
+abbrev pub turn-left : Turn → Lent → Lent → Lent → Turned
+turn-left r counts text out =
     record {
-      memory = memory-of (r .place) (rows .exit) (counts .exit);
+      memory = memory-of (r .place) (counts .exit);
       text = now (text .exit);
       kept = r .kept;
       buffer = now (out .exit);

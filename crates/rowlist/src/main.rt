@@ -5,16 +5,22 @@ use listing::Place;
 ghost use mathlib.Core.Path.{_≡_};
 ghost use mathlib.Core.Bool.{true};
 ghost use lib.ListN.{length};
-ghost use Rattle.device.specs.Acceptance.{most-counters};
-ghost use Rattle.listing.specs.Memory.{memory-of, start-place, Ready};
+ghost use Rattle.aids.specs.Marks.{Marked};
+ghost use Rattle.aids.specs.Bounds.{all-bounds};
+ghost use Rattle.listing.specs.Memory.{memory-of, start-place, Ready, Banked-in};
 ghost use Rattle.rowlist.specs.Turns.{Readable, turn-from, turn-left};
 
-// The most counters that settings allow, the bytes of a read, and room for what they print.
-const MOST_COUNTERS: usize = 2_048;
+// A count for every row of the largest bank, a word of marks for each 64 of them and one for each 64 of these, and as many bounds; the bytes of a read,
+// and room for what they print.
+const ROWS: usize = 262_144;
 
-const TEXT: usize = 4_096;
+const MARKS: usize = 4_160;
 
-const OUT: usize = 262_144;
+const BOUNDS: usize = 4_160;
+
+const TEXT: usize = 6_144;
+
+const OUT: usize = 339_968;
 
 // What lies between two reads left: where the listing is, how many bytes are kept at the text's front and how many are to be written, and
 // whether to read again.
@@ -28,20 +34,22 @@ struct Turn {
 // What lies between two reads: what came in is listed, up to the last line's end.
 fn between_reads(
     from: Turn,
-    rows: &mut [u32],
     counts: &mut [u32],
+    marks: &mut [u64],
+    bounds: &mut [u32],
     text: &mut [u8],
     input: Input,
     out: &mut [u8],
 ) -> Turn
-    requires { ⌜ Ready (memory-of (from .place) rows counts) × Readable from input text out ⌝ }
-    ensures { λ r. ⌜ turn-left r rows counts text out ≡ turn-from from rows counts text input out ⌝ }
+    requires { ⌜ Ready (memory-of (from .place) counts) × Banked-in (from .place) counts marks bounds × Readable from input text out ⌝ }
+    ensures { λ r. ⌜ turn-left r counts text out ≡ turn-from from counts text input out ⌝ }
+    ensures { λ r. ⌜ Banked-in (r .place) (counts .exit) (marks .exit) (bounds .exit) ⌝ }
 {
     let place = from.place;
     let kept = from.kept;
     match input {
         Input::Bytes(len) => {
-            let chunk = listing::list_chunk(place, rows, counts, text, len, out);
+            let chunk = listing::list_chunk(place, counts, marks, bounds, text, len, out);
             let after = chunk.place;
             Turn {
                 place: after,
@@ -82,14 +90,14 @@ fn first_turn() -> Turn
 }
 
 // Reads, lists and writes, until the input ends or a read or write fails.
-fn run(rows: &mut [u32], counts: &mut [u32], text: &mut [u8], out: &mut [u8])
-    requires { ⌜ (length (now rows) ≡ most-counters) × (length (now counts) ≡ most-counters) × (length (now text) ≡ 4096) × (length (now out) ≡ 262144) ⌝ }
+fn run(counts: &mut [u32], marks: &mut [u64], bounds: &mut [u32], text: &mut [u8], out: &mut [u8])
+    requires { ⌜ Marked (now counts) (now marks) × (length (now bounds) ≡ all-bounds) × (length (now text) ≡ 6144) × (length (now out) ≡ 339968) ⌝ }
 {
     let mut turn = first_turn();
     let mut turns = u64::MAX;
     while turns > 0 {
         let input = input::read_behind(text, turn.kept);
-        turn = between_reads(turn, rows, counts, text, input, out);
+        turn = between_reads(turn, counts, marks, bounds, text, input, out);
         let end = turn.end;
         if !io::write_all(STDOUT_FILENO, &out[..end]) {
             return;
@@ -102,9 +110,10 @@ fn run(rows: &mut [u32], counts: &mut [u32], text: &mut [u8], out: &mut [u8])
 }
 
 fn main() {
-    let mut rows = [0u32; MOST_COUNTERS];
-    let mut counts = [0u32; MOST_COUNTERS];
+    let mut counts = [0u32; ROWS];
+    let mut marks = [0u64; MARKS];
+    let mut bounds = [0u32; BOUNDS];
     let mut text = [0u8; TEXT];
     let mut out = [0u8; OUT];
-    run(&mut rows, &mut counts, &mut text, &mut out);
+    run(&mut counts, &mut marks, &mut bounds, &mut text, &mut out);
 }

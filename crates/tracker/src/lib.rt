@@ -42,9 +42,9 @@ pub enum Refreshed {
 }
 
 // What a refresh event that is accepted leaves: the number picked and the position after it.
-pub struct AfterEvent {
-    pub count: u32,
-    pub position: Position,
+struct AfterEvent {
+    count: u32,
+    position: Position,
 }
 
 // What agreement answers: yes or no, or the refusal.
@@ -146,7 +146,7 @@ pub fn set_up(s: Settings, remap: [u32; 16], rows: &mut [u32], counts: &mut [u32
 }
 
 // An activation that no test refuses.
-pub fn activate_accepted(
+fn activate_accepted(
     s: Settings,
     remap: [u32; 16],
     rows: &mut [u32],
@@ -192,7 +192,7 @@ pub fn activate(
 }
 
 // The events in the window after one more.
-fn next_event(s: Settings, e: u32) -> u32
+pub fn next_event(s: Settings, e: u32) -> u32
     requires { ⌜ (1 ≤ s .window) × (e ≤ 8192) ⌝ }
     ensures { λ r. ⌜ r ≡ next-event s e ⌝ }
 {
@@ -200,7 +200,7 @@ fn next_event(s: Settings, e: u32) -> u32
 }
 
 // A refresh event that no test refuses.
-pub fn refresh_accepted(
+fn refresh_accepted(
     s: Settings,
     rows: &mut [u32],
     counts: &mut [u32],

@@ -44,12 +44,12 @@ last-line-some number [] room some h = absurd (omega arith)
 last-line-some number (b ∷ text) room some h = rw (le-ltb room 18 h)
 
 -- and it is the listing of what is left
-pub last-line-listing : (m : Memory) (g : Progress) (text : List ℕ) (room : ℕ) → Represents m g → ended text ≡ false → 18 ≤ room → last-line (next-number (m .place .lines)) text room ≡ listing g text
+pub last-line-listing : (m : Memory) (g : Progress) (text : List ℕ) (room : ℕ) → Represents m g → ended text ≡ false → 18 ≤ room → last-line (next-number (m .lines)) text room ≡ listing g text
 unfolding next-number
 last-line-listing m g [] room r e h = last-line-none _ [] room refl ∙ sym (none-listed g [] refl)
 last-line-listing m g (b ∷ bs) room r e h =
-    last-line-some (m .place .lines % 10000000000 + 1) (b ∷ bs) room (omega arith) h ∙
-    refusal-alike (m .place .lines % 10000000000 + 1) (suc (g .count)) (counted-on (m .place .lines) (g .count) (r .lines)) 11 ∙
+    last-line-some (m .lines % 10000000000 + 1) (b ∷ bs) room (omega arith) h ∙
+    refusal-alike (m .lines % 10000000000 + 1) (suc (g .count)) (counted-on (m .lines) (g .count) (r .lines)) 11 ∙
     sym (unended-listing g b bs e)
 
 -- it fits

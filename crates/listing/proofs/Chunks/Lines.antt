@@ -18,7 +18,7 @@ use Rattle.trace.specs.Output.{Prints}
 use Rattle.listing.specs.Steps.{Progress}
 use Rattle.trace.specs.Texts.{whole, read, outcomes, lines}
 use Rattle.listing.specs.Texts.{listed-to, passed, listing-to, listing, after}
-use Rattle.listing.specs.Memory.{Memory, tracker-of, Represents}
+use Rattle.listing.specs.Memory.{Memory, Represents}
 use Rattle.listing.specs.Chunks.{next-number, step-in, Going, gone, takes, going, part}
 use Rattle.trace.proofs.Texts.FirstLine.{lines-front, extent-within, ended-first, read-front}
 use Rattle.trace.proofs.Output.{prints-nothing, prints-long, prints-then}
@@ -88,15 +88,15 @@ taken-gone {g} {text} {buffer} {q} t less h =
     let same = step-represented (t .represents) o in
     let running = t .represents .ready .running in
     let ends = sym (ended-first (drop at text)) ∙ ok .0 in
-    let number : ℕ = next-number (q .memory .place .lines) in
-    let fits = length-step-le number (q .memory .place .loaded) (tracker-of (q .memory)) o running in
+    let number : ℕ = next-number (q .memory .lines) in
+    let fits = length-step-le number (q .memory .loaded) (q .memory .tracker) o running in
     let on : Prints (q .buffer) (q .end) (step-in (q .memory) o .prints) (written (q .buffer) (q .end) (step-in (q .memory) o .prints)) (q .end + length (step-in (q .memory) o .prints)) = record { fits = omega (arith, fits, ok .1); holds = refl; behind = refl } in
     record {
       within = rw (first-end text at) (place-within text at less .1);
       ends = rw (first-end text at) (whole-on text at less (t .ends) ends);
       represents = rw (first-end text at, after-on text at less (t .ends) g, ← first-says text at) (represents-next (t .represents) o);
       prints = rw (first-end text at, listing-on text at less (t .ends) g, ← first-says text at, ← same) (prints-then (t .prints) on);
-      spent = omega (arith, t .spent, length-step-line number (q .memory .place .loaded) (tracker-of (q .memory)) line (ok .0) running);
+      spent = omega (arith, t .spent, length-step-line number (q .memory .loaded) (q .memory .tracker) line (ok .0) running);
     }
 
 none-ended : (text : List ℕ) → length text ≡ 0 → ended text ≡ false

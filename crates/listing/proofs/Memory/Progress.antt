@@ -4,8 +4,7 @@ use mathlib.Core.Bool.{true}
 use mathlib.Core.List.{List}
 use mathlib.Core.Option.{Option, none, some}
 use Prim.Native.Nat.{ℕ, suc, _+_, _%_}
-use lib.ListN.{length, replicate}
-use Rattle.device.specs.Acceptance.{most-counters}
+use lib.ListN.{replicate}
 use Rattle.device.specs.Remap.{remap-allowed}
 use Rattle.device.proofs.Remap.{own-allowed}
 use Rattle.laws.proofs.Cases.{split}
@@ -18,22 +17,16 @@ use Rattle.trace.specs.declared.Record.{Record}
 use Rattle.trace.specs.declared.Record.the-variants.{Set, Remap, Activate, Refresh, Blank}
 use Rattle.trace.specs.Records.{sixteen-of}
 use Rattle.listing.specs.Steps.{Tracker, Progress, start, Step, refused-step, set-up-step, remap-step, activation-step, refresh-step, record-step-to, line-step-to, line-step, loaded-by, loaded-behind, step-to, step, next-to, next}
-use Rattle.listing.specs.Memory.{Memory, memory, start-place, tracker-of, stored, Running, Ready, Represents}
+use Rattle.listing.specs.Memory.{Memory, memory, start-place, tracker-in, Running, Ready, Represents}
 use Rattle.listing.specs.Chunks.{next-number, step-in, next-in}
 use Rattle.trace.proofs.Output.{counted-on}
 use Rattle.listing.proofs.Steps.LineNumbers.{line-alike}
-use Rattle.listing.proofs.Memory.Tracker.{tracker-stored, ready-stored}
 
 set-up-runs : (number : ℕ) (s : Settings) (remap rows counts : List ℕ) (o : Outcome Position) → remap-allowed remap ≡ true → set-up s remap rows counts .answer ≡ o → Running (set-up-step number s remap (set-up s remap rows counts) o .tracker)
 unfolding set-up-step refused-step Running
 set-up-runs number s remap rows counts (accepted p) ok e =
     (reached-set-up (record { remap = remap; rows = rows; counts = counts; accepts = e; rows-left = refl; counts-left = refl }), ok)
 set-up-runs number s remap rows counts (refused k) ok e = tt
-
-stored-lines : (t : Option Tracker) (loaded : List ℕ) (lines : ℕ) (m : Memory) → (stored t loaded lines m .place .lines ≡ lines) × (stored t loaded lines m .place .loaded ≡ loaded)
-unfolding stored
-stored-lines none loaded lines m = (refl, refl)
-stored-lines (some t) loaded lines m = (refl, refl)
 
 -- the loaded remap stays an accepted one
 pub loadable-behind : (loaded : List ℕ) (o : Outcome Record) → remap-allowed loaded ≡ true → remap-allowed (loaded-behind loaded o) ≡ true
@@ -61,28 +54,25 @@ module _ {m : Memory} {g : Progress} (h : Represents m g) (o : Outcome Record) w
   pub step-represented : step-in m o ≡ step g o
   unfolding step-to step-in next-number
   step-represented =
-      line-alike (m .place .lines % 10000000000 + 1) (suc (g .count)) (counted-on (m .place .lines) (g .count) (h .lines)) (m .place .loaded) (tracker-of m) o ∙
+      line-alike (m .lines % 10000000000 + 1) (suc (g .count)) (counted-on (m .lines) (g .count) (h .lines)) (m .loaded) (m .tracker) o ∙
       rw (h .tracker, h .loaded)
 
   step-running : Running (step-in m o .tracker)
   unfolding step-in
-  step-running = running-step (next-number (m .place .lines)) (m .place .loaded) (tracker-of m) o (h .ready .loadable) (h .ready .running)
+  step-running = running-step (next-number (m .lines)) (m .loaded) (m .tracker) o (h .ready .loadable) (h .ready .running)
 
   pub represents-next : Represents (next-in m o) (next g o)
   unfolding next-to next-in next-number
   represents-next =
-      let t = step-in m o .tracker in
-      let lines : ℕ = m .place .lines % 10000000000 + 1 in
-      let loaded = loaded-behind (m .place .loaded) o in
       record {
-        ready = ready-stored m loaded lines (h .ready) t step-running (loadable-behind (m .place .loaded) o (h .ready .loadable));
-        tracker = sym (tracker-stored m loaded lines (h .ready) t step-running ∙ ap (λ (x : Step). x .tracker) step-represented);
-        loaded = ap (λ (v : List ℕ). loaded-behind v o) (h .loaded) ∙ sym (stored-lines t loaded lines m .1);
-        lines = ap (λ (n : ℕ). n % 10000000000) (stored-lines t loaded lines m .0) ∙ counted-on (m .place .lines) (g .count) (h .lines);
+        ready = record { running = step-running; loadable = loadable-behind (m .loaded) o (h .ready .loadable) };
+        tracker = sym (ap (λ (x : Step). x .tracker) step-represented);
+        loaded = ap (λ (v : List ℕ). loaded-behind v o) (h .loaded);
+        lines = counted-on (m .lines) (g .count) (h .lines);
       }
 
 -- a listing that is where the memory says
-pub represents-memory : {m : Memory} → Ready m → Represents m (record { tracker = tracker-of m; loaded = m .place .loaded; count = m .place .lines })
+pub represents-memory : {m : Memory} → Ready m → Represents m (record { tracker = m .tracker; loaded = m .loaded; count = m .lines })
 represents-memory r = record { ready = r; tracker = refl; loaded = refl; lines = refl }
 
 -- and the memory stays a listing's
@@ -90,11 +80,11 @@ pub ready-next : {m : Memory} → Ready m → (o : Outcome Record) → Ready (ne
 ready-next r o = represents-next (represents-memory r) o .ready
 
 -- where a listing begins
-pub represents-start : (rows counts : List ℕ) → length rows ≡ most-counters → length counts ≡ most-counters → Represents (memory start-place rows counts) start
-unfolding start-place start tracker-of Running
-represents-start rows counts rows-long counts-long =
+pub represents-start : (counts : List ℕ) → Represents (memory start-place counts) start
+unfolding start-place start tracker-in Running
+represents-start counts =
     record {
-      ready = record { running = tt; loadable = own-allowed; rows-long = rows-long; counts-long = counts-long };
+      ready = record { running = tt; loadable = own-allowed };
       tracker = refl;
       loaded = refl;
       lines = refl;

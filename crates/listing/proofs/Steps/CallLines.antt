@@ -1,41 +1,114 @@
--- An activation line and an event line of a reached state: what the calls answered and what was printed make the definition's step.
-use mathlib.Core.Path.{_≡_, refl, sym, _∙_, ap, subst}
-use mathlib.Core.Bool.{false}
-use mathlib.Core.List.{List}
-use mathlib.Core.Option.{some}
-use Prim.Native.Nat.{ℕ, suc, _≤_}
+-- The lines of an activation and of an event: what the tests said, what the bank's tables hold then and what was printed make the definition's step.
+use mathlib.Core.Path.{_≡_, refl, sym, _∙_}
+use mathlib.Core.Bool.{true}
+use mathlib.Core.List.{List, []}
+use Prim.Native.Nat.{ℕ, zero, suc, _+_, _≤_, _<_}
 use native.Mathlib.Omega.{arith}
 use lib.ListN.{length, take, replicate, length-replicate}
+use Rattle.laws.proofs.Cases.{split}
 use Rattle.device.specs.declared.Settings.{Settings}
-use Rattle.device.specs.Refusal.{first-failed}
+use Rattle.device.specs.Refusal.{first-failed, refuse}
+use Rattle.device.specs.Remap.{physical}
+use Rattle.device.specs.Hold.{repeated}
+use Rattle.device.specs.Victims.{victims}
 use Rattle.device.proofs.Acceptance.{accepted-settings}
-use Rattle.summary.specs.Steps.{picked}
-use Rattle.tracker.specs.declared.Position.{Position}
-use Rattle.tracker.specs.declared.Refreshed.the-variants.{Accepted as Refresh-accepted}
-use Rattle.tracker.specs.State.{State, summary-of}
-use Rattle.tracker.specs.Calls.{Refresh-call, activation-tests, activation-on, refresh-on}
-use Rattle.tracker.proofs.Calls.Outcomes.{activation-done}
-use Rattle.tracker.specs.Answers.{given, refresh-call, refresh-count, refresh-position}
+use Rattle.device.proofs.Remap.{physical-below}
+use Rattle.summary.specs.Steps.{Summary, activation, event}
+use Rattle.summary.specs.Rules.{Room, Room-for}
+use Rattle.summary.specs.Contracts.{PickedFrom}
+use Rattle.summary.proofs.Rules.Room.{room-more}
+use Rattle.tracker.specs.State.{State, summary-of, state-of, most-count}
+use Rattle.tracker.specs.Calls.{kept-unless, activation-tests, refresh-to, victims-in, block-rows, ends-window, next-event}
+use Rattle.tracker.specs.Contracts.{Ranges}
+use Rattle.tracker.proofs.States.StateOf.{read-back}
+use Rattle.tracker.proofs.Calls.Tests.{passed-test}
+use Rattle.tracker.proofs.Calls.Ready.{Ready-activation, activation-ready, refresh-ready, diameter-four}
+use Rattle.tracker.proofs.Calls.Outcomes.{activation-refused, activation-done, activation-leaves}
+use Rattle.tracker.proofs.Steps.Event.{take-picked, count-picked-le}
 use Rattle.limit.specs.Reachable.{Reached}
-use Rattle.limit.proofs.Reachable.{reached-accepted}
-use Rattle.trace.specs.Output.{refusal-line, Prints}
+use Rattle.limit.proofs.Reachable.{activation-refused-with, reached-accepted, reached-within}
+use Rattle.dense.specs.declared.Tally.{Tally}
+use Rattle.dense.specs.Dense.{dense}
+use Rattle.dense.specs.Contracts.{Turned}
+use Rattle.trace.specs.declared.Record.the-variants.{Activate, Refresh}
+use Rattle.trace.specs.Output.{refusal-line}
+use Rattle.listing.specs.declared.Place.{Place}
 use Rattle.listing.specs.Output.{refresh-line}
-use Rattle.listing.specs.Steps.{answered, activation-step, refresh-step}
-use Rattle.listing.specs.Memory.{tracker-in}
-use Rattle.listing.specs.Contracts.{Lists}
-use Rattle.trace.proofs.Output.{prints-nothing}
-use Rattle.listing.proofs.Steps.ReachedCalls.{event-is, event-names, event-leaves, names-few}
+use Rattle.listing.specs.Steps.{Tracker, refused-step, answered, activation-step, refresh-step, record-step-to, record-step}
+use Rattle.listing.specs.Memory.{memory, state-in, tracker-in, Ready, Banked}
+use Rattle.listing.specs.Contracts.{moved, activation-refusal}
+use Rattle.listing.proofs.Memory.Tracker.{tracker-active, tracker-inactive, reached-active}
+use Rattle.listing.proofs.Steps.ReachedCalls.{event-accepted, event-is}
 
--- a refused activation: the state is as it came
-pub activation-refusal-listed : {before after : List ℕ} {at end : ℕ} (s : Settings) (remap rows counts : List ℕ) (p : Position) (row hold line k : ℕ) → record { accepts = false; refusal = suc k; state = given rows counts p } ≡ activation-on s remap (given rows counts p) row hold → Prints before at (refusal-line line (suc k)) after end → Lists (activation-step line s remap (activation-on s remap (given rows counts p) row hold)) s remap rows counts p before at after end
-unfolding activation-step tracker-in answered
-activation-refusal-listed s remap rows counts p row hold line k call printed = rw (← call) (record { printed = printed; left = refl })
+answered-refusal : (line k : ℕ) (text : List ℕ) → (k ≡ 0 → ⊥) → refusal-line line k ≡ answered line k text
+unfolding answered
+answered-refusal line zero text h = absurd (h refl)
+answered-refusal line (suc k) text h = refl
 
--- an accepted-settings one prints nothing
-pub activation-listed : (s : Settings) (remap : List ℕ) (st : State) (row hold line : ℕ) (rows counts : List ℕ) (p : Position) (before : List ℕ) (at : ℕ) → first-failed (activation-tests s remap st row hold) ≡ 0 → given rows counts p ≡ activation-on s remap st row hold .state → at ≤ length before → Lists (activation-step line s remap (activation-on s remap st row hold)) s remap rows counts p before at before at
-unfolding activation-step tracker-in answered
-activation-listed s remap st row hold line rows counts p before at none left h =
-    rw (← activation-done s remap st row hold none left) (record { printed = prints-nothing before at h; left = refl })
+-- the tables of a tracker that moved on
+pub banked-moved : (p : Place) (events activations line : ℕ) {sum : Summary} {counts marks bounds : List ℕ} {t : Tally} → Turned (p .settings .rows) (p .settings .counters) sum counts marks bounds t → Banked (moved p events activations t line) counts marks bounds
+banked-moved p events activations line t =
+    record { marked = t .bank .kept .marked; bounds-long = t .bank .capped .nested .bounds-long; bank = λ e. t .bank }
+
+module _ (p : Place) (counts : List ℕ) (ready : Ready (memory p counts)) where
+  -- units so far, where they may be added to
+  pub activations-few : p .active ≡ true → p .activations ≤ 4096
+  unfolding state-of
+  activations-few e =
+      let r = reached-active p counts e (ready .running) in
+      omega (arith, reached-within (r .0), accepted-settings (p .settings) (reached-accepted (r .0)) .others .interval .most)
+
+  tests-fail : p .active ≡ true → (row hold : ℕ) → first-failed (activation-tests (p .settings) (p .remap) (state-in p counts) row hold) ≡ activation-refusal p row hold
+  unfolding activation-refusal refuse state-of
+  tests-fail e row hold =
+      let r = reached-active p counts e (ready .running) in
+      activation-refused-with (r .0) (p .remap) row hold ∙ rw (r .1, e)
+
+  -- a refused activation: the tracker, if one stands, is as it was
+  pub activation-refused-step : (line row hold k : ℕ) → k ≡ activation-refusal p row hold → (k ≡ 0 → ⊥) → record { prints = refusal-line line k; tracker = tracker-in p counts } ≡ record-step line (p .loaded) (tracker-in p counts) (Activate row hold)
+  unfolding activation-refusal refuse record-step-to refused-step activation-step
+  activation-refused-step line row hold k e other =
+      split (p .active)
+      (λ on.
+      rw (tracker-active p counts on, ← activation-refused (p .settings) (p .remap) (state-in p counts) row hold k (e ∙ sym (tests-fail on row hold)) other, ← answered-refusal line k [] other))
+      (λ off. rw (tracker-inactive p counts off, (rw off at e)))
+
+  -- an accepted one: what it asks for is there, it prints nothing, and what the tables hold then is what it leaves
+  module _ (row hold : ℕ) (free : activation-refusal p row hold ≡ 0) where
+    pub activation-active : p .active ≡ true
+    unfolding activation-refusal
+    activation-active = passed-test (p .active) 10 _ free .0
+
+    no-test-fails : first-failed (activation-tests (p .settings) (p .remap) (state-in p counts) row hold) ≡ 0
+    no-test-fails = tests-fail activation-active row hold ∙ free
+
+    pub activation-facts : Ready-activation (p .settings) (p .remap) (state-in p counts) row hold
+    activation-facts = activation-ready (p .settings) (p .remap) (state-in p counts) row hold no-test-fails
+
+    pub physical-inside : physical (p .remap) row < p .settings .rows
+    physical-inside =
+        let f = activation-facts in
+        physical-below (p .remap) (f .allowed) (p .settings .rows) row (f .state .settings .others .rows-whole) (f .inside)
+
+    pub activation-diameter : p .settings .«blast_diameter» ≤ 4
+    activation-diameter = diameter-four (activation-facts .state .settings)
+
+    pub activation-room : Room-for 192 (dense counts (p .tally .spillover))
+    activation-room =
+        let sum : Summary = dense counts (p .tally .spillover) in
+        let room : Room most-count sum = rw (read-back (p .settings) (p .events) (p .activations) sum) at (activation-facts .state .facts .room) in
+        room-more room (omega arith)
+
+    pub activation-prints : (line : ℕ) → record-step line (p .loaded) (tracker-in p counts) (Activate row hold) .prints ≡ []
+    unfolding record-step-to activation-step answered
+    activation-prints line =
+        rw (tracker-active p counts activation-active, ← activation-done (p .settings) (p .remap) (state-in p counts) row hold no-test-fails refl)
+
+    pub activation-moves : (line : ℕ) {at : ℕ} {counts′ marks′ bounds′ : List ℕ} {t : Tally} → at ≡ physical (p .remap) row → Turned (p .settings .rows) (p .settings .counters) (repeated hold (activation (p .settings .counters) (victims (p .settings .rows) (p .settings .«blast_diameter»)) at) (dense counts (p .tally .spillover))) counts′ marks′ bounds′ t → memory (moved p (p .events) (p .activations + hold) t line) counts′ ≡ record { tracker = record-step line (p .loaded) (tracker-in p counts) (Activate row hold) .tracker; loaded = p .loaded; lines = line }
+    unfolding tracker-in record-step-to activation-step state-of victims-in
+    activation-moves line {at} {counts′} {t = t} same turned =
+        let leaves = activation-leaves (p .settings) (p .remap) (state-in p counts) row hold no-test-fails in
+        rw (activation-active, turned .holds, same, leaves, read-back (p .settings) (p .events) (p .activations) (dense counts (p .tally .spillover)))
 
 pub volume-most : {s : Settings} {st : State} → Reached s st → s .volume ≤ 16
 volume-most {s} r = accepted-settings s (reached-accepted r) .others .volume .most
@@ -43,24 +116,41 @@ volume-most {s} r = accepted-settings s (reached-accepted r) .others .volume .mo
 pub list-long : (n : ℕ) → n ≤ length {A = ℕ} (replicate n 0)
 list-long n = let long : length {A = ℕ} (replicate n 0) ≡ n = length-replicate n 0 in omega arith
 
-module _ {s : Settings} {st : State} (r : Reached s st) (list : List ℕ) (h : s .volume ≤ length list) (k : ℕ) (p : Position) (rows counts left : List ℕ) (call : refresh-call (Refresh-accepted k p) rows counts left ≡ refresh-on s st list) where
-  pub event-few : k ≤ 16
-  unfolding refresh-call refresh-count
-  event-few =
-      let counted : k ≡ length (picked (s .volume) (summary-of st)) =
-      ap (λ (c : Refresh-call). c .count) call ∙ event-is r list h .counted in
-      omega (arith, names-few s st, volume-most r)
+-- an event, where a tracker stands
+module _ (p : Place) (counts : List ℕ) (ready : Ready (memory p counts)) (on : p .active ≡ true) where
+  reached : Reached (p .settings) (state-in p counts)
+  reached = reached-active p counts on (ready .running) .0
 
-  pub event-listed : {before after : List ℕ} {at end : ℕ} (line : ℕ) (remap : List ℕ) → Prints before at (refresh-line (st .position .events) (take k left)) after end → Lists (refresh-step line s remap (st .position .events) (refresh-on s st (replicate (s .volume) 0))) s remap rows counts p before at after end
-  unfolding refresh-step refresh-call refresh-count refresh-position tracker-in answered
-  event-listed {before} {after} {at} {end} line remap printed =
-      let lent : List ℕ = replicate (s .volume) 0 in
-      let long : s .volume ≤ length lent = list-long (s .volume) in
-      let names : take k left ≡ take (refresh-on s st lent .count) (refresh-on s st lent .picks) =
-      ap (λ (c : Refresh-call). take (c .count) (c .picks)) call ∙ event-names r list lent h long in
-      let state : given rows counts p ≡ refresh-on s st lent .state =
-      ap (λ (c : Refresh-call). c .state) call ∙ event-leaves r list lent h long in
-      record {
-        printed = rw (event-is r lent long .free) (subst (λ (text : List ℕ). Prints before at (refresh-line (st .position .events) text) after end) names printed);
-        left = ap (λ (x : State). some (record { settings = s; remap = remap; state = x })) (sym state);
-      }
+  back : summary-of (state-in p counts) ≡ dense counts (p .tally .spillover)
+  back = read-back (p .settings) (p .events) (p .activations) (dense counts (p .tally .spillover))
+
+  pub event-ranges : (places : ℕ) → 16 ≤ places → Ranges (p .settings) (p .events) places
+  unfolding state-of
+  event-ranges places long =
+      let list : List ℕ = replicate (p .settings .volume) 0 in
+      let r = refresh-ready (p .settings) (state-in p counts) list (event-accepted reached list (list-long (p .settings .volume))) .0 in
+      let o = r .settings .others in
+      (diameter-four (r .settings), o .rows .most, o .volume .most, o .block .most, o .window .least, omega (arith, r .facts .early, o .window .most), omega (arith, o .volume .most))
+
+  pub event-room : Room-for 448 (dense counts (p .tally .spillover))
+  event-room =
+      let list : List ℕ = replicate (p .settings .volume) 0 in
+      let r = refresh-ready (p .settings) (state-in p counts) list (event-accepted reached list (list-long (p .settings .volume))) .0 in
+      let room : Room most-count (dense counts (p .tally .spillover)) = rw back at (r .facts .room) in
+      room-more room (omega arith)
+
+  pub event-few : {list₀ list : List ℕ} {count : ℕ} → PickedFrom (p .settings .volume) (dense counts (p .tally .spillover)) list₀ list count → count ≤ 16
+  event-few named = omega (arith, count-picked-le named, volume-most reached)
+
+  pub event-prints : (line : ℕ) {list₀ list : List ℕ} {count : ℕ} → PickedFrom (p .settings .volume) (dense counts (p .tally .spillover)) list₀ list count → refresh-line (p .events) (take count list) ≡ record-step line (p .loaded) (tracker-in p counts) Refresh .prints
+  unfolding record-step-to refresh-step answered state-of
+  event-prints line named =
+      let lent : List ℕ = replicate (p .settings .volume) 0 in
+      let is = event-is reached lent (list-long (p .settings .volume)) in
+      rw (tracker-active p counts on, is .free, is .named, back, take-picked named)
+
+  pub event-moves : (line : ℕ) {next : ℕ} {counts′ marks′ bounds′ : List ℕ} {t : Tally} → next ≡ next-event (p .settings) (p .events) → Turned (p .settings .rows) (p .settings .counters) (event (p .settings .counters) (victims-in (p .settings)) (p .settings .volume) (block-rows (p .settings) (p .events)) (ends-window (p .settings) (p .events)) (dense counts (p .tally .spillover))) counts′ marks′ bounds′ t → memory (moved p next 0 t line) counts′ ≡ record { tracker = record-step line (p .loaded) (tracker-in p counts) Refresh .tracker; loaded = p .loaded; lines = line }
+  unfolding tracker-in record-step-to refresh-step refresh-to kept-unless state-of
+  event-moves line next turned =
+      let lent : List ℕ = replicate (p .settings .volume) 0 in
+      rw (on, turned .holds, next, event-accepted reached lent (list-long (p .settings .volume)), back)

@@ -1,11 +1,13 @@
--- A settings line: what the bound and setting up answered make the definition's step.
+-- A settings line: what the bound and the settings' tests answered, and an empty table, make the definition's step.
 use mathlib.Core.Path.{_≡_, refl, sym, _∙_, ap, subst}
-use mathlib.Core.Bool.{true}
+use mathlib.Core.Bool.{Bool, true}
 use mathlib.Core.List.{List}
-use mathlib.Core.Option.{Option, none}
-use Prim.Native.Nat.{ℕ, zero, suc, _≤_}
-use lib.ListN.{length, take, replicate, length-replicate}
-use lib.Seq.{length-take-le}
+use mathlib.Core.Option.{Option, none, some}
+use Prim.Native.Nat.{ℕ, zero, suc}
+use borrow.Author.Tests.{eqb-true, eqb-false}
+use lib.Dec.{eqb}
+use lib.ListN.{replicate, length-replicate}
+use Rattle.laws.proofs.Cases.{split}
 use Rattle.device.specs.declared.Settings.{Settings}
 use Rattle.device.specs.Refusal.{first-failed, Outcome, accepted, tested}
 use Rattle.device.specs.Acceptance.{settings-tests}
@@ -16,14 +18,14 @@ use Rattle.bound.specs.declared.Answer.{Answer}
 use Rattle.bound.specs.Answers.{outcome, bound-answer-to, bound-answer}
 use Rattle.summary.specs.Steps.{empty}
 use Rattle.tracker.specs.declared.Position.{Position}
-use Rattle.tracker.specs.declared.SetUp.{SetUp}
 use Rattle.tracker.specs.State.{state-of}
-use Rattle.tracker.specs.Calls.{SetUp-call, kept-unless, set-up-tests, set-up-to, set-up}
-use Rattle.tracker.specs.Answers.{given, set-up-call}
+use Rattle.tracker.specs.Calls.{SetUp-call, kept-unless, set-up-tests, set-up-to}
+use Rattle.dense.specs.declared.Tally.{Tally}
+use Rattle.dense.specs.Dense.{dense}
 use Rattle.trace.specs.declared.Record.the-variants.{Set}
 use Rattle.trace.specs.Output.{Prints}
 use Rattle.listing.specs.Steps.{Tracker, refused-step, set-up-step, record-step-to, record-step}
-use Rattle.listing.specs.Memory.{tracker-in}
+use Rattle.listing.specs.Memory.{memory, tracker-in}
 use Rattle.listing.specs.Contracts.{settings-line}
 use Rattle.listing.proofs.Steps.LineNumbers.{set-up-first}
 
@@ -49,21 +51,23 @@ module _ (loaded : List ℕ) (ok : remap-allowed loaded ≡ true) where
       rw (cleared-first s loaded ok) (prints-by number s loaded _ (state-of s 0 0 empty .position) (first-failed (settings-tests s)))
 
   -- 'after an S line .. whose settings are refused no tracker stands'
-  pub settings-refused : (number : ℕ) (s : Settings) (t : Option Tracker) → (first-failed (settings-tests s) ≡ 0 → ⊥) → record-step number loaded t (Set s) .tracker ≡ none
+  settings-refused : (number : ℕ) (s : Settings) (t : Option Tracker) → (first-failed (settings-tests s) ≡ 0 → ⊥) → record-step number loaded t (Set s) .tracker ≡ none
   unfolding record-step-to set-up-to
   settings-refused number s t h =
       rw (cleared-first s loaded ok) (refused-by number s loaded _ (state-of s 0 0 empty .position) (first-failed (settings-tests s)) h)
 
   -- 'an accepted S sets up afresh'
-  pub settings-stand : (number : ℕ) (s : Settings) (t : Option Tracker) (r : SetUp) (rows counts rows′ counts′ : List ℕ) → first-failed (settings-tests s) ≡ 0 → s .counters ≤ length rows → s .counters ≤ length counts → set-up-call r rows′ counts′ ≡ set-up s loaded (take (s .counters) rows) (take (s .counters) counts) → record-step number loaded t (Set s) .tracker ≡ tracker-in s loaded rows′ counts′ (record { events = 0; activations = 0; tracked = 0; spillover = 0 })
-  unfolding record-step-to set-up-step set-up-to set-up-call tested kept-unless tracker-in given or-later state-of empty
-  settings-stand number s t r rows counts rows′ counts′ e hr hc call =
-      let c : ℕ = s .counters in
-      let first = set-up-first s loaded (take c rows) (take c counts) ok (length-take-le c rows hr) (length-take-le c counts hc) in
-      let left = rw (first, e) at call in
-      let er = ap (λ (x : SetUp-call). x .rows) left in
-      let ec = ap (λ (x : SetUp-call). x .counts) left in
-      rw (cleared-first s loaded ok, e, er, ec)
+  settings-stand : (number : ℕ) (s : Settings) (t : Option Tracker) → first-failed (settings-tests s) ≡ 0 → record-step number loaded t (Set s) .tracker ≡ some (record { settings = s; remap = loaded; state = state-of s 0 0 empty })
+  unfolding record-step-to set-up-step set-up-to tested kept-unless or-later state-of
+  settings-stand number s t e = rw (cleared-first s loaded ok, e)
+
+  -- what either leaves, where the table of counts is empty then
+  pub settings-leave : (number : ℕ) (s : Settings) (t : Option Tracker) (active : Bool) (tally : Tally) (counts : List ℕ) → active ≡ eqb (first-failed (settings-tests s)) 0 → dense counts (tally .spillover) ≡ empty → memory (record { active = active; settings = s; remap = loaded; events = 0; activations = 0; tally = tally; loaded = loaded; lines = number }) counts ≡ record { tracker = record-step number loaded t (Set s) .tracker; loaded = loaded; lines = number }
+  unfolding tracker-in
+  settings-leave number s t active tally counts stands no-rows =
+      split (eqb (first-failed (settings-tests s)) 0)
+      (λ on. rw (stands, on, settings-stand number s t (eqb-true (first-failed (settings-tests s)) 0 on), no-rows))
+      (λ off. rw (stands, off, settings-refused number s t (eqb-false (first-failed (settings-tests s)) 0 off)))
 
   pub settings-printed : {before after : List ℕ} {at end : ℕ} (number : ℕ) (s : Settings) (t : Option Tracker) (answer : Answer) → outcome answer ≡ bound-answer s → Prints before at (settings-line number (outcome answer)) after end → Prints before at (record-step number loaded t (Set s) .prints) after end
   settings-printed {before} {after} {at} {end} number s t answer e p =

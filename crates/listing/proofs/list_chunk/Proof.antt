@@ -7,16 +7,14 @@ use Rattle.listing.proofs.list_chunk.Statement.{statement}
 use Rattle.listing.proofs.list_chunk.Tie as tie
 
 list-part-requires : tie.Need-list-part-requires
-list-part-requires c κs =
-    let start = c .before .before .before .before .before .before .before .before .before in
-    start .pre .0
+list-part-requires c κs = let a = c .before .before .before .before .before .before .before .before .before .before .before in (a .pre .0, a .pre .1)
 
 returns : tie.Need-returns
 returns c =
-    let a = c .before .before .before .before .before .before .before .before .before .before .before .before .before .before .before .before .before .before .before .before .before .args in
-    let l = c .before .before .before .before .before .before .before .before .before .before .before .list-part in
+    let a = c .before .before .before .before .before .before .before .before .before .before .before .before .before .before .before .before .before .before .before .before .before .before .before .before .before .args in
+    let l = c .before .before .before .before .before .before .before .before .before .before .before .before .before .list-part in
     let k = c .before .before .keep in
-    chunk-parts (memory (a .p) (a .rows .now) (a .counts .now)) (a .text .now) (a .len) (a .out .now) (rw (sub-zero (a .len)) at (l .ensures)) (k .ensures .0) (k .ensures .1)
+    (chunk-parts (memory (a .p) (a .counts .now)) (a .text .now) (a .len) (a .out .now) (rw (sub-zero (a .len)) at (l .ensures .0)) (k .ensures .0) (k .ensures .1), l .ensures .1)
 
 pub list-chunk-spec : {M : Type 1} → statement M
 list-chunk-spec =
@@ -27,6 +25,7 @@ list-chunk-spec =
     (λ c. search needs)
     list-part-requires
     (λ c κs. search needs)
+    (λ c. search needs)
     (λ c. search needs)
     (λ c. search needs)
     (λ c. search needs)

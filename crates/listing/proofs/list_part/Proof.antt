@@ -6,134 +6,156 @@ use borrow.Author.Needs.{needs}
 use borrow.Author.Tests.{leb-true, leb-false}
 use lib.ListN.{length}
 use Rattle.trace.specs.Reading.{Reading}
+use Rattle.listing.specs.Memory.{Banked}
 use Rattle.listing.specs.Chunks.{part}
 use Rattle.trace.proofs.Texts.NextLine.{place-within, ends-with, ends-without}
-use Rattle.listing.proofs.Chunks.PartLoop.{come, Turning, turning-start, turning-step, going-unended, going-short, going-end}
+use Rattle.listing.proofs.Chunks.PartLoop.{come, Turning, turning-start, turning-run, turning-step, going-unended, going-short, going-end}
 use Rattle.listing.proofs.list_part.Statement.{statement}
 use Rattle.listing.proofs.list_part.Tie as tie
 
 abbrev Inv-loop : tie.InvT-loop
-Inv-loop rows₀ counts₀ text out₀ place₀ at₀ end₀ rows counts out place at end = Turning text (come place₀ rows₀ counts₀ out₀ 0 0) (come place rows counts out at end)
+Inv-loop counts₀ marks₀ bounds₀ text out₀ place₀ at₀ end₀ counts marks bounds out place at end =
+    Turning text (come place₀ counts₀ out₀ 0 0) (come place counts out at end) × Banked place counts marks bounds
 
 abbrev μ-loop : tie.MeasureT-loop
-μ-loop rows₀ counts₀ text out₀ place₀ at₀ end₀ rows counts out place at end = length text - at
+μ-loop counts₀ marks₀ bounds₀ text out₀ place₀ at₀ end₀ counts marks bounds out place at end = length text - at
 
 loop-holds : tie.Need-loop-holds Inv-loop μ-loop
-loop-holds c = turning-start _ _ (c .before .before .before .before .pre)
+loop-holds c = let a = c .before .before .before .before .before in (turning-start _ _ (a .pre .0), a .pre .1)
 
 sub-if1 : tie.Need-sub-if1 Inv-loop μ-loop
-sub-if1 c = omega (arith, c .before .loop .inv .fits)
+sub-if1 c = omega (arith, c .before .loop .inv .0 .fits)
 
-read-line-requires : tie.Need-read-line-requires Inv-loop μ-loop
-read-line-requires c κs = search needs
+run-activations-requires : tie.Need-run-activations-requires Inv-loop μ-loop
+run-activations-requires c κs =
+    let l = c .before .before .before .before .before .loop in
+    (l .inv .0 .ready, l .inv .1, omega (arith, c .before .before .before .before .loop-test .taken))
 
-place-behind-requires : tie.Need-place-behind-requires Inv-loop μ-loop
-place-behind-requires c κs = search needs
-
-sub-if2 : tie.Need-sub-if2 Inv-loop μ-loop
-sub-if2 c =
-    let start = c .before .before .before .before .before .before .before .before .before in
-    let at = c .place-behind .ensures ∙ ap (λ (r : Reading). r .place) (c .before .read-line .ensures) in
-    omega (arith, at, place-within (start .args .text .now) (c .before .before .before .before .loop .at) (c .before .before .before .loop-test .taken) .0)
-
-shared-slice-read-if2 : tie.Need-shared-slice-read-if2 Inv-loop μ-loop
-shared-slice-read-if2 c =
-    let start = c .before .before .before .before .before .before .before .before .before .before in
-    let turn = c .before .before .before .before .before .loop in
-    let at = c .before .place-behind .ensures ∙ ap (λ (r : Reading). r .place) (c .before .before .read-line .ensures) in
-    omega (arith, at, place-within (start .args .text .now) (turn .at) (c .before .before .before .before .loop-test .taken))
-
-same-length : tie.Need-same-length Inv-loop μ-loop
-same-length c =
-    let start = c .before .before .before .before .before .before .before .before .before .before .before in
-    let turn = c .before .before .before .before .before .before .loop in
-    turn .inv .ready .rows-long ∙ sym (start .pre .rows-long)
-
-same-length-2 : tie.Need-same-length-2 Inv-loop μ-loop
-same-length-2 c =
-    let start = c .before .before .before .before .before .before .before .before .before .before .before in
-    let turn = c .before .before .before .before .before .before .loop in
-    turn .inv .ready .counts-long ∙ sym (start .pre .counts-long)
-
-same-length-3 : tie.Need-same-length-3 Inv-loop μ-loop
-same-length-3 c =
-    let turn = c .before .before .before .before .before .before .loop in
-    turn .inv .long
+-- behind the run of activations, where no line is left
+ran : (c : tie.Then2 Inv-loop μ-loop) → Turning (c .before .before .before .before .before .before .before .before .before .before .before .before .before .before .before .before .before .before .before .before .args .text .now) (come (c .before .before .before .before .before .before .before .before .before .before .before .before .before .before .before .before .before .before .before .before .args .p) (c .before .before .before .before .before .before .before .before .before .before .before .before .before .before .before .before .before .before .before .before .args .counts .now) (c .before .before .before .before .before .before .before .before .before .before .before .before .before .before .before .before .before .before .before .before .args .out .now) 0 0) (come (c .before .before .before .before .before .before .before .before .run-activations .result .place) (c .before .before .before .before .before .before .before .before .run-activations .last .1 .0) (c .before .before .before .before .before .before .before .before .before .before .before .before .before .before .loop .out) (c .before .before .before .before .before .before .before .before .run-activations .result .taken) (c .before .before .before .before .before .before .before .before .before .before .before .before .before .before .loop .end))
+ran c =
+    let l = c .before .before .before .before .before .before .before .before .before .before .before .before .before .before .loop in
+    turning-run (l .inv .0) (c .before .before .before .before .before .before .before .before .run-activations .ensures .0) (omega (arith, l .inv .0 .fits, leb-true 200 (length (l .out) - l .end) (c .before .before .before .before .before .before .before .before .before .before .before .before .if1 .taken)))
 
 returns : tie.Need-returns Inv-loop μ-loop
 unfolding part
-returns c =
-    let turn = c .before .before .before .before .before .before .loop in
-    let less = c .before .before .before .before .before .loop-test .taken in
-    going-unended (turn .inv) less (ends-without _ _ _ (c .before .before .place-behind .ensures ∙ ap (λ (r : Reading). r .place) (c .before .before .before .read-line .ensures)) less (c .if2 .taken))
+returns c = (going-end (ran c) (omega (arith, c .if2 .taken)), c .before .before .before .before .before .before .before .before .run-activations .ensures .1)
 
-list-line-requires : tie.Need-list-line-requires Inv-loop μ-loop
-list-line-requires c κs =
-    let if1 = c .before .before .before .before .before .before .before .if1 in
-    let l = c .before .before .before .before .before .before .before .before .before .loop in
-    (l .inv .ready, omega (arith, l .inv .fits, leb-true 200 (length (l .out) - l .end) (if1 .taken)))
+room : (c : tie.Else2 Inv-loop μ-loop) → c .before .before .before .before .before .before .before .before .before .before .before .before .before .before .loop .end + 200 ≤ length (c .before .before .before .before .before .before .before .before .before .before .before .before .before .before .loop .out)
+room c =
+    let l = c .before .before .before .before .before .before .before .before .before .before .before .before .before .before .loop in
+    omega (arith, l .inv .0 .fits, leb-true 200 (length (l .out) - l .end) (c .before .before .before .before .before .before .before .before .before .before .before .before .if1 .taken))
 
-loop-less : tie.Need-loop-less Inv-loop μ-loop
-loop-less c =
-    let start = c .before .before .before .before .before .before .before .before .before .before .before .before .before .before .before .before .before .before .before .before .before .before in
-    let turn = c .before .before .before .before .before .before .before .before .before .before .before .before .before .before .before .before .before .loop in
-    let test = c .before .before .before .before .before .before .before .before .before .before .before .before .before .before .before .before .loop-test in
-    let read-line = c .before .before .before .before .before .before .before .before .before .before .before .before .before .before .read-line in
-    let place-behind = c .before .before .before .before .before .before .before .before .before .before .before .before .before .place-behind in
-    let at = place-behind .ensures ∙ ap (λ (r : Reading). r .place) (read-line .ensures) in
-    let w = place-within (start .args .text .now) (turn .at) (test .taken) in
-    omega (arith, at, w .0, w .1)
+-- and where one is
+ran-on : (c : tie.Else2 Inv-loop μ-loop) → Turning (c .before .before .before .before .before .before .before .before .before .before .before .before .before .before .before .before .before .before .before .before .args .text .now) (come (c .before .before .before .before .before .before .before .before .before .before .before .before .before .before .before .before .before .before .before .before .args .p) (c .before .before .before .before .before .before .before .before .before .before .before .before .before .before .before .before .before .before .before .before .args .counts .now) (c .before .before .before .before .before .before .before .before .before .before .before .before .before .before .before .before .before .before .before .before .args .out .now) 0 0) (come (c .before .before .before .before .before .before .before .before .run-activations .result .place) (c .before .before .before .before .before .before .before .before .run-activations .last .1 .0) (c .before .before .before .before .before .before .before .before .before .before .before .before .before .before .loop .out) (c .before .before .before .before .before .before .before .before .run-activations .result .taken) (c .before .before .before .before .before .before .before .before .before .before .before .before .before .before .loop .end))
+ran-on c =
+    let l = c .before .before .before .before .before .before .before .before .before .before .before .before .before .before .loop in
+    turning-run (l .inv .0) (c .before .before .before .before .before .before .before .before .run-activations .ensures .0) (room c)
 
-loop-again : tie.Need-loop-again Inv-loop μ-loop
-loop-again c =
-    let if1 = c .before .before .before .before .before .before .before .before .before .before .before .before .before .before .before .if1 in
-    let read-line = c .before .before .before .before .before .before .before .before .before .before .before .before .before .before .read-line in
-    let place-behind = c .before .before .before .before .before .before .before .before .before .before .before .before .before .place-behind in
-    let if2 = c .before .before .before .before .before .before .before .before .before .before .before .if2 in
-    let list-line = c .before .before .before .before .before .before .before .list-line in
-    let l = c .before .before .before .before .before .before .before .before .before .before .before .before .before .before .before .before .before .loop in
-    let at = place-behind .ensures ∙ ap (λ (r : Reading). r .place) (read-line .ensures) in
-    let less = c .before .before .before .before .before .before .before .before .before .before .before .before .before .before .before .before .loop-test .taken in
-    let room : l .end + 200 ≤ length (l .out) = omega (arith, l .inv .fits, leb-true 200 (length (l .out) - l .end) (if1 .taken)) in
-    rw at
-    (turning-step (l .inv) less (ends-with _ _ _ at less (if2 .left)) room (rw (read-line .ensures) at (list-line .ensures)))
+left-over : (c : tie.Else2 Inv-loop μ-loop) → c .before .before .before .before .before .before .before .before .run-activations .result .taken < length (c .before .before .before .before .before .before .before .before .before .before .before .before .before .before .before .before .before .before .before .before .args .text .now)
+left-over c = omega (arith, c .before .before .before .before .before .before .before .before .run-activations .ensures .0 .within, c .if2 .left)
 
-same-length-4 : tie.Need-same-length-4 Inv-loop μ-loop
-same-length-4 c =
-    let start = c .before .before .before .before .before .before .before in
-    c .before .before .loop .inv .ready .rows-long ∙ sym (start .pre .rows-long)
+sub-if3 : tie.Need-sub-if3 Inv-loop μ-loop
+sub-if3 c =
+    let e = c .before .before in
+    let at = c .place-behind .ensures ∙ ap (λ (r : Reading). r .place) (c .before .read-line .ensures) in
+    omega (arith, at, place-within (e .before .before .before .before .before .before .before .before .before .before .before .before .before .before .before .before .before .before .before .before .args .text .now) (e .before .before .before .before .before .before .before .before .run-activations .result .taken) (left-over e) .0)
 
-same-length-5 : tie.Need-same-length-5 Inv-loop μ-loop
-same-length-5 c =
-    let start = c .before .before .before .before .before .before .before in
-    c .before .before .loop .inv .ready .counts-long ∙ sym (start .pre .counts-long)
-
-same-length-6 : tie.Need-same-length-6 Inv-loop μ-loop
-same-length-6 c = c .before .before .loop .inv .long
+shared-slice-read-if3 : tie.Need-shared-slice-read-if3 Inv-loop μ-loop
+shared-slice-read-if3 c =
+    let e = c .before .before .before in
+    let at = c .before .place-behind .ensures ∙ ap (λ (r : Reading). r .place) (c .before .before .read-line .ensures) in
+    omega (arith, at, place-within (e .before .before .before .before .before .before .before .before .before .before .before .before .before .before .before .before .before .before .before .before .args .text .now) (e .before .before .before .before .before .before .before .before .run-activations .result .taken) (left-over e))
 
 returns-2 : tie.Need-returns-2 Inv-loop μ-loop
 unfolding part
 returns-2 c =
-    let l = c .before .before .loop in
-    let short : length (l .out) < l .end + 200 = omega (arith, l .inv .fits, leb-false 200 (length (l .out) - l .end) (c .if1 .left)) in
-    going-short (l .inv) (c .before .loop-test .taken) short
+    let e = c .before .before .before .before in
+    let at = c .before .before .place-behind .ensures ∙ ap (λ (r : Reading). r .place) (c .before .before .before .read-line .ensures) in
+    (going-unended (ran-on e) (left-over e) (ends-without _ _ _ at (left-over e) (c .if3 .taken)), e .before .before .before .before .before .before .before .before .run-activations .ensures .1)
 
-same-length-7 : tie.Need-same-length-7 Inv-loop μ-loop
-same-length-7 c =
-    let start = c .before .before .before .before .before .before in
-    c .before .loop .inv .ready .rows-long ∙ sym (start .pre .rows-long)
+list-line-requires : tie.Need-list-line-requires Inv-loop μ-loop
+list-line-requires c κs =
+    let e = c .before .before .before .before .before .before .before .before in
+    let t = ran-on e in
+    (t .ready, e .before .before .before .before .before .before .before .before .run-activations .ensures .1, room e)
 
-same-length-8 : tie.Need-same-length-8 Inv-loop μ-loop
-same-length-8 c =
-    let start = c .before .before .before .before .before .before in
-    c .before .loop .inv .ready .counts-long ∙ sym (start .pre .counts-long)
+loop-less : tie.Need-loop-less Inv-loop μ-loop
+loop-less c =
+    let e = c .before .before .before .before .before .before .before .before .before .before .before .before .before .before .before .before .before .before in
+    let at = c .before .before .before .before .before .before .before .before .before .before .before .before .before .before .before .before .place-behind .ensures ∙ ap (λ (r : Reading). r .place) (c .before .before .before .before .before .before .before .before .before .before .before .before .before .before .before .before .before .read-line .ensures) in
+    let run = e .before .before .before .before .before .before .before .before .run-activations in
+    let w = place-within (e .before .before .before .before .before .before .before .before .before .before .before .before .before .before .before .before .before .before .before .before .args .text .now) (run .result .taken) (left-over e) in
+    omega (arith, at, w .0, w .1, run .ensures .0 .onward)
 
-same-length-9 : tie.Need-same-length-9 Inv-loop μ-loop
-same-length-9 c = c .before .loop .inv .long
+loop-again : tie.Need-loop-again Inv-loop μ-loop
+loop-again c =
+    let e = c .before .before .before .before .before .before .before .before .before .before .before .before .before .before .before .before .before .before in
+    let read-line = c .before .before .before .before .before .before .before .before .before .before .before .before .before .before .before .before .before .read-line in
+    let at = c .before .before .before .before .before .before .before .before .before .before .before .before .before .before .before .before .place-behind .ensures ∙ ap (λ (r : Reading). r .place) (read-line .ensures) in
+    let line = c .before .before .before .before .before .before .before .before .before .list-line in (
+      rw at (turning-step (ran-on e) (left-over e) (ends-with _ _ _ at (left-over e) (c .before .before .before .before .before .before .before .before .before .before .before .before .before .before .if3 .left)) (room e) (rw (read-line .ensures) at (line .ensures .0))),
+      line .ensures .1,
+    )
 
 returns-3 : tie.Need-returns-3 Inv-loop μ-loop
 unfolding part
-returns-3 c = going-end (c .before .loop .inv) (c .loop-test .left)
+returns-3 c =
+    let l = c .before .before .loop in
+    let short : length (l .out) < l .end + 200 = omega (arith, l .inv .0 .fits, leb-false 200 (length (l .out) - l .end) (c .if1 .left)) in
+    (going-short (l .inv .0) (c .before .loop-test .taken) short, l .inv .1)
+
+returns-4 : tie.Need-returns-4 Inv-loop μ-loop
+unfolding part
+returns-4 c = let l = c .before .loop in (going-end (l .inv .0) (c .loop-test .left), l .inv .1)
+
+same-length : tie.Need-same-length Inv-loop μ-loop
+same-length c = let a = c .before .before .before .before .before .before .before .before .before .before .before .before .before .before .before .before .before .before .before .before in c .before .before .before .before .before .before .before .before .run-activations .ensures .1 .marked .counts-long ∙ sym (a .pre .1 .marked .counts-long)
+
+same-length-2 : tie.Need-same-length-2 Inv-loop μ-loop
+same-length-2 c = let a = c .before .before .before .before .before .before .before .before .before .before .before .before .before .before .before .before .before .before .before .before in c .before .before .before .before .before .before .before .before .run-activations .ensures .1 .marked .marks-long ∙ sym (a .pre .1 .marked .marks-long)
+
+same-length-3 : tie.Need-same-length-3 Inv-loop μ-loop
+same-length-3 c = let a = c .before .before .before .before .before .before .before .before .before .before .before .before .before .before .before .before .before .before .before .before in c .before .before .before .before .before .before .before .before .run-activations .ensures .1 .bounds-long ∙ sym (a .pre .1 .bounds-long)
+
+same-length-4 : tie.Need-same-length-4 Inv-loop μ-loop
+same-length-4 c = c .before .before .before .before .before .before .before .before .before .before .before .before .before .before .loop .inv .0 .long
+
+same-length-5 : tie.Need-same-length-5 Inv-loop μ-loop
+same-length-5 c = let a = c .before .before .before .before .before .before .before .before .before .before .before .before .before .before .before .before .before .before .before .before .before .before .before .before in c .before .before .before .before .before .before .before .before .before .before .before .before .run-activations .ensures .1 .marked .counts-long ∙ sym (a .pre .1 .marked .counts-long)
+
+same-length-6 : tie.Need-same-length-6 Inv-loop μ-loop
+same-length-6 c = let a = c .before .before .before .before .before .before .before .before .before .before .before .before .before .before .before .before .before .before .before .before .before .before .before .before in c .before .before .before .before .before .before .before .before .before .before .before .before .run-activations .ensures .1 .marked .marks-long ∙ sym (a .pre .1 .marked .marks-long)
+
+same-length-7 : tie.Need-same-length-7 Inv-loop μ-loop
+same-length-7 c = let a = c .before .before .before .before .before .before .before .before .before .before .before .before .before .before .before .before .before .before .before .before .before .before .before .before in c .before .before .before .before .before .before .before .before .before .before .before .before .run-activations .ensures .1 .bounds-long ∙ sym (a .pre .1 .bounds-long)
+
+same-length-8 : tie.Need-same-length-8 Inv-loop μ-loop
+same-length-8 c = c .before .before .before .before .before .before .before .before .before .before .before .before .before .before .before .before .before .before .loop .inv .0 .long
+
+same-length-9 : tie.Need-same-length-9 Inv-loop μ-loop
+same-length-9 c = let a = c .before .before .before .before .before .before .before .before in c .before .before .loop .inv .1 .marked .counts-long ∙ sym (a .pre .1 .marked .counts-long)
+
+same-length-10 : tie.Need-same-length-10 Inv-loop μ-loop
+same-length-10 c = let a = c .before .before .before .before .before .before .before .before in c .before .before .loop .inv .1 .marked .marks-long ∙ sym (a .pre .1 .marked .marks-long)
+
+same-length-11 : tie.Need-same-length-11 Inv-loop μ-loop
+same-length-11 c = let a = c .before .before .before .before .before .before .before .before in c .before .before .loop .inv .1 .bounds-long ∙ sym (a .pre .1 .bounds-long)
+
+same-length-12 : tie.Need-same-length-12 Inv-loop μ-loop
+same-length-12 c = c .before .before .loop .inv .0 .long
+
+same-length-13 : tie.Need-same-length-13 Inv-loop μ-loop
+same-length-13 c = let a = c .before .before .before .before .before .before .before in c .before .loop .inv .1 .marked .counts-long ∙ sym (a .pre .1 .marked .counts-long)
+
+same-length-14 : tie.Need-same-length-14 Inv-loop μ-loop
+same-length-14 c = let a = c .before .before .before .before .before .before .before in c .before .loop .inv .1 .marked .marks-long ∙ sym (a .pre .1 .marked .marks-long)
+
+same-length-15 : tie.Need-same-length-15 Inv-loop μ-loop
+same-length-15 c = let a = c .before .before .before .before .before .before .before in c .before .loop .inv .1 .bounds-long ∙ sym (a .pre .1 .bounds-long)
+
+same-length-16 : tie.Need-same-length-16 Inv-loop μ-loop
+same-length-16 c = c .before .loop .inv .0 .long
 
 pub list-part-spec : {M : Type 1} → statement M
 list-part-spec =
@@ -143,22 +165,31 @@ list-part-spec =
     μ-loop
     loop-holds
     sub-if1
-    read-line-requires
-    place-behind-requires
-    sub-if2
-    shared-slice-read-if2
+    run-activations-requires
     same-length
     same-length-2
     same-length-3
+    same-length-4
     returns
+    (λ c κs. search needs)
+    (λ c κs. search needs)
+    sub-if3
+    shared-slice-read-if3
+    same-length-5
+    same-length-6
+    same-length-7
+    same-length-8
+    returns-2
     list-line-requires
     loop-less
     loop-again
-    same-length-4
-    same-length-5
-    same-length-6
-    returns-2
-    same-length-7
-    same-length-8
     same-length-9
-    returns-3)
+    same-length-10
+    same-length-11
+    same-length-12
+    returns-3
+    same-length-13
+    same-length-14
+    same-length-15
+    same-length-16
+    returns-4)

@@ -1,4 +1,5 @@
 -- `rowlist::between_reads` meets its contract: by what the read came to.
+use mathlib.Core.Path.{refl}
 use native.Mathlib.Nat.{sub-zero}
 use native.Mathlib.Omega.{arith}
 use borrow.Author.Needs.{needs}
@@ -11,27 +12,23 @@ use Rattle.rowlist.proofs.between_reads.Tie as tie
 list-chunk-requires : tie.Need-list-chunk-requires
 unfolding Within
 list-chunk-requires c κs =
-    let input = c .before .before .before .before .before .input in
-    let a = c .before .before .before .before .before .before .before .before .before .before .before .before in
-    let within = rw (input .given .1) at (a .pre .1 .within) in
-    (a .pre .0, within .1, omega (arith, within .1, a .pre .1 .room))
+    let a = c .before .before .before .before .before .before .before .before .before .before .before .before .before .before in
+    let within = rw (c .before .before .before .before .before .before .input .given .1) at (a .pre .2 .within) in
+    (a .pre .0, a .pre .1, within .1, omega (arith, within .1, a .pre .2 .room))
 
 returns : tie.Need-returns
 returns c =
-    let input = c .before .before .before .before .before .before .before .before .before .before .before .before .before .before .before .input in
-    let list-chunk = c .before .before .before .before .before .before .before .before .before .list-chunk in
-    rw (input .given .1) (turn-chunk _ _ _ _ _ _ (list-chunk .ensures))
+    let list-chunk = c .before .before .before .before .before .before .before .before .before .before .before .list-chunk in
+    rw (c .before .before .before .before .before .before .before .before .before .before .before .before .before .before .before .before .before .before .input .given .1) (turn-chunk _ _ _ _ _ _ (list-chunk .ensures .0), list-chunk .ensures .1)
 
 returns-2 : tie.Need-returns-2
 returns-2 c =
-    let start = c .before .before .before .before .before .before .before .before .before .before .before .before .before in
-    let enum-told = c .before .before .before .before .before .before .enum-told in
-    let l = c .before .before .list-end in
-    rw (enum-told .given .1) (turn-end _ _ _ _ (rw (sub-zero (start .args .from .kept)) at (l .ensures)))
+    let a = c .before .before .before .before .before .before .before .before .before .before .before .before .before .before in
+    rw (c .before .before .before .before .before .before .enum-told .given .1) (turn-end _ _ _ _ (rw (sub-zero (a .args .from .kept)) at (c .before .before .list-end .ensures)), a .pre .1)
 
 returns-3 : tie.Need-returns-3
 unfolding turn-of
-returns-3 c = rw (c .enum-told2 .given .1)
+returns-3 c = let a = c .before .before .before .before .before .before .before .before in rw (c .enum-told2 .given .1) (refl, a .pre .1)
 
 pub between-reads-spec : {M : Type 1} → statement M
 between-reads-spec =
@@ -44,6 +41,7 @@ between-reads-spec =
     (λ c. search needs)
     (λ c. search needs)
     (λ c κs. search needs)
+    (λ c. search needs)
     (λ c. search needs)
     (λ c. search needs)
     (λ c. search needs)

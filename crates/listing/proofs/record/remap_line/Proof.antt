@@ -10,15 +10,13 @@ use Rattle.listing.proofs.record.remap_line.Tie as tie
 returns : tie.Need-returns
 unfolding remap-step loaded-by answered first-failed unless refuse
 returns c =
-    let a = c .before .before .before .before .before in
-    let allowed = c .before .before .remap-allowed .ensures in
-    rw (← allowed, c .before .if1 .taken) (c .at-line .ensures, prints-nothing (a .args .out .now) (a .args .at) (omega (arith, a .pre)))
+    let a = c .before .before .before .before in
+    rw (← c .before .before .remap-allowed .ensures, c .before .if1 .taken) (c .at-line .ensures, prints-nothing (a .args .out .now) (a .args .at) (omega (arith, a .pre)))
 
 returns-2 : tie.Need-returns-2
 unfolding remap-step loaded-by answered first-failed unless refuse
 returns-2 c =
-    let allowed = c .before .before .before .before .before .before .before .remap-allowed .ensures in
-    rw (← allowed, c .before .before .before .before .before .before .if1 .left) (c .at-line2 .ensures, c .before .before .before .print-refusal .ensures)
+    rw (← c .before .before .before .before .before .before .before .remap-allowed .ensures, c .before .before .before .before .before .before .if1 .left) (c .at-line2 .ensures, c .before .before .before .print-refusal .ensures)
 
 pub remap-line-spec : {M : Type 1} → statement M
 remap-line-spec =
