@@ -1,21 +1,18 @@
 -- Relations that only contracts use: what the columns of a field were found to hold, where a byte 10 stands, and bytes that are copied.
-use Prim.Native.Nat.{ℕ, _+_, _*_, _≤_, _<_}
-use mathlib.Core.Bool.{Bool, true, _&&_, cond}
+use Prim.Native.Nat.{ℕ, _+_, _*_}
+use mathlib.Core.Bool.{Bool, _&&_, cond}
 use mathlib.Core.List.{List, _++_}
 use mathlib.Core.Path.{_≡_}
 use mathlib.Core.Option.{Option, none, some}
-use lib.Dec.{eqb, ltb}
+use lib.Dec.{eqb, leb, ltb}
 use lib.ListN.{length, getD, take, drop}
 use denote.Ref.{now}
 use Rattle.laws.specs.Lent.{Lent}
-use Rattle.device.specs.Refusal.{accepted}
 use Rattle.trace.specs.declared.Field.{Field}
 use Rattle.trace.specs.declared.Field.the-variants.{Number, Other}
 use Rattle.trace.specs.declared.Fields.{Fields}
-use Rattle.trace.specs.declared.Record.the-variants.{Activate}
-use Rattle.trace.specs.Numbers.{fields}
-use Rattle.trace.specs.Lines.{ended}
-use Rattle.trace.specs.Reading.{reading}
+use Rattle.trace.specs.Bytes.{letter-A}
+use Rattle.trace.specs.Numbers.{field, fields}
 
 -- what some columns hold: a number, or something else
 unfoldable pub found : Field → Option ℕ
@@ -38,11 +35,10 @@ ends-after width text = ltb width (length text) && eqb (getD text width 0) 10
 unfoldable pub line-fields : ℕ → List ℕ → Option (List ℕ)
 line-fields count text = cond (ends-after (6 * count) text) (fields count text) none
 
--- a number of 6 columns: an activation line of one unit with that row stands at a place, whole. Of a larger number nothing is said
-pub record Activates (text : List ℕ) (place number : ℕ) : Type 0 where
-  pub reads : number < 1000000 → reading text place ≡ record { outcome = accepted (Activate number 1); place = place + 8 }
-  pub inside : number < 1000000 → place + 8 ≤ length text
-  pub ends : number < 1000000 → ended (drop place text) ≡ true
+-- the row of an activation line of one unit at a place: the number in its 6 columns, if an `A` stands before them and a byte 10 right behind
+unfoldable pub row-told : List ℕ → ℕ → Option ℕ
+row-told text place =
+    cond (leb (place + 8) (length text) && eqb (getD text place 0) letter-A && eqb (getD text (place + 7) 0) 10) (field (place + 1) text) none
 
 -- bytes are copied to a lent text's front, so many
 abbrev pub Copies-front : Lent → List ℕ → ℕ → Type 0

@@ -8,7 +8,7 @@ ghost use lib.Seq.{slice};
 ghost use Rattle.trace.specs.Numbers.{digits, field, fields, digit-or-blank, printed, written};
 ghost use Rattle.trace.specs.Lines.{extent};
 ghost use Rattle.trace.specs.Records.{as-settings, as-sixteen, sixteen-of, settings, remap, activation, held-activation, refresh};
-ghost use Rattle.trace.specs.Contracts.{found, number-found, found-all, ends-after, line-fields, Activates, Copies-front};
+ghost use Rattle.trace.specs.Contracts.{found, number-found, found-all, ends-after, line-fields, row-told, Copies-front};
 ghost use Rattle.trace.specs.Reading.{said, reading, reading-by, Handed-on};
 ghost use Rattle.trace.specs.Texts.{kept-bytes};
 ghost use Rattle.trace.specs.Output.{number-columns, refusal-line, Prints-into};
@@ -339,11 +339,10 @@ fn read_refresh(text: &[u8], at: usize) -> Read
     }
 }
 
-// The row of an activation line of one unit that stands at a place, or a number that is no row where another line stands there: a caller that wants
-// nothing but such lines makes no record of them.
+// The row of an activation line of one unit at a place, or a number that is none: for a caller that wants nothing but the rows of such lines, and no record.
 pub fn activation_row(text: &[u8], place: usize) -> u32
     requires { ⌜ place ≤ length (now text) ⌝ }
-    ensures { λ r. ⌜ Activates (now (text .entry)) place r ⌝ }
+    ensures { λ r. ⌜ number-found r ≡ row-told (now (text .entry)) place ⌝ }
 {
     if text.len() - place < 8 {
         return NO_NUMBER;

@@ -6,7 +6,7 @@ use mathlib.Core.List.{List}
 use Prim.Native.Nat.{ℕ, suc, _+_, _≤_, _<_}
 use native.Mathlib.Omega.{arith}
 use native.Mathlib.Numerals.{add-one}
-use lib.ListN.{length, getD, set}
+use lib.ListN.{length, getD, set, List·getD-eq-default}
 use lib.Seq.{getD-set-other}
 use Rattle.laws.proofs.Cases.{le-or-lt, same-or-other}
 use Rattle.device.specs.Acceptance.{most-rows}
@@ -19,7 +19,7 @@ use Rattle.dense.specs.declared.Tally.{Tally}
 use Rattle.dense.specs.Dense.{entries-from, dense, Kept}
 use Rattle.dense.specs.Contracts.{Fewer, Disturbed-in}
 use Rattle.dense.proofs.Dense.EntriesFrom.{row-untracked, stored-new, count-there, count-nowhere, room-made, none-zero}
-use Rattle.dense.proofs.Dense.Kept.{before-first, at-first, equal-place-le, past-end, floor-stored, clear-stored, empty-stored}
+use Rattle.dense.proofs.Dense.Kept.{before-first, at-first, equal-place-le, floor-stored, clear-stored, empty-stored}
 use Rattle.dense.proofs.Contracts.Left.{fewer-zero}
 
 module _ {counts marks : List ℕ} {t : Tally} (kept : Kept counts marks t) {rows row : ℕ} (inside : Empty-from counts rows) (in-most : rows ≤ most-rows) (in-bank : row < rows) (z : getD counts row 0 ≡ 0) where
@@ -89,7 +89,7 @@ module _ {counts marks : List ℕ} {t : Tally} (kept : Kept counts marks t) {row
       (λ i q p.
       ⊎-elim
       (λ here. before-first s counts i (omega arith) q)
-      (λ past. let nothing = past-end counts i (omega arith) in omega arith)
+      (λ past. let nothing = List·getD-eq-default counts 0 {n = i} (omega arith) in omega arith)
       (le-or-lt (suc i) (length counts)))
 
   -- the row that was found is tracked

@@ -1,5 +1,5 @@
 -- What a store to the counts leaves of what is kept with them: the floor, the rows passed over by the hint, the marks, the rows behind the bank's end.
-use mathlib.Core.Path.{_≡_, refl, sym, _∙_}
+use mathlib.Core.Path.{_≡_, sym, _∙_}
 use mathlib.Core.Logic.{⊎-elim}
 use mathlib.Core.List.{List, [], _∷_}
 use Prim.Native.Nat.{ℕ, zero, suc, _≤_, _<_}
@@ -31,11 +31,6 @@ pub equal-place-le : (s : ℕ) (cs : List ℕ) → equal-place s cs ≤ length c
 unfolding equal-place
 equal-place-le s [] = omega arith
 equal-place-le s (c ∷ cs) = split (eqb c s) (λ on. rw on (omega arith)) (λ off. rw off (omega (arith, equal-place-le s cs)))
-
-pub past-end : (cs : List ℕ) (i : ℕ) → length cs ≤ i → getD cs i 0 ≡ 0
-past-end [] i h = refl
-past-end (c ∷ cs) zero h = absurd (omega arith)
-past-end (c ∷ cs) (suc i) h = past-end cs i (omega arith)
 
 -- a number is stored in a row
 module _ (counts : List ℕ) (row v : ℕ) (l : row < length counts) where

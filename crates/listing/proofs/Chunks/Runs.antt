@@ -17,8 +17,8 @@ use Rattle.dense.specs.Dense.{dense}
 use Rattle.dense.specs.Contracts.{Turned}
 use Rattle.trace.specs.declared.Record.the-variants.{Activate}
 use Rattle.trace.specs.Reading.{Reading, reading}
-use Rattle.trace.specs.Contracts.{Activates}
 use Rattle.trace.proofs.Output.{prints-nothing}
+use Rattle.trace.proofs.Reading.Activations.{Activates}
 use Rattle.listing.specs.declared.Place.{Place}
 use Rattle.listing.specs.Steps.{line-step-to, loaded-behind}
 use Rattle.listing.specs.Memory.{Memory, memory, Ready, Banked}

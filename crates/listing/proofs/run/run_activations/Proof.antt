@@ -10,6 +10,7 @@ use lib.ListN.{length}
 use Rattle.device.specs.Remap.{physical}
 use Rattle.device.proofs.Remap.{entry-below}
 use Rattle.summary.proofs.Rules.Room.{room-more}
+use Rattle.trace.proofs.Reading.Activations.{activates-told}
 use Rattle.listing.specs.Contracts.{moved, numbers-on}
 use Rattle.listing.specs.Chunks.{next-number}
 use Rattle.listing.proofs.Steps.CallLines.{activations-few, activation-facts, physical-inside, activation-diameter, activation-room}
@@ -31,7 +32,7 @@ loop-holds : tie.Need-loop-holds Inv-loop μ-loop
 unfolding numbers-on
 loop-holds c =
     let a = c .before .before .before .before .before .before .before .before .before .before in
-    record { count = 0; far = omega arith; runs = runs-none (a .args .text .now) (a .args .from) (a .pre .0) (a .pre .2); banked = a .pre .1; next = c .activation-row .ensures }
+    record { count = 0; far = omega arith; runs = runs-none (a .args .text .now) (a .args .from) (a .pre .0) (a .pre .2); banked = a .pre .1; next = activates-told (a .args .text .now) (a .args .from) _ (c .activation-row .ensures) }
 
 add-activate : tie.Need-add-activate Inv-loop μ-loop
 add-activate c =
@@ -102,7 +103,7 @@ loop-again c =
     let on = not-false _ (c .before .before .before .before .before .before .before .before .before .before .before .before .before .before .before .before .before .before .before .before .if1 .left) in
     let inside = c .before .before .before .before .before .before .before .before .before .before .before .before .before .if2 .taken in
     let less = ltb-true (l .activations) (a .args .p .settings .interval) (c .before .before .before .before .before .before .before .before .before .before .before .if3 .taken) in
-    running-more (l .inv) on inside less (omega (arith, inside, a .pre .1 .bank on .most)) (c .before .before .before .before .before .before .before .activate .ensures) (c .activation-row2 .ensures)
+    running-more (l .inv) on inside less (omega (arith, inside, a .pre .1 .bank on .most)) (c .before .before .before .before .before .before .before .activate .ensures) (activates-told (a .args .text .now) _ _ (c .activation-row2 .ensures))
 
 sub-lines-behind : tie.Need-sub-lines-behind Inv-loop μ-loop
 sub-lines-behind c = c .before .before .loop .inv .runs .onward
