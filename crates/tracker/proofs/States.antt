@@ -1,3 +1,4 @@
 -- Laws of specs/State.antt.
 pub mod StateOf
+pub mod PositionAllowed
 pub mod Valid

@@ -4,7 +4,7 @@ use Prim.Native.Nat.{ℕ, _+_, _≤_}
 use mathlib.Core.Bool.{Bool, _&&_, cond}
 use mathlib.Core.List.{List, [], _∷_, _++_}
 use denote.Ref.{now}
-use lib.Dec.{leb, ltb, eqb}
+use lib.Dec.{ltb, eqb}
 use lib.ListN.{length, getD}
 use Rattle.laws.specs.Lent.{Slice}
 use Rattle.device.specs.Acceptance.{most-rows, settings-tests}
@@ -12,8 +12,6 @@ use Rattle.device.specs.Refusal.{Test, unless}
 use Rattle.device.specs.declared.Settings.{Settings}
 use Rattle.summary.specs.Contracts.{Holds, summary}
 use Rattle.summary.specs.declared.Tally.{Tally}
-use Rattle.tracker.specs.declared.Position.{Position}
-use Rattle.tracker.specs.State.{most-count}
 use Rattle.tracker.specs.Calls.{tables-long}
 
 -- the tests that calls on lent tables begin with: the settings', then 8
@@ -24,11 +22,6 @@ tables-tests s rows counts = settings-tests s ++ unless (tables-long s rows coun
 abbrev pub Ranges : Settings → ℕ → ℕ → Type 0
 Ranges s e places =
     (s .«blast_diameter» ≤ 4) × (s .rows ≤ most-rows) × (s .volume ≤ 16) × (s .block ≤ 64) × (1 ≤ s .window) × (e ≤ 8192) × (s .volume ≤ places)
-
--- the rules of a valid state that are about its position
-abbrev pub position-allowed : Settings → Position → Bool
-position-allowed s p =
-    ltb (p .events) (s .window) && leb (p .activations) (s .interval) && leb (p .tracked) (s .counters) && leb (p .spillover) most-count
 
 -- two lent tables and their tally hold a summary of rows below high
 abbrev pub Tracks-below : ℕ → Slice → Slice → Tally → Type 0

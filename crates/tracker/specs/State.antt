@@ -54,14 +54,16 @@ counts-allowed spillover [] = true
 counts-allowed spillover (count ∷ counts) =
     leb 1 count && leb spillover count && leb count most-count && counts-allowed spillover counts
 
+-- the rules of a valid state that are about its position: e 'below n', a 'at most T', tracked rows 'at most C', and the spillover
+abbrev pub position-allowed : Settings → Position → Bool
+position-allowed s p =
+    ltb (p .events) (s .window) && leb (p .activations) (s .interval) && leb (p .tracked) (s .counters) && leb (p .spillover) most-count
+
 -- the rules of a valid state, of which 21 is the breach
 unfoldable pub valid : Settings → State → Bool
 valid s st =
-    ltb (st .position .events) (s .window) &&
-    leb (st .position .activations) (s .interval) &&
-    leb (st .position .tracked) (s .counters) &&
+    position-allowed s (st .position) &&
     ascending 0 (s .rows) (take (st .position .tracked) (st .rows)) &&
     zeros (drop (st .position .tracked) (st .rows)) &&
     zeros (drop (st .position .tracked) (st .counts)) &&
-    counts-allowed (st .position .spillover) (take (st .position .tracked) (st .counts)) &&
-    leb (st .position .spillover) most-count
+    counts-allowed (st .position .spillover) (take (st .position .tracked) (st .counts))

@@ -6,6 +6,7 @@ mod state;
 mod victims;
 
 use device::Settings;
+pub use state::position_in_range;
 use summary::Tally;
 ghost use mathlib.Core.Path.{_≡_};
 ghost use mathlib.Core.Bool.{_&&_};

@@ -6,8 +6,7 @@ ghost use mathlib.Core.Bool.{_&&_};
 ghost use Prim.Native.Nat.{_≤_};
 ghost use lib.Dec.{leb};
 ghost use lib.ListN.{length, take, drop};
-ghost use Rattle.tracker.specs.State.{most-count, zeros, ascending, counts-allowed, valid};
-ghost use Rattle.tracker.specs.Contracts.{position-allowed};
+ghost use Rattle.tracker.specs.State.{most-count, zeros, ascending, counts-allowed, position-allowed, valid};
 
 // No count and no spillover of a valid state is above it.
 const MOST_COUNT: u32 = 2000000000;
@@ -86,7 +85,7 @@ fn counts_laid(t: &[u32], used: usize, spillover: u32) -> bool
 }
 
 // Whether each number of the position is in its range.
-fn position_in_range(s: Settings, p: Position) -> bool
+pub fn position_in_range(s: Settings, p: Position) -> bool
     ensures { λ r. ⌜ r ≡ position-allowed s p ⌝ }
 {
     if s.window <= p.events {

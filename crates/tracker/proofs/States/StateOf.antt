@@ -20,6 +20,7 @@ use Rattle.summary.proofs.Rules.Floor.{floor-parts}
 use Rattle.tracker.specs.State.{summary-of, state-of, zeros, ascending, counts-allowed, valid, most-count}
 use Rattle.tracker.specs.Calls.{tables-long}
 use Rattle.tracker.specs.Answers.{given}
+use Rattle.tracker.proofs.States.PositionAllowed.{facts-position}
 
 -- what was laid out is read back
 pub read-back : (s : Settings) (e a : ℕ) (sum : Summary) → summary-of (state-of s e a sum) ≡ sum
@@ -58,9 +59,7 @@ valid-state-of s e a sum k he ha ceiling spillover-le =
     let rows = rows-of (sum .entries) in
     let counts = counts-of (sum .entries) in
     rw (
-      lt-ltb e (s .window) he,
-      le-leb a (s .interval) ha,
-      le-leb (length (sum .entries)) (s .counters) (k .fits),
+      facts-position s (state-of s e a sum .position) (record { early = he; within = ha; fits = k .fits; spillover-le = spillover-le }),
       take-at rows (replicate (s .counters - length rows) 0) (length (sum .entries)) (length-rows (sum .entries)),
       drop-at rows (replicate (s .counters - length rows) 0) (length (sum .entries)) (length-rows (sum .entries)),
       take-at counts (replicate (s .counters - length counts) 0) (length (sum .entries)) (length-counts (sum .entries)),
@@ -68,9 +67,8 @@ valid-state-of s e a sum k he ha ceiling spillover-le =
       ascending-entries (k .ordered),
       zeros-replicate (s .counters - length rows),
       zeros-replicate (s .counters - length counts),
-      counts-allowed-entries ceiling (k .floor) (k .positive),
     )
-    (le-leb (sum .spillover) most-count spillover-le)
+    (counts-allowed-entries ceiling (k .floor) (k .positive))
 
 -- tables that hold a summary, with its position, are the state of that summary
 pub state-of-holds : {high : ℕ} (s : Settings) (e a : ℕ) {sum : Summary} {rows counts : List ℕ} {k spill : ℕ} → Holds (s .counters) high sum rows counts k spill → given rows counts (record { events = e; activations = a; tracked = k; spillover = spill }) ≡ state-of s e a sum

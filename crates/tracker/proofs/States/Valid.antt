@@ -15,8 +15,9 @@ use Rattle.summary.specs.Tables.{table, entries-of, read}
 use Rattle.summary.specs.Contracts.{Holds}
 use Rattle.summary.specs.Rules.{Floor, floor-none, floor-more, Ceiling, bare, under, Ordered, ordered-none, ordered-more, Room}
 use Rattle.summary.proofs.Entries.Lengths.{length-rows}
-use Rattle.tracker.specs.State.{State, summary-of, zeros, ascending, counts-allowed, valid, most-count}
+use Rattle.tracker.specs.State.{State, summary-of, zeros, ascending, counts-allowed, position-allowed, valid, most-count}
 use Rattle.tracker.specs.Calls.{tables-long}
+use Rattle.tracker.proofs.States.PositionAllowed.{position-facts}
 
 -- what is read from the front of two tables
 rows-read : (k : ℕ) (rows counts : List ℕ) → k ≤ length rows → k ≤ length counts → rows-of (entries-of k rows counts) ≡ take k rows
@@ -100,32 +101,29 @@ valid-facts s st long e =
     let rows-long = eqb-true (length (st .rows)) (s .counters) (lengths .0) in
     let counts-long = eqb-true (length (st .counts)) (s .counters) (lengths .1) in
     let k = st .position .tracked in
-    let p7 = and-both _ (leb (st .position .spillover) most-count) e in
-    let p6 = and-both _ (counts-allowed (st .position .spillover) (take k (st .counts))) (p7 .0) in
-    let p5 = and-both _ (zeros (drop k (st .counts))) (p6 .0) in
-    let p4 = and-both _ (zeros (drop k (st .rows))) (p5 .0) in
-    let p3 = and-both _ (ascending 0 (s .rows) (take k (st .rows))) (p4 .0) in
-    let p2 = and-both _ (leb k (s .counters)) (p3 .0) in
-    let p1 = and-both (ltb (st .position .events) (s .window)) (leb (st .position .activations) (s .interval)) (p2 .0) in
-    let fits = leb-true k (s .counters) (p2 .1) in
-    let in-rows : k ≤ length (st .rows) = omega arith in
-    let in-counts : k ≤ length (st .counts) = omega arith in
+    let p4 = and-both _ (counts-allowed (st .position .spillover) (take k (st .counts))) e in
+    let p3 = and-both _ (zeros (drop k (st .counts))) (p4 .0) in
+    let p2 = and-both _ (zeros (drop k (st .rows))) (p3 .0) in
+    let p1 = and-both (position-allowed s (st .position)) (ascending 0 (s .rows) (take k (st .rows))) (p2 .0) in
+    let q = position-facts s (st .position) (p1 .0) in
+    let in-rows : k ≤ length (st .rows) = omega (arith, q .fits) in
+    let in-counts : k ≤ length (st .counts) = omega (arith, q .fits) in
     let read-length = length-read k (st .rows) (st .counts) in-rows in-counts in
-    let allowed = allowed-read (st .position .spillover) k (st .rows) (st .counts) (p6 .1) in
+    let allowed = allowed-read (st .position .spillover) k (st .rows) (st .counts) (p4 .1) in
     record {
-      early = ltb-true (st .position .events) (s .window) (p1 .0);
-      within = leb-true (st .position .activations) (s .interval) (p1 .1);
+      early = q .early;
+      within = q .within;
       holds = record {
-        rows-laid = rw (rows-read k (st .rows) (st .counts) in-rows in-counts) (table-front (s .counters) k (st .rows) rows-long fits (p4 .1));
-        counts-laid = rw (counts-read k (st .rows) (st .counts) in-rows in-counts) (table-front (s .counters) k (st .counts) counts-long fits (p5 .1));
+        rows-laid = rw (rows-read k (st .rows) (st .counts) in-rows in-counts) (table-front (s .counters) k (st .rows) rows-long (q .fits) (p2 .1));
+        counts-laid = rw (counts-read k (st .rows) (st .counts) in-rows in-counts) (table-front (s .counters) k (st .counts) counts-long (q .fits) (p3 .1));
         tracked-is = sym read-length;
         spillover-is = refl;
         sound = record {
           floor = allowed .floor;
           positive = allowed .positive;
-          ordered = ordered-read (s .rows) 0 k (st .rows) (st .counts) (p3 .1);
+          ordered = ordered-read (s .rows) 0 k (st .rows) (st .counts) (p1 .1);
           fits = omega arith;
         };
       };
-      room = record { counts = allowed .ceiling; spillover-le = leb-true (st .position .spillover) most-count (p7 .1) };
+      room = record { counts = allowed .ceiling; spillover-le = q .spillover-le };
     }
