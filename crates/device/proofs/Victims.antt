@@ -75,6 +75,14 @@ from-in zero low v l h = absurd (omega arith)
 from-in (suc k) low v l h =
     ⊎-elim (λ e. List·Memᴰ·head (sym e)) (λ below. List·Memᴰ·tail (from-in k (suc low) v below (omega arith))) (eq-or-lt-of-le l)
 
+pub in-between : (low high v : ℕ) → List·Memᴰ v (rows-between low high) → (low ≤ v) × (v < high)
+unfolding rows-between
+in-between low high v m = let r = in-from (high - low) low v m in omega arith
+
+pub between-in : (low high v : ℕ) → low ≤ v → v < high → List·Memᴰ v (rows-between low high)
+unfolding rows-between
+between-in low high v l h = from-in (high - low) low v l (omega arith)
+
 -- the rows within reach, of those from low on and below high, where the row itself is one of these
 module _ (low high reach row : ℕ) where
   in-reach : low ≤ row → row < high → (v : ℕ) → List·Memᴰ v (within-reach low high reach row) → (low ≤ v) × (v < high) × (1 ≤ distance v row) × (distance v row ≤ reach)

@@ -18,10 +18,11 @@ use Rattle.tracker.proofs.States.StateOf.{read-back}
 use Rattle.tracker.proofs.Calls.SoundTests.{activation-refusals, refresh-refusals}
 use Rattle.summary.specs.Steps.{besides}
 use Rattle.limit.specs.Exact.{zeroed, disturbed-by, once, restored, renewed, after}
-use Rattle.limit.specs.Claims.{Demand-3, Demand-3-of-answers, Units-counted, Never-21, Events-modulo, Estimated, Window-figure}
+use Rattle.limit.specs.Claims.{Demand-3, Demand-3-of-answers, Units-counted, Never-21, Events-modulo, Estimated, Window-figure, Own-event, Row-limit, Row-limit-of-answers, Row-figure-limits}
 use Rattle.limit.proofs.Invariant.{inv-limit, inv-first, inv-present}
 use Rattle.limit.proofs.Run.{begun-accepted, plain-held, state-inv-run}
 use Rattle.limit.proofs.Answered.{answered-run}
+use Rattle.limit.proofs.ByRow.{own-early, own-holds, own-only, inv-row-limited, row-limited-figure}
 
 pub demand-3 : Demand-3
 unfolding Demand-3 bound-of
@@ -84,3 +85,25 @@ unfolding Window-figure state-of
 window-figure s st b calls row =
     let k = state-inv-run b calls in
     rw (k .stored) (inv-present s (accepted-settings s (begun-accepted b)) (k .inv) row)
+
+pub own-event : Own-event
+unfolding Own-event
+own-event s e row inside =
+    let ok = accepted-settings s e in
+    (own-early s ok row inside, own-holds s ok row inside, own-only s ok row inside)
+
+pub row-limit : Row-limit
+unfolding Row-limit
+row-limit s st b calls row inside =
+    inv-row-limited s (accepted-settings s (begun-accepted b)) row inside (state-inv-run b calls .inv)
+
+pub row-limit-of-answers : Row-limit-of-answers
+unfolding Row-limit-of-answers Row-limit
+row-limit-of-answers s st told a row inside =
+    let k = answered-run a in
+    rw (k .tells) (row-limit s (k .begun) (k .starts) (k .calls) row inside)
+
+pub row-figure-limits : Row-figure-limits
+unfolding Row-figure-limits Row-limit Events-modulo
+row-figure-limits s st b calls row inside =
+    rw (events-modulo s st b calls) (row-limited-figure s _ row (row-limit s st b calls row inside))

@@ -13,11 +13,12 @@ use Rattle.device.specs.declared.Settings.{Settings}
 use Rattle.device.specs.Hold.{repeated}
 use Rattle.device.proofs.Acceptance.{Accepted}
 use Rattle.device.proofs.Victims.{Ascends}
-use Rattle.bound.specs.Totals.{bound-at}
+use Rattle.bound.specs.Totals.{disturbers, bound-at}
 use Rattle.bound.proofs.Totals.Bound.{bound-grows}
 use Rattle.summary.specs.Steps.{Summary, empty, besides, activation, picked, sources, event}
 use Rattle.summary.proofs.Entries.Picks.{picks-distinct}
-use Rattle.summary.proofs.Steps.Sources.{length-sources-le}
+use Rattle.summary.specs.Rules.{below-none, below-more}
+use Rattle.summary.proofs.Steps.Sources.{sources-below, length-sources-le}
 use Rattle.tracker.specs.Calls.{block-rows, ends-window, victims-in}
 use Rattle.tracker.proofs.Calls.SoundTests.{Held}
 use Rattle.limit.specs.Exact.{Exact, at-rest, renewed, one-event-more, restored, once}
@@ -27,6 +28,7 @@ use Rattle.limit.proofs.Window.{Window, Renewed, window-empty, window-a
 use Rattle.limit.proofs.Block.{block-ascends, block-below, block-length-le}
 use Rattle.limit.proofs.SchemeOf.{scheme-of, since-le, present-le, window-held}
 use Rattle.limit.proofs.Carry.{Carry, carry-at-rest, carry-renewed, carry-event, carry-last-event}
+use Rattle.limit.proofs.Recent.{Recent, recent-at-rest, recent-renewed, recent-event, recent-last-event}
 
 -- e regular events and k events of every kind so far in a window that may have `all` of them; a: at least the units of activations since the last event
 -- of any kind. x: the exact disturbance, y: that of the present window
@@ -45,6 +47,8 @@ pub record Inv (s : Settings) (all e k a : ℕ) (sum : Summary) (x y : Exact) : 
   pub counted : x .refreshes % s .window ≡ e
   pub together : y .refreshes ≡ x .refreshes
   pub carry : Carry s (bound-at s all) (x .refreshes) e (x .disturbance) (y .disturbance) old
+  -- what rows have gathered since their own blocks, in a window that has no events but the regular ones
+  pub recent : all ≡ s .window → Recent s e since (y .disturbance) old
 
 pub inv-begins : (s : Settings) (all : ℕ) → Accepted s → s .window ≤ all → Inv s all 0 0 0 empty at-rest at-rest
 unfolding at-rest
@@ -61,6 +65,7 @@ inv-begins s all ok enough =
       counted = zero-mod (s .window);
       together = refl;
       carry = carry-at-rest s (bound-at s all);
+      recent = λ plain. recent-at-rest s;
     }
 
 -- f modulo n, one event further
@@ -76,6 +81,10 @@ rows-covered s {e} whole = rw (← whole) (omega arith)
 module _ (s : Settings) (ok : Accepted s) {all e k a : ℕ} {sum : Summary} {x y : Exact} (i : Inv s all e k a sum x y) where
   inv-room : k < all
   inv-room = omega (arith, i .room, i .early)
+
+  -- no more rows have disturbed since the last event than T'
+  inv-since : i .since ≤ disturbers s
+  inv-since = since-le s (i .window) (i .few) (i .within)
 
   pub inv-held : all ≤ 16384 → Held s e a sum
   inv-held few = window-held s (i .window) (i .few) (i .within) ok (i .early) inv-room few
@@ -110,6 +119,7 @@ module _ (s : Settings) (ok : Accepted s) {all e k a : ℕ} {sum : Summary} {x y
         counted = i .counted;
         together = i .together;
         carry = carry-renewed s (row ∷ []) (row ∷ []) (i .carry) [];
+        recent = λ plain. recent-renewed s (row ∷ []) (i .recent plain) [] (below-more row below-none h);
       }
 
   -- the rows that an event with any ascending block renews, each once, are the summary's sources
@@ -132,7 +142,7 @@ module _ (s : Settings) (ok : Accepted s) {all e k a : ℕ} {sum : Summary} {x y
         old = restored named block (i .old);
         window =
             window-event (scheme-of s all) (block-below s e) (i .window)
-            (since-le s (i .window) (i .few) (i .within))
+            inv-since
             (omega (arith, i .room))
             (renewed-cases s named block rows (y .disturbance));
         few = omega (arith, length-sources-le (s .volume) block sum, block-length-le s e);
@@ -143,6 +153,9 @@ module _ (s : Settings) (ok : Accepted s) {all e k a : ℕ} {sum : Summary} {x y
         counted = mod-next-within (x .refreshes) (i .counted) more;
         together = rw (i .together);
         carry = carry-event s named rows (i .carry);
+        recent = λ plain.
+            recent-event s named (i .recent plain) inv-since
+            (sources-below (s .volume) sum (i .window .sound .ordered) (block-below s e));
       })
 
   -- the regular event that ends a window
@@ -154,6 +167,7 @@ module _ (s : Settings) (ok : Accepted s) {all e k a : ℕ} {sum : Summary} {x y
       let block = block-rows s e in
       let rows = sources (s .volume) block sum in
       let whole : suc e ≡ s .window = omega (arith, i .early) in
+      let covered : s .rows ≤ suc e * s .block = omega (arith, ok .others .covered, rows-covered s whole) in
       rw (once-picked (block-ascends s e))
       (record {
         since = length rows;
@@ -169,10 +183,10 @@ module _ (s : Settings) (ok : Accepted s) {all e k a : ℕ} {sum : Summary} {x y
         counted = mod-next-whole (x .refreshes) (i .counted) whole;
         together = rw (i .together);
         carry =
-            carry-last-event s named rows (i .carry)
-            (omega (arith, ok .others .covered, rows-covered s whole))
+            carry-last-event s named rows (i .carry) covered
             (omega (arith, mod-le (x .refreshes) (s .window), i .counted))
             inv-window;
+        recent = λ plain. recent-last-event s named (i .recent plain) inv-since covered whole rows;
       })
 
 -- no unit of an activation, one more, and all of them

@@ -81,7 +81,7 @@ window-activation c row {e} {g} {cur} {cur′} {s} h w step =
     }
 
 -- rows of the bank disturb a row at most once each
-reached-le : (c : Scheme) (v : ℕ) {rows : List ℕ} → Below (c .rows) rows → reached (c .victims-of) v rows ≤ length rows
+pub reached-le : (c : Scheme) (v : ℕ) {rows : List ℕ} → Below (c .rows) rows → reached (c .victims-of) v rows ≤ length rows
 unfolding reached
 reached-le c v below-none = omega arith
 reached-le c v (below-more row b h) = omega (arith, c .once row v h, reached-le c v b)

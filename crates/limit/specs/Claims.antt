@@ -3,18 +3,21 @@
 use Prim.Native.Nat.{ℕ, _+_, _*_, _%_, _≤_, _<_}
 use mathlib.Core.Path.{_≡_}
 use mathlib.Core.Bool.{true, cond}
-use mathlib.Core.List.{List}
+use mathlib.Core.List.{List, List·Memᴰ}
 use lib.Dec.{eqb}
 use Rattle.device.specs.declared.Settings.{Settings}
+use Rattle.device.specs.Refusal.{first-failed}
+use Rattle.device.specs.Acceptance.{settings-tests}
 use Rattle.device.specs.Remap.{physical}
 use Rattle.bound.specs.Totals.{bound-at, bound-of}
 use Rattle.summary.specs.Steps.{estimate}
 use Rattle.tracker.specs.State.{State, summary-of}
-use Rattle.tracker.specs.Calls.{victims-in, activation-on, refresh-on}
+use Rattle.tracker.specs.Calls.{victims-in, block-rows, activation-on, refresh-on}
 use Rattle.limit.specs.Exact.{Happened, activated, Exact, one-more, after, exact}
 use Rattle.limit.specs.Present.{present}
 use Rattle.limit.specs.Run.{Command, Begun, state-after, happened}
 use Rattle.limit.specs.Answered.{Answered}
+use Rattle.limit.specs.ByRow.{own-event, row-figure, Row-limited}
 
 -- 'The limit on disturbance', demand 3, 'a single statement about the whole list': after it, every row's number is at most 2 × H, and at most H
 -- 'while the first window lasts' (f below n)
@@ -64,3 +67,28 @@ unfoldable pub Window-figure : Type 0
 Window-figure =
     (s : Settings) (st : State) → Begun s st → (calls : List Command) (row : ℕ) →
     present s (happened s calls st) .disturbance row ≤ bound-at s (state-after s calls st .position .events + 1)
+
+-- b is an event of the window, its block holds the row, and no other event's does
+unfoldable pub Own-event : Type 0
+Own-event =
+    (s : Settings) → first-failed (settings-tests s) ≡ 0 → (row : ℕ) → row < s .rows →
+    (own-event s row < s .window) × List·Memᴰ row (block-rows s (own-event s row)) ×
+    ((e : ℕ) → List·Memᴰ row (block-rows s e) → e ≡ own-event s row)
+
+-- 'a closer figure for each row': after every list of calls no row's disturbance exceeds its figures
+unfoldable pub Row-limit : Type 0
+Row-limit =
+    (s : Settings) (st : State) → Begun s st → (calls : List Command) (row : ℕ) → row < s .rows →
+    Row-limited s (exact s (happened s calls st)) row
+
+-- the same of the library, after any sequence of answers that meet their contracts
+unfoldable pub Row-limit-of-answers : Type 0
+Row-limit-of-answers =
+    (s : Settings) (st : State) (told : List Happened) → Answered s st told → (row : ℕ) → row < s .rows →
+    Row-limited s (exact s told) row
+
+-- nor does it exceed the one that the position's own e gives, 'without regard to which window it is'
+unfoldable pub Row-figure-limits : Type 0
+Row-figure-limits =
+    (s : Settings) (st : State) → Begun s st → (calls : List Command) (row : ℕ) → row < s .rows →
+    exact s (happened s calls st) .disturbance row ≤ row-figure s (state-after s calls st .position .events) row

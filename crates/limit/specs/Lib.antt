@@ -4,4 +4,5 @@ pub mod Present
 pub mod Run
 pub mod Answered
 pub mod Reachable
+pub mod ByRow
 pub mod Claims

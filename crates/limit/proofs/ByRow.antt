@@ -1,0 +1,80 @@
+-- Each row's figures: where its own block lies, and the limit by row from the invariant.
+use mathlib.Core.Path.{_≡_, refl, sym}
+use mathlib.Core.List.{List, List·Memᴰ}
+use Prim.Native.Nat.{ℕ, suc, _+_, _-_, _*_, _%_, _≤_, _<_, min}
+use native.Mathlib.Nat.{div-mul-le-self, div-lt-iff-lt-mul, lt-div-mul-add, div-eq-of-lt-le}
+use native.Mathlib.Omega.{arith}
+use borrow.Author.Tests.{ltb-true}
+use lib.Dec.{ltb}
+use Rattle.laws.proofs.Cases.{split}
+use Rattle.device.specs.declared.Settings.{Settings}
+use Rattle.device.proofs.Acceptance.{Accepted}
+use Rattle.device.proofs.Victims.{in-between, between-in}
+use Rattle.bound.specs.Totals.{disturbers, bound-at, bound-of}
+use Rattle.summary.specs.Steps.{Summary}
+use Rattle.tracker.specs.Calls.{block-rows}
+use Rattle.limit.specs.Exact.{Exact}
+use Rattle.limit.specs.ByRow.{own-event, first-figure, carried-most, second-figure, row-figure, Row-limited}
+use Rattle.limit.proofs.Recent.{Recent}
+use Rattle.limit.proofs.Invariant.{Inv, inv-present}
+
+within-events : (n block b k row : ℕ) → n ≡ b + suc k → b * block ≤ row → n * block ≤ row + suc k * block
+within-events n block b k row e h = rw e (omega arith)
+
+module _ (s : Settings) (ok : Accepted s) (row : ℕ) (inside : row < s .rows) where
+  -- every row has its event in a window
+  pub own-early : own-event s row < s .window
+  unfolding own-event
+  own-early = div-lt-iff-lt-mul (ok .others .block .least) .1 (omega (arith, ok .others .covered))
+
+  -- and stands in that event's block
+  pub own-holds : List·Memᴰ row (block-rows s (own-event s row))
+  unfolding own-event block-rows
+  own-holds =
+      let b : ℕ = own-event s row in
+      between-in (b * s .block) (min (b * s .block + s .block) (s .rows)) row (div-mul-le-self row (s .block))
+      (omega (arith, lt-div-mul-add {a = row} (ok .others .block .least)))
+
+  -- and in no other's
+  pub own-only : (e : ℕ) → List·Memᴰ row (block-rows s e) → e ≡ own-event s row
+  unfolding own-event block-rows
+  own-only e m =
+      let r = in-between (e * s .block) (min (e * s .block + s .block) (s .rows)) row m in
+      sym (div-eq-of-lt-le (s .block) (r .0) (omega arith))
+
+  -- what it carries, in terms of its event
+  carried-own : {e g : ℕ} {cur old : ℕ → ℕ} → Recent s e g cur old → old row ≤ disturbers s * (s .window - 1 - own-event s row)
+  unfolding own-event
+  carried-own r =
+      let b : ℕ = own-event s row in
+      let k : ℕ = s .window - 1 - b in
+      let early : b < s .window = own-early in
+      let last : s .window ≡ b + suc k = omega arith in
+      r .carried row k inside (within-events (s .window) (s .block) b k row last (div-mul-le-self row (s .block)))
+
+  -- an event that has passed
+  own-passed : (e : ℕ) → own-event s row < e → row < e * s .block
+  unfolding own-event
+  own-passed e h = div-lt-iff-lt-mul (ok .others .block .least) .0 h
+
+  -- the limit by row, where every event is a regular one
+  pub inv-row-limited : {e a : ℕ} {sum : Summary} {x y : Exact} → Inv s (s .window) e e a sum x y → Row-limited s x row
+  unfolding first-figure carried-most second-figure bound-of
+  inv-row-limited {e} {a} {sum} {x} {y} i =
+      let carry = i .carry in
+      let sum = carry .split row inside in
+      let window = inv-present s ok i row in
+      let at : x .refreshes % s .window ≡ e = i .counted in
+      record {
+        in-first = λ first. rw at (omega (arith, carry .first first row inside));
+        passed = λ gone. rw at (omega (arith, carry .passed row inside (own-passed e (rw at at gone))));
+        otherwise = rw at (omega (arith, carry .small row inside, carried-own (i .recent refl)));
+      }
+
+-- whichever of its figures it is, the row's disturbance is at most that
+pub row-limited-figure : (s : Settings) (x : Exact) (row : ℕ) → Row-limited s x row → x .disturbance row ≤ row-figure s (x .refreshes % s .window) row
+unfolding row-figure
+row-limited-figure s x row l =
+    split (ltb (own-event s row) (x .refreshes % s .window))
+    (λ on. rw on (l .passed (ltb-true (own-event s row) (x .refreshes % s .window) on)))
+    (λ off. rw off (l .otherwise))
