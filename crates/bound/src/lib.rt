@@ -18,7 +18,7 @@ pub enum Answer {
 }
 
 // T': the rows that disturb their victims from one event to the next.
-fn disturbers_of(s: Settings) -> u64
+pub fn disturbers_of(s: Settings) -> u64
     ensures { λ r. ⌜ r ≡ disturbers s ⌝ }
 {
     s.interval as u64 + s.volume as u64 + s.block as u64
@@ -33,7 +33,7 @@ fn added_of(s: Settings) -> u64
 }
 
 // H with so many events in a window.
-fn bound_at(s: Settings, events: u32) -> u64
+pub fn bound_at(s: Settings, events: u32) -> u64
     requires { ⌜ first-failed (settings-tests s) ≡ 0 ⌝ }
     requires { ⌜ (0 < events) × (events ≤ 16384) ⌝ }
     ensures { λ r. ⌜ r ≡ bound-at s events ⌝ }

@@ -29,7 +29,7 @@ unfolding disturbers
 disturbers-cover s = omega arith
 
 -- what an accepted device adds in a step, and its T'
-disturbers-le : (s : Settings) → InRange s → disturbers s ≤ 4176
+pub disturbers-le : (s : Settings) → InRange s → disturbers s ≤ 4176
 unfolding disturbers
 disturbers-le s ok = omega arith
 

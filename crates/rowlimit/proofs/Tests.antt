@@ -1,0 +1,43 @@
+-- The call's tests: which refusal comes first, and what it says that none does.
+use mathlib.Core.Path.{_≡_, sym, _∙_}
+use mathlib.Core.Bool.{true, not}
+use mathlib.Core.List.{List, [], _∷_}
+use Prim.Native.Nat.{ℕ, _<_}
+use borrow.Author.Tests.{ltb-true}
+use lib.Dec.{ltb}
+use Rattle.device.specs.declared.Settings.{Settings}
+use Rattle.device.specs.Refusal.{unless, refuse, first-failed}
+use Rattle.device.specs.Acceptance.{settings-tests}
+use Rattle.device.specs.Remap.{remap-allowed}
+use Rattle.device.proofs.Refusal.{or-later, refuse-passed}
+use Rattle.device.proofs.Acceptance.{settings-then}
+use Rattle.tracker.specs.declared.Position.{Position}
+use Rattle.tracker.specs.State.{position-allowed}
+use Rattle.tracker.proofs.States.PositionAllowed.{position-facts}
+use Rattle.tracker.proofs.Calls.Tests.{or-later-none}
+use Rattle.rowlimit.specs.Answers.{row-limit-tests}
+
+-- no test failed
+pub record Passed (s : Settings) (remap : List ℕ) (row : ℕ) (p : Position) : Type 0 where
+  pub settled : first-failed (settings-tests s) ≡ 0
+  pub inside : row < s .rows
+  pub allowed : remap-allowed remap ≡ true
+  pub early : p .events < s .window
+
+module _ (s : Settings) (remap : List ℕ) (row : ℕ) (p : Position) where
+  pub row-limit-tested : first-failed (row-limit-tests s remap row p) ≡ or-later (first-failed (settings-tests s)) (refuse (not (ltb row (s .rows))) 9 (refuse (not (remap-allowed remap)) 14 (refuse (not (position-allowed s p)) 21 0)))
+  unfolding row-limit-tests first-failed unless
+  row-limit-tested = settings-then s (unless (ltb row (s .rows)) 9 ∷ unless (remap-allowed remap) 14 ∷ unless (position-allowed s p) 21 ∷ [])
+
+  pub row-limit-passed : first-failed (row-limit-tests s remap row p) ≡ 0 → Passed s remap row p
+  row-limit-passed e =
+      let settled = or-later-none (first-failed (settings-tests s)) _ (sym row-limit-tested ∙ e) in
+      let nine = refuse-passed (ltb row (s .rows)) 8 _ (settled .1) in
+      let fourteen = refuse-passed (remap-allowed remap) 13 _ (nine .1) in
+      let last = refuse-passed (position-allowed s p) 20 0 (fourteen .1) in
+      record {
+        settled = settled .0;
+        inside = ltb-true row (s .rows) (nine .0);
+        allowed = fourteen .0;
+        early = position-facts s p (last .0) .early;
+      }
