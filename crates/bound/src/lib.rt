@@ -78,7 +78,7 @@ pub fn least_counters(s: Settings, threshold: u64) -> Answer
 }
 
 // The signed number that C gets.
-fn signed_number(answer: Answer) -> i64
+pub fn signed_number(answer: Answer) -> i64
     requires { ⌜ Small (outcome answer) ⌝ }
     ensures { λ r. ⌜ r ≡ signed (outcome answer) ⌝ }
 {

@@ -35,6 +35,11 @@ unfoldable pub or-later : ℕ → ℕ → ℕ
 or-later zero later = later
 or-later (suc k) later = suc k
 
+pub or-later-le : (k : ℕ) {later most : ℕ} → k ≤ most → later ≤ most → or-later k later ≤ most
+unfolding or-later
+or-later-le zero h later = later
+or-later-le (suc k) h later = h
+
 pub later-refuse : (failed : Bool) (k l later : ℕ) → or-later (refuse failed (suc k) l) later ≡ refuse failed (suc k) (or-later l later)
 unfolding refuse or-later
 later-refuse true k l later = refl

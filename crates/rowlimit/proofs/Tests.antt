@@ -2,15 +2,16 @@
 use mathlib.Core.Path.{_≡_, sym, _∙_}
 use mathlib.Core.Bool.{true, not}
 use mathlib.Core.List.{List, [], _∷_}
-use Prim.Native.Nat.{ℕ, _<_}
+use Prim.Native.Nat.{ℕ, _≤_, _<_}
+use native.Mathlib.Omega.{arith}
 use borrow.Author.Tests.{ltb-true}
-use lib.Dec.{ltb}
+use lib.Dec.{ltb, lit≤}
 use Rattle.device.specs.declared.Settings.{Settings}
 use Rattle.device.specs.Refusal.{unless, refuse, first-failed}
 use Rattle.device.specs.Acceptance.{settings-tests}
 use Rattle.device.specs.Remap.{remap-allowed}
-use Rattle.device.proofs.Refusal.{or-later, refuse-passed}
-use Rattle.device.proofs.Acceptance.{settings-then}
+use Rattle.device.proofs.Refusal.{or-later, or-later-le, refuse-passed, refuse-le}
+use Rattle.device.proofs.Acceptance.{settings-then, refusals-le}
 use Rattle.tracker.specs.declared.Position.{Position}
 use Rattle.tracker.specs.State.{position-allowed}
 use Rattle.tracker.proofs.States.PositionAllowed.{position-facts}
@@ -28,6 +29,15 @@ module _ (s : Settings) (remap : List ℕ) (row : ℕ) (p : Position) where
   pub row-limit-tested : first-failed (row-limit-tests s remap row p) ≡ or-later (first-failed (settings-tests s)) (refuse (not (ltb row (s .rows))) 9 (refuse (not (remap-allowed remap)) 14 (refuse (not (position-allowed s p)) 21 0)))
   unfolding row-limit-tests first-failed unless
   row-limit-tested = settings-then s (unless (ltb row (s .rows)) 9 ∷ unless (remap-allowed remap) 14 ∷ unless (position-allowed s p) 21 ∷ [])
+
+  -- no refusal is above 21
+  pub row-limit-refusal-le : first-failed (row-limit-tests s remap row p) ≤ 21
+  row-limit-refusal-le =
+      rw row-limit-tested
+      (or-later-le (first-failed (settings-tests s)) (omega (arith, refusals-le s))
+      (refuse-le (not (ltb row (s .rows))) 9 (lit≤ tt)
+      (refuse-le (not (remap-allowed remap)) 14 (lit≤ tt)
+      (refuse-le (not (position-allowed s p)) 21 (lit≤ tt) (lit≤ tt)))))
 
   pub row-limit-passed : first-failed (row-limit-tests s remap row p) ≡ 0 → Passed s remap row p
   row-limit-passed e =

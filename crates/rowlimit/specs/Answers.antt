@@ -22,3 +22,8 @@ row-limit-tests s remap row p =
 unfoldable pub row-limit-answer : Settings → List ℕ → ℕ → Position → Outcome ℕ
 row-limit-answer s remap row p =
     tested (first-failed (row-limit-tests s remap row p)) (accepted (row-figure s (p .events) (physical remap row)))
+
+-- the position as numbers, in their order
+unfoldable pub position-of : ℕ → ℕ → ℕ → ℕ → Position
+position-of events activations tracked spillover =
+    record { events = events; activations = activations; tracked = tracked; spillover = spillover }

@@ -6,9 +6,9 @@ ghost use mathlib.Core.Path.{_≡_};
 ghost use Prim.Native.Nat.{_<_, min};
 ghost use Rattle.device.specs.Refusal.{first-failed};
 ghost use Rattle.device.specs.Acceptance.{settings-tests};
-ghost use Rattle.bound.specs.Answers.{outcome};
+ghost use Rattle.bound.specs.Answers.{outcome, signed, settings-of};
 ghost use Rattle.limit.specs.ByRow.{carried-most, row-figure};
-ghost use Rattle.rowlimit.specs.Answers.{row-limit-tests, row-limit-answer};
+ghost use Rattle.rowlimit.specs.Answers.{row-limit-tests, row-limit-answer, position-of};
 
 // The refusal of the call, or 0.
 fn row_limit_refusal(s: Settings, remap: [u32; 16], row: u32, p: Position) -> u32
@@ -70,4 +70,41 @@ pub fn row_limit(s: Settings, remap: [u32; 16], row: u32, p: Position) -> Answer
     } else {
         Answer::Refused(k)
     }
+}
+
+// The same for C: the figure, or refusal k as -k.
+#[no_mangle]
+pub extern "C" fn row_tracker_row_limit(
+    rows: u32,
+    blast_diameter: u32,
+    volume: u32,
+    counters: u32,
+    interval: u32,
+    window: u32,
+    block: u32,
+    remap: &[u32; 16],
+    row: u32,
+    events: u32,
+    activations: u32,
+    tracked: u32,
+    spillover: u32,
+) -> i64
+    ensures { λ r. ⌜ r ≡ signed (row-limit-answer (settings-of rows «blast_diameter» volume counters interval window block) (now (remap .entry)) row (position-of events activations tracked spillover)) ⌝ }
+{
+    let s = Settings {
+        rows,
+        blast_diameter,
+        volume,
+        counters,
+        interval,
+        window,
+        block,
+    };
+    let p = Position {
+        events,
+        activations,
+        tracked,
+        spillover,
+    };
+    bound::signed_number(row_limit(s, *remap, row, p))
 }

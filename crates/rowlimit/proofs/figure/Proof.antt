@@ -1,11 +1,11 @@
 -- `rowlimit::figure` meets its contract: neither figure comes near 2^64.
-use Prim.Native.Nat.{_+_, _/_, _<_, _^_}
+use Prim.Native.Nat.{_/_, _<_, _^_}
 use native.Mathlib.Omega.{arith}
 use borrow.Author.Needs.{needs}
 use borrow.Author.Tests.{lt-ltb, le-ltb}
 use Rattle.device.proofs.Acceptance.{accepted-settings}
-use Rattle.bound.proofs.Totals.Bound.{bound-lt, bound-at-lt}
-use Rattle.limit.specs.ByRow.{own-event, first-figure, carried-most, second-figure, row-figure}
+use Rattle.limit.specs.ByRow.{own-event, first-figure, second-figure, row-figure}
+use Rattle.rowlimit.proofs.Figures.{first-figure-lt, carried-most-lt}
 use Rattle.rowlimit.proofs.figure.Statement.{statement}
 use Rattle.rowlimit.proofs.figure.Tie as tie
 
@@ -18,15 +18,14 @@ div-if1 : tie.Need-div-if1
 div-if1 c = let a = c .before .before in accepted-settings (a .args .s) (a .pre .0) .others .block .least
 
 add-result : tie.Need-add-result
-unfolding carried-most
+unfolding first-figure
 add-result c =
     let a = c .before .before .before .before in
     let s = a .args .s in
-    let ok = accepted-settings s (a .pre .0) .others in
+    let ok = accepted-settings s (a .pre .0) in
     let first = c .before .before .before .bound-at in
-    let one : first .result < 2 ^ 29 =
-    rw (first .ensures) (bound-at-lt s (a .args .events + 1) ok (omega (arith, ok .window .most, a .pre .1 .0))) in
-    let other : c .carried .result < 2 ^ 28 = rw (c .carried .ensures) (omega (arith, bound-lt s ok)) in
+    let one : first .result < 2 ^ 29 = rw (first .ensures) (first-figure-lt s ok (a .args .events) (a .pre .1 .0)) in
+    let other : c .carried .result < 2 ^ 28 = rw (c .carried .ensures) (carried-most-lt s ok (a .args .row)) in
     omega arith
 
 returns : tie.Need-returns
