@@ -1,5 +1,6 @@
 // Answers calls of the tracker from standard input, one answer for each whole request, for tests/calls/compare.py,
 // which has the layout of both. All numbers are words of four bytes, the lowest first.
+use bound::Answer;
 use device::Settings;
 use libc::STDIN_FILENO;
 use libc::STDOUT_FILENO;
@@ -204,7 +205,28 @@ fn call_agree(request: &[u8], rows: &[u32], counts: &[u32], answer: &mut [u8]) {
     call_agree_with(request, rows, counts, &rows2[0..n], &counts2[0..m], answer);
 }
 
-// Makes the call that the request names; one that is none of the four is taken as agreement.
+// A figure as a word; one that is too large for it becomes the largest word, which no figure is.
+fn figure_word(figure: u64) -> u32 {
+    if figure < 4294967295 {
+        figure as u32
+    } else {
+        4294967295
+    }
+}
+
+fn call_row_limit(request: &[u8], answer: &mut [u8]) {
+    let s = settings_at(request, 1);
+    let p = position_at(request, 8);
+    let remap = remap_at(request, 317);
+    let row = word(request, 12, 0);
+    let r = rowlimit::row_limit(s, remap, row, p);
+    match r {
+        Answer::Value(figure) => put_head(answer, 0, figure_word(figure), p),
+        Answer::Refused(k) => put_head(answer, k, 0, p),
+    }
+}
+
+// Makes the call that the request names; one that is none of the five is taken as that for a row's figure.
 fn call(
     request: &[u8],
     rows: &mut [u32],
@@ -219,8 +241,10 @@ fn call(
         call_activate(request, rows, counts, answer);
     } else if op == 2 {
         call_refresh(request, rows, counts, picks, answer);
-    } else {
+    } else if op == 3 {
         call_agree(request, rows, counts, answer);
+    } else {
+        call_row_limit(request, answer);
     }
 }
 
