@@ -4,13 +4,15 @@ use Rattle.figures.specs.Edges.{edges}
 use Rattle.figures.specs.Spellings.{spellings}
 use Rattle.figures.specs.Remaps.{remaps}
 use Rattle.figures.specs.Holds.{holds}
-use Rattle.figures.specs.Claims.{Figures-hold, Edges-hold, Spellings-hold, Remaps-hold, Holds-hold}
+use Rattle.figures.specs.ByRow.{by-row}
+use Rattle.figures.specs.Claims.{Figures-hold, Edges-hold, Spellings-hold, Remaps-hold, Holds-hold, Rows-hold}
 use Rattle.figures.proofs.Tests.{holds-every}
 use Rattle.figures.proofs.Table.{figures-pass}
 use Rattle.figures.proofs.Edges.{edges-pass}
 use Rattle.figures.proofs.Spellings.{spellings-pass}
 use Rattle.figures.proofs.Remaps.{remaps-pass}
 use Rattle.figures.proofs.Holds.{holds-pass}
+use Rattle.figures.proofs.ByRow.{by-row-pass}
 
 pub figures-hold : Figures-hold
 unfolding Figures-hold
@@ -31,3 +33,7 @@ remaps-hold = holds-every remaps remaps-pass
 pub holds-hold : Holds-hold
 unfolding Holds-hold
 holds-hold = holds-every holds holds-pass
+
+pub rows-hold : Rows-hold
+unfolding Rows-hold
+rows-hold = holds-every by-row by-row-pass

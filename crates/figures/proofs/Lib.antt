@@ -5,4 +5,5 @@ pub mod Edges
 pub mod Spellings
 pub mod Remaps
 pub mod Holds
+pub mod ByRow
 pub mod Claims

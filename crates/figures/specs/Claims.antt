@@ -6,6 +6,7 @@ use Rattle.figures.specs.Edges.{edges}
 use Rattle.figures.specs.Spellings.{spellings}
 use Rattle.figures.specs.Remaps.{remaps}
 use Rattle.figures.specs.Holds.{holds}
+use Rattle.figures.specs.ByRow.{by-row}
 
 -- every figure of a table is what the definitions give
 unfoldable pub Table-holds : List Figure → Type 0
@@ -30,3 +31,7 @@ Remaps-hold = Table-holds remaps
 -- and those of rows held open
 unfoldable pub Holds-hold : Type 0
 Holds-hold = Table-holds holds
+
+-- and those of single rows
+unfoldable pub Rows-hold : Type 0
+Rows-hold = Table-holds by-row
