@@ -1,5 +1,6 @@
 -- Each row's figures: where its own block lies, and the limit by row from the invariant.
 use mathlib.Core.Path.{_≡_, refl, sym}
+use mathlib.Core.Bool.{cond}
 use mathlib.Core.List.{List, List·Memᴰ}
 use Prim.Native.Nat.{ℕ, suc, _+_, _-_, _*_, _%_, _≤_, _<_, min}
 use native.Mathlib.Nat.{div-mul-le-self, div-lt-iff-lt-mul, lt-div-mul-add, div-eq-of-lt-le}
@@ -67,14 +68,19 @@ module _ (s : Settings) (ok : Accepted s) (row : ℕ) (inside : row < s .rows) w
       let at : x .refreshes % s .window ≡ e = i .counted in
       record {
         in-first = λ first. rw at (omega (arith, carry .first first row inside));
-        passed = λ gone. rw at (omega (arith, carry .passed row inside (own-passed e (rw at at gone))));
+        passed = λ gone. let behind : own-event s row < e = omega (arith, gone) in rw at (omega (arith, carry .passed row inside (own-passed e behind)));
         otherwise = rw at (omega (arith, carry .small row inside, carried-own (i .recent refl)));
       }
+
+-- the first of two figures where b is below e, else the second
+either-figure : (b e first second : ℕ) {d : ℕ} → d ≤ second → (b < e → d ≤ first) → d ≤ cond (ltb b e) first second
+either-figure b e first second otherwise passed =
+    split (ltb b e) (λ on. rw on (passed (ltb-true b e on))) (λ off. rw off otherwise)
 
 -- whichever of its figures it is, the row's disturbance is at most that
 pub row-limited-figure : (s : Settings) (x : Exact) (row : ℕ) → Row-limited s x row → x .disturbance row ≤ row-figure s (x .refreshes % s .window) row
 unfolding row-figure
 row-limited-figure s x row l =
-    split (ltb (own-event s row) (x .refreshes % s .window))
-    (λ on. rw on (l .passed (ltb-true (own-event s row) (x .refreshes % s .window) on)))
-    (λ off. rw off (l .otherwise))
+    either-figure (own-event s row) _ (first-figure s (x .refreshes % s .window)) (second-figure s (x .refreshes % s .window) row)
+    (l .otherwise)
+    (λ gone. l .passed (omega (arith, gone)))

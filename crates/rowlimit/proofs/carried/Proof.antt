@@ -1,10 +1,10 @@
 -- `rowlimit::carried` meets its contract: the row's own event is one of the window's, so that no difference is cut off.
-use Prim.Native.Nat.{_-_, _*_, _/_, _≤_}
+use Prim.Native.Nat.{ℕ, _*_, _^_, _≤_, _<_}
 use native.Mathlib.Nat.{mul-le-mul}
 use native.Mathlib.Omega.{arith}
 use borrow.Author.Needs.{needs}
 use Rattle.device.proofs.Acceptance.{accepted-settings}
-use Rattle.bound.specs.Totals.{disturbers, bound-of}
+use Rattle.bound.specs.Totals.{bound-of}
 use Rattle.bound.proofs.Totals.Bound.{disturbers-le}
 use Rattle.limit.specs.ByRow.{own-event, carried-most}
 use Rattle.limit.proofs.ByRow.{own-early}
@@ -12,7 +12,7 @@ use Rattle.rowlimit.proofs.carried.Statement.{statement}
 use Rattle.rowlimit.proofs.carried.Tie as tie
 
 sub-later : tie.Need-sub-later
-sub-later c = let a = c .before in accepted-settings (a .args .s) (a .pre .0) .others .window .least
+sub-later c = let a = c .before in omega (arith, accepted-settings (a .args .s) (a .pre .0) .others .window .least)
 
 div-later : tie.Need-div-later
 div-later c = let a = c .before .before in accepted-settings (a .args .s) (a .pre .0) .others .block .least
@@ -23,14 +23,14 @@ sub-later-2 c =
     let a = c .before .before in
     omega (arith, own-early (a .args .s) (accepted-settings (a .args .s) (a .pre .0)) (a .args .row) (a .pre .1))
 
+product-lt : {t k : ℕ} → t ≤ 4176 → k ≤ 8192 → t * k < 2 ^ 64
+product-lt ht hk = omega (arith, mul-le-mul ht hk)
+
 mul-gathered : tie.Need-mul-gathered
 mul-gathered c =
     let a = c .before .before .before in
-    let s = a .args .s in
-    let ok = accepted-settings s (a .pre .0) .others in
-    let few : s .window - 1 - a .args .row / s .block ≤ 8192 = omega (arith, ok .window .most) in
-    let product : disturbers s * (s .window - 1 - a .args .row / s .block) ≤ 4176 * 8192 = mul-le-mul (disturbers-le s ok) few in
-    rw (c .disturbers-of .ensures) (omega arith)
+    let ok = accepted-settings (a .args .s) (a .pre .0) .others in
+    rw (c .disturbers-of .ensures) (record { fits = product-lt (disturbers-le (a .args .s) ok) (omega (arith, ok .window .most)) })
 
 bound-at-requires : tie.Need-bound-at-requires
 bound-at-requires c κs =

@@ -1,7 +1,7 @@
 -- `rowlimit::row_limit` meets its contract.
-use mathlib.Core.Path.{_≡_, sym, _∙_}
+use mathlib.Core.Path.{_≡_, sym, _∙_, ap}
 use borrow.Author.Needs.{needs}
-use Rattle.device.specs.Refusal.{first-failed, accepted as accepted-with}
+use Rattle.device.specs.Refusal.{first-failed, accepted as accepted-with, refused}
 use Rattle.device.specs.Remap.{physical}
 use Rattle.device.proofs.Acceptance.{accepted-settings}
 use Rattle.device.proofs.Refusal.{tested-passed, tested-failed}
@@ -48,7 +48,7 @@ returns-2 c =
     let a = c .before .before .args in
     let k = c .before .row-limit-refusal in
     rw (tested-failed (first-failed (row-limit-tests (a .s) (a .remap) (a .row) (a .p))) (accepted-with (row-figure (a .s) (a .p .events) (physical (a .remap) (a .row)))) (λ e. c .if1 .left (k .ensures ∙ e)))
-    (rw (k .ensures))
+    (ap refused (k .ensures))
 
 pub row-limit-spec : {M : Type 1} → statement M
 row-limit-spec =
