@@ -1,6 +1,7 @@
 /*
- * The bound on a row's disturbance and the least counter count of a row refresh tracker,
- * for C and C++. Link with the static library `bound`; it needs no other library.
+ * The bound on a row's disturbance and the least counter count of a row refresh tracker, and
+ * the closer figure of a single row, for C and C++. Link with the static library `bound`, and
+ * for the row's figure with `rowlimit`; neither needs the other or any other library.
  *
  * Settings, in this order:
  *
@@ -16,9 +17,10 @@
  *                                                                     must be at least rows
  *
  * They are tested in this order, and refusal k of the first that is not allowed comes back
- * as -k. Every value of every argument may be passed. The functions keep no state and read
- * and write no memory of the caller, so that several threads may call them at once; they
- * always return, and fail in no way other than the refusals named here.
+ * as -k. Every value of every number may be passed. The functions keep no state and write no
+ * memory of the caller, and the only memory that they read are the sixteen numbers of a remap,
+ * so that several threads may call them at once; they always return, and fail in no way other
+ * than the refusals named here.
  */
 #ifndef ROW_TRACKER_H
 #define ROW_TRACKER_H
@@ -57,6 +59,34 @@ int64_t row_tracker_bound(uint32_t rows, uint32_t blast_diameter, uint32_t volum
 int64_t row_tracker_least_counters(uint32_t rows, uint32_t blast_diameter, uint32_t volume,
                                    uint32_t interval, uint32_t window, uint32_t block,
                                    uint64_t threshold);
+
+/*
+ * The closer figure of a row: the limit on how often the row is disturbed after it was last
+ * refreshed or activated, by where the tracker stands, whichever window it is in. It is never
+ * above 2 x H, and well below it for rows whose regular block comes late in a window.
+ *
+ * `remap` points to sixteen numbers: number r takes the place of the logical row's remainder r
+ * by 16, which gives the physical row. `row` is the logical row. The position: `events` so far
+ * in this window, `activations` since the last event, counted by their units, `tracked` rows,
+ * and `spillover`. Only `events` bears on the figure; the others are tested.
+ *
+ * Let H(i) be H with i in place of window, and own the physical row divided by block, rounded
+ * down: the event whose block holds the row. If events is above own, the figure is
+ * H(events + 1), else H(events + 1) plus the smaller of H(window) and
+ * disturbers x (window - 1 - own).
+ *
+ * Returns the figure, which is above 0, or
+ *   -1 to -7  the setting of that number is not allowed,
+ *   -9        row is not below rows,
+ *   -14       in the remap one of 0 to 15 is missing,
+ *   -21       events is not below window, activations is above interval, tracked above
+ *             counters, or spillover above 2000000000.
+ */
+int64_t row_tracker_row_limit(uint32_t rows, uint32_t blast_diameter, uint32_t volume,
+                              uint32_t counters, uint32_t interval, uint32_t window,
+                              uint32_t block, const uint32_t remap[16], uint32_t row,
+                              uint32_t events, uint32_t activations, uint32_t tracked,
+                              uint32_t spillover);
 
 #ifdef __cplusplus
 }

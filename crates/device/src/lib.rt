@@ -125,18 +125,19 @@ pub fn own_remap() -> [u32; 16]
     OWN_REMAP
 }
 
-// Whether a number occurs in a remap.
+// Whether a number occurs in a remap. It looks at every place, so that the compiler can look at several at once.
 fn occurs(remap: [u32; 16], k: u32) -> bool
     ensures { λ r. ⌜ r ≡ occurs-in 16 remap k ⌝ }
 {
+    let mut found = false;
     let mut i: usize = 16;
     while 0 < i {
         i -= 1;
         if remap[i] == k {
-            return true;
+            found = true;
         }
     }
-    false
+    found
 }
 
 // Whether a remap is accepted: each of 0 to 15 occurs in it.

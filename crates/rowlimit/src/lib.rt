@@ -3,9 +3,10 @@ use bound::Answer;
 use device::Settings;
 use tracker::Position;
 ghost use mathlib.Core.Path.{_≡_};
-ghost use Prim.Native.Nat.{_<_, min};
+ghost use Prim.Native.Nat.{_≤_, _<_, min};
 ghost use Rattle.device.specs.Refusal.{first-failed};
 ghost use Rattle.device.specs.Acceptance.{settings-tests};
+ghost use Rattle.bound.specs.Totals.{bound-of};
 ghost use Rattle.bound.specs.Answers.{outcome, signed, settings-of};
 ghost use Rattle.limit.specs.ByRow.{carried-most, row-figure};
 ghost use Rattle.rowlimit.specs.Answers.{row-limit-tests, row-limit-answer, position-of};
@@ -35,14 +36,17 @@ fn smaller(a: u64, b: u64) -> u64
     if a <= b { a } else { b }
 }
 
-// What a physical row may carry from the window before.
-fn carried(s: Settings, row: u32) -> u64
+// What a physical row may carry from the window before. H is at least what is given, so where less can have gathered it need not be worked out.
+fn carried(s: Settings, row: u32, least: u64) -> u64
     requires { ⌜ first-failed (settings-tests s) ≡ 0 ⌝ }
-    requires { ⌜ row < s .rows ⌝ }
+    requires { ⌜ (row < s .rows) × (least ≤ bound-of s) ⌝ }
     ensures { λ r. ⌜ r ≡ carried-most s row ⌝ }
 {
     let later = s.window - 1 - row / s.block;
     let gathered = bound::disturbers_of(s) * later as u64;
+    if gathered <= least {
+        return gathered;
+    }
     smaller(bound::bound_at(s, s.window), gathered)
 }
 
@@ -56,7 +60,7 @@ fn figure(s: Settings, events: u32, row: u32) -> u64
     if row / s.block < events {
         first
     } else {
-        first + carried(s, row)
+        first + carried(s, row, first)
     }
 }
 

@@ -4,6 +4,8 @@ use native.Mathlib.Omega.{arith}
 use borrow.Author.Needs.{needs}
 use borrow.Author.Tests.{lt-ltb, le-ltb}
 use Rattle.device.proofs.Acceptance.{accepted-settings}
+use Rattle.bound.specs.Totals.{bound-of}
+use Rattle.bound.proofs.Totals.Bound.{bound-grows}
 use Rattle.limit.specs.ByRow.{own-event, first-figure, second-figure, row-figure}
 use Rattle.rowlimit.proofs.Figures.{first-figure-lt, carried-most-lt}
 use Rattle.rowlimit.proofs.figure.Statement.{statement}
@@ -16,6 +18,14 @@ bound-at-requires c κs =
 
 div-if1 : tie.Need-div-if1
 div-if1 c = let a = c .before .before in accepted-settings (a .args .s) (a .pre .0) .others .block .least
+
+-- H(e + 1) is at most H(n)
+carried-requires : tie.Need-carried-requires
+unfolding bound-of
+carried-requires c κs =
+    let a = c .before .before .before in
+    let first = c .before .before .bound-at in
+    (a .pre .0, (a .pre .1 .1, rw (first .ensures) (bound-grows (a .args .s) (omega (arith, a .pre .1 .0)))))
 
 add-result : tie.Need-add-result
 unfolding first-figure
@@ -47,4 +57,4 @@ returns-2 c =
 pub figure-spec : {M : Type 1} → statement M
 figure-spec =
     tie.close
-    (tie.spec (λ c. search needs) bound-at-requires div-if1 (λ c κs. search needs) add-result returns returns-2)
+    (tie.spec (λ c. search needs) bound-at-requires div-if1 carried-requires add-result returns returns-2)
