@@ -12,6 +12,7 @@ use Rattle.device.specs.declared.Settings.{Settings}
 use Rattle.device.proofs.Acceptance.{Accepted}
 use Rattle.device.proofs.Victims.{in-between, between-in}
 use Rattle.bound.specs.Totals.{disturbers, bound-at, bound-of}
+use Rattle.bound.proofs.Totals.Bound.{bound-grows}
 use Rattle.summary.specs.Steps.{Summary}
 use Rattle.tracker.specs.Calls.{block-rows}
 use Rattle.limit.specs.Exact.{Exact}
@@ -84,3 +85,15 @@ row-limited-figure s x row l =
     either-figure (own-event s row) _ (first-figure s (x .refreshes % s .window)) (second-figure s (x .refreshes % s .window) row)
     (l .otherwise)
     (λ gone. l .passed (omega (arith, gone)))
+
+-- H(e + 1) is at most H(n)
+pub first-figure-le : (s : Settings) {e : ℕ} → e < s .window → first-figure s e ≤ bound-of s
+unfolding first-figure bound-of
+first-figure-le s early = bound-grows s (omega arith)
+
+pub row-figure-le : (s : Settings) {e : ℕ} (row : ℕ) → e < s .window → row-figure s e row ≤ 2 * bound-of s
+unfolding row-figure second-figure carried-most
+row-figure-le s {e} row early =
+    split (ltb (own-event s row) e)
+    (λ on. rw on (omega (arith, first-figure-le s early)))
+    (λ off. rw off (omega (arith, first-figure-le s early)))

@@ -18,11 +18,11 @@ use Rattle.tracker.proofs.States.StateOf.{read-back}
 use Rattle.tracker.proofs.Calls.SoundTests.{activation-refusals, refresh-refusals}
 use Rattle.summary.specs.Steps.{besides}
 use Rattle.limit.specs.Exact.{zeroed, disturbed-by, once, restored, renewed, after}
-use Rattle.limit.specs.Claims.{Demand-3, Demand-3-of-answers, Units-counted, Never-21, Events-modulo, Estimated, Window-figure, Own-event, Row-limit, Row-limit-of-answers, Row-figure-limits}
+use Rattle.limit.specs.Claims.{Demand-3, Demand-3-of-answers, Units-counted, Never-21, Events-modulo, Estimated, Window-figure, Own-event, Row-limit, Row-limit-of-answers, Row-figure-limits, Figures-closer}
 use Rattle.limit.proofs.Invariant.{inv-limit, inv-first, inv-present}
 use Rattle.limit.proofs.Run.{begun-accepted, plain-held, state-inv-run}
 use Rattle.limit.proofs.Answered.{answered-run}
-use Rattle.limit.proofs.ByRow.{own-early, own-holds, own-only, inv-row-limited, row-limited-figure}
+use Rattle.limit.proofs.ByRow.{own-early, own-holds, own-only, inv-row-limited, row-limited-figure, first-figure-le, row-figure-le}
 
 pub demand-3 : Demand-3
 unfolding Demand-3 bound-of
@@ -107,3 +107,7 @@ pub row-figure-limits : Row-figure-limits
 unfolding Row-figure-limits Row-limit Events-modulo
 row-figure-limits s st b calls row inside =
     rw (events-modulo s st b calls) (row-limited-figure s _ row (row-limit s st b calls row inside))
+
+pub figures-closer : Figures-closer
+unfolding Figures-closer
+figures-closer s e row early = (first-figure-le s early, row-figure-le s row early)

@@ -17,7 +17,7 @@ use Rattle.limit.specs.Exact.{Happened, activated, Exact, one-more, afte
 use Rattle.limit.specs.Present.{present}
 use Rattle.limit.specs.Run.{Command, Begun, state-after, happened}
 use Rattle.limit.specs.Answered.{Answered}
-use Rattle.limit.specs.ByRow.{own-event, row-figure, Row-limited}
+use Rattle.limit.specs.ByRow.{own-event, first-figure, row-figure, Row-limited}
 
 -- 'The limit on disturbance', demand 3, 'a single statement about the whole list': after it, every row's number is at most 2 × H, and at most H
 -- 'while the first window lasts' (f below n)
@@ -92,3 +92,8 @@ unfoldable pub Row-figure-limits : Type 0
 Row-figure-limits =
     (s : Settings) (st : State) → Begun s st → (calls : List Command) (row : ℕ) → row < s .rows →
     exact s (happened s calls st) .disturbance row ≤ row-figure s (state-after s calls st .position .events) row
+
+-- no row's figure is above 2 × H, and the first is at most H
+unfoldable pub Figures-closer : Type 0
+Figures-closer =
+    (s : Settings) (e row : ℕ) → e < s .window → (first-figure s e ≤ bound-of s) × (row-figure s e row ≤ 2 * bound-of s)

@@ -4,9 +4,8 @@ use native.Mathlib.Omega.{arith}
 use borrow.Author.Needs.{needs}
 use borrow.Author.Tests.{lt-ltb, le-ltb}
 use Rattle.device.proofs.Acceptance.{accepted-settings}
-use Rattle.bound.specs.Totals.{bound-of}
-use Rattle.bound.proofs.Totals.Bound.{bound-grows}
 use Rattle.limit.specs.ByRow.{own-event, first-figure, second-figure, row-figure}
+use Rattle.limit.proofs.ByRow.{first-figure-le}
 use Rattle.rowlimit.proofs.Figures.{first-figure-lt, carried-most-lt}
 use Rattle.rowlimit.proofs.figure.Statement.{statement}
 use Rattle.rowlimit.proofs.figure.Tie as tie
@@ -21,11 +20,10 @@ div-if1 c = let a = c .before .before in accepted-settings (a .args .s) (a .pre 
 
 -- H(e + 1) is at most H(n)
 carried-requires : tie.Need-carried-requires
-unfolding bound-of
+unfolding first-figure
 carried-requires c κs =
     let a = c .before .before .before in
-    let first = c .before .before .bound-at in
-    (a .pre .0, (a .pre .1 .1, rw (first .ensures) (bound-grows (a .args .s) (omega (arith, a .pre .1 .0)))))
+    (a .pre .0, (a .pre .1 .1, rw (c .before .before .bound-at .ensures) (first-figure-le (a .args .s) (a .pre .1 .0))))
 
 add-result : tie.Need-add-result
 unfolding first-figure
