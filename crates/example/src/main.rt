@@ -1,4 +1,5 @@
-// A program over the tracker: it is set up, rows are activated, and a refresh event names the row to refresh.
+// A program over the tracker: it is set up, rows are activated, a refresh event names the row to refresh, and a row's figure is asked for.
+use bound::Answer;
 use device::Settings;
 use libc::STDOUT_FILENO;
 use tracker::Activation;
@@ -32,7 +33,20 @@ fn activate(
     }
 }
 
-// Sets up on lent tables with our own remap, activates logical row 5 for two units and row 2 for one, then runs a refresh event with a lent list.
+// Prints the most that a logical row's disturbance can be where the tracker stands.
+fn print_limit(s: Settings, remap: [u32; 16], row: u32, p: Position) {
+    match rowlimit::row_limit(s, remap, row, p) {
+        Answer::Value(figure) => {
+            io::write_all(STDOUT_FILENO, b"at most ");
+            io::print_decimal(STDOUT_FILENO, figure);
+            io::write_all(STDOUT_FILENO, b"\n");
+        }
+        Answer::Refused(k) => print(b"refused ", k),
+    }
+}
+
+// Sets up on lent tables with our own remap, activates logical row 5 for two units and row 2 for one, then runs a refresh event with a lent list and
+// asks for the figure of row 11.
 fn main() {
     let s = Settings {
         rows: 16,
@@ -57,6 +71,7 @@ fn main() {
             if count == 1 {
                 print(b"picked ", list[0]);
             }
+            print_limit(s, remap, 11, next);
         }
         Refreshed::Refused(k, same) => print(b"refused ", k),
     }
