@@ -4,6 +4,7 @@
 
 pub mod bound;
 pub mod disturbance;
+pub mod figure;
 pub mod hold;
 pub mod limit;
 pub mod listing;

@@ -158,13 +158,7 @@ fn check_state(
     counts: &[u32],
     position: Position,
 ) -> Result<(), Refusal> {
-    if position.events >= settings.window
-        || position.activations > settings.interval
-        || position.tracked > settings.counters
-        || position.spillover > MAX_COUNT
-    {
-        return Err(Refusal::State);
-    }
+    check_position(settings, position)?;
     let (tracked_rows, unused_rows) = rows.split_at(position.tracked as usize);
     let (tracked_counts, unused_counts) = counts.split_at(position.tracked as usize);
     let rows_good = tracked_rows.iter().all(|row| *row < settings.rows);
@@ -178,6 +172,18 @@ fn check_state(
     } else {
         Err(Refusal::State)
     }
+}
+
+/// Refuses a position that breaks a rule by itself.
+pub fn check_position(settings: &Settings, position: Position) -> Result<(), Refusal> {
+    if position.events >= settings.window
+        || position.activations > settings.interval
+        || position.tracked > settings.counters
+        || position.spillover > MAX_COUNT
+    {
+        return Err(Refusal::State);
+    }
+    Ok(())
 }
 
 /// The summary that accepted tables and their position stand for.
