@@ -137,7 +137,8 @@ pub fn agree(
     Ok((0..settings1.rows).all(|row| summary1.estimate(row) == summary2.estimate(row)))
 }
 
-fn disturb_victims(settings: &Settings, summary: &mut Summary, row: u32) {
+/// A row that is activated or refreshed disturbs each of its victims.
+pub fn disturb_victims(settings: &Settings, summary: &mut Summary, row: u32) {
     for victim in victims(settings, row) {
         summary.disturb(victim);
     }
@@ -187,7 +188,7 @@ pub fn check_position(settings: &Settings, position: Position) -> Result<(), Ref
 }
 
 /// The summary that accepted tables and their position stand for.
-fn read(rows: &[u32], counts: &[u32], position: Position) -> Summary {
+pub fn read(rows: &[u32], counts: &[u32], position: Position) -> Summary {
     let entries = rows.iter().zip(counts).take(position.tracked as usize);
     Summary {
         counters: rows.len(),
