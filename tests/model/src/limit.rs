@@ -33,10 +33,10 @@ pub struct Report {
 /// Plays the run of this seed from its set up; an error says what did not hold.
 pub fn play(seed: u64) -> Result<Report, String> {
     let mut random = Random::new(seed);
-    let is_tiny = random.once_in(4);
+    let is_tiny = !random.once_in(3);
     let settings = if is_tiny {
         tiny_bank(&mut random)
-    } else if random.once_in(150) {
+    } else if random.once_in(200) {
         large_bank(&mut random)
     } else {
         random_settings(&mut random)
@@ -46,7 +46,11 @@ pub fn play(seed: u64) -> Result<Report, String> {
     } else {
         random_plan(&mut random, &settings)
     };
-    let early = random.choose(&[HARDLY_EVER, HARDLY_EVER, 20, 3]);
+    let early = random.choose(if is_tiny {
+        &[HARDLY_EVER, HARDLY_EVER, HARDLY_EVER, 20]
+    } else {
+        &[HARDLY_EVER, HARDLY_EVER, 20, 3]
+    });
     let faults = random.choose(&[HARDLY_EVER, 20]);
     let longest_hold = random.choose(&[1, 1, 3, LONGEST_HOLD]);
     // Either every call brings the same remap or each a new one.
@@ -194,8 +198,9 @@ impl Run {
     }
 
     /// Looks at every row right after an event, and else at those that the last call disturbed,
-    /// since the others stand no higher than before and have the same figures. In a large bank all
-    /// rows have their turn when a window begins: within it no figure of theirs falls.
+    /// since the others stand no higher than before and have the same figures. In a large bank every
+    /// row has its turn when a window begins: within it a figure falls only at the event whose block
+    /// has the row, which refreshes it.
     fn check(&mut self) -> Result<(), String> {
         self.check_units()?;
         let position = self.device.position;
@@ -218,14 +223,14 @@ impl Run {
         let report = &mut self.report;
         let position = self.device.position;
         let is_first = self.device.disturbance.in_first_window();
-        let highest = self.device.disturbance.counts()[row as usize];
+        let count = self.device.disturbance.counts()[row as usize];
 
         let (limit, percent) = if is_first {
             (self.bound, &mut report.first_window_percent)
         } else {
             (2 * self.bound, &mut report.later_percent)
         };
-        *percent = percent.max(100.0 * highest as f64 / limit as f64);
+        *percent = percent.max(100.0 * count as f64 / limit as f64);
 
         let present = figures.present(position.events);
         let has_passed = position.events > own_event(&self.settings, row);
@@ -239,16 +244,16 @@ impl Run {
         } else {
             &mut report.carried_percent
         };
-        *percent = percent.max(100.0 * highest as f64 / (present + carried) as f64);
+        *percent = percent.max(100.0 * count as f64 / (present + carried) as f64);
 
         let given = figures.row_limit(&self.remap, logical_row(&self.remap, row), position);
         let at = || format!("call {}, row {row} at {position:?}", report.calls);
         let given = given.map_err(|refusal| format!("{}: no figure: {refusal:?}", at()))?;
-        if highest <= limit && highest <= present + carried && highest <= given {
+        if count <= limit && count <= present + carried && count <= given {
             Ok(())
         } else {
             Err(format!(
-                "{}: disturbance {highest} is above the limit {limit}, the row's figure {} or the \
+                "{}: disturbance {count} is above the limit {limit}, the row's figure {} or the \
                  {given} that the call gives",
                 at(),
                 present + carried

@@ -19,7 +19,7 @@ pub enum Plan {
     Unison(usize),
     /// The same, with just more rows than the events before this one of the window can refresh.
     Feinting(u32),
-    /// The same up to a window's last event and then, once that has cleared the summary, up to this
+    /// The same past a window's last event and then, once that has cleared the summary, up to this
     /// one, with rows of its block alone: so they take the most with them from window to window.
     FeintingOver(u32),
     /// Disturbs one row from the event of its block over the window's end to the next such event,
@@ -35,7 +35,7 @@ impl Plan {
         match self {
             Plan::Carried(row) => {
                 device.disturbance.in_first_window()
-                    && device.position.events <= own_event(&device.settings, *row)
+                    && device.position.events < own_event(&device.settings, *row)
             }
             _ => false,
         }
@@ -45,25 +45,29 @@ impl Plan {
     pub fn next(&self, device: &Device, longest_hold: u32, random: &mut Random) -> (u32, u32) {
         let settings = &device.settings;
         let events = device.position.events;
+        let hold = random.between(1, longest_hold);
         let row = match self {
             Plan::Held(rows) if random.once_in(8) => return (rows[0], LONGEST_HOLD),
             Plan::Held(rows) => return (random.choose(&rows[1..]), 1),
             Plan::Uniform => random.between(0, settings.rows - 1),
             Plan::Few(rows) => random.choose(rows),
-            Plan::Unison(size) => row_beside_rank(device, *size, |_| true),
+            Plan::Unison(size) => row_beside_rank(device, *size),
             Plan::Feinting(last_event) => {
                 let events_left = (settings.window + last_event - events) % settings.window;
-                row_beside_rank(device, decoys(settings, events_left), |_| true)
+                row_beside_rank(device, decoys(settings, events_left))
             }
             Plan::FeintingOver(own) => {
                 let carrying = !device.disturbance.in_first_window() && events <= *own;
-                let last_event = if carrying { *own } else { settings.window - 1 };
-                let rank = decoys(settings, last_event - events);
-                row_beside_rank(device, rank, |row| own_event(settings, row) == *own)
+                let behind = if carrying { *own } else { settings.window };
+                row_between_targets(device, decoys(settings, behind - events), *own)
             }
-            Plan::Carried(row) => return (row_beside_unpicked(device, *row), 1),
+            Plan::Carried(row) => {
+                let room = settings.interval - device.position.activations;
+                let hold = hold.min(room).max(1);
+                return (row_beside_unpicked(device, *row, hold), hold);
+            }
         };
-        (row, random.between(1, longest_hold))
+        (row, hold)
     }
 }
 
@@ -72,12 +76,12 @@ fn decoys(settings: &Settings, events: u32) -> usize {
     (events * settings.volume + 1).min(settings.counters + 1) as usize
 }
 
-/// The least disturbed victim of the row that is the `rank`th in disturbance of those `among` which
-/// it is looked for: to activate it costs the least.
-fn row_beside_rank(device: &Device, rank: usize, among: impl Fn(u32) -> bool) -> u32 {
+/// The least disturbed victim of the row that is the `rank`th in disturbance: to activate it costs
+/// the least.
+fn row_beside_rank(device: &Device, rank: usize) -> u32 {
     let settings = &device.settings;
     let counts = device.disturbance.counts();
-    let mut order: Vec<u32> = (0..settings.rows).filter(|row| among(*row)).collect();
+    let mut order: Vec<u32> = (0..settings.rows).collect();
     order.sort_by_key(|row| Reverse(counts[*row as usize]));
     let target = order[rank.min(order.len()) - 1];
     let beside = victims(settings, target)
@@ -86,22 +90,54 @@ fn row_beside_rank(device: &Device, rank: usize, among: impl Fn(u32) -> bool) ->
     beside.unwrap_or(target)
 }
 
-/// A row that disturbs the target and leaves it out of the picks of the next event, unless that
-/// refreshes it anyway; best is one that leaves rows to be picked that disturb the target in turn.
-/// If there is none, the row that lifts the next picks highest above the target.
-fn row_beside_unpicked(device: &Device, target: u32) -> u32 {
+/// The row that raises most of the lowest of so many targets: the most disturbed rows of event
+/// `own`'s block, without those that only disturb. Of equal ones the higher, which is picked later.
+fn row_between_targets(device: &Device, size: usize, own: u32) -> u32 {
+    let settings = &device.settings;
+    let counts = device.disturbance.counts();
+    // Each victim of such a row is a target.
+    let only_disturbs = |row: &u32| row % (settings.blast_diameter / 2 + 1) == 0;
+    let mut targets: Vec<u32> = (0..settings.rows)
+        .filter(|row| own_event(settings, *row) == own && !only_disturbs(row))
+        .collect();
+    targets.sort_by_key(|row| Reverse((counts[*row as usize], *row)));
+    targets.truncate(size);
+    let Some(lowest) = targets.last() else {
+        return own * settings.block;
+    };
+    let raised = |row: &u32| {
+        let victims = victims(settings, *row);
+        let hit = targets.iter().filter(|target| victims.contains(target));
+        let lowest_hit = hit
+            .clone()
+            .filter(|row| counts[**row as usize] == counts[*lowest as usize]);
+        (lowest_hit.count(), hit.count())
+    };
+    let beside = victims(settings, *lowest);
+    let sources = beside.into_iter().filter(only_disturbs);
+    sources.max_by_key(raised).unwrap_or(*lowest)
+}
+
+/// A row that disturbs the target and, held so long, leaves it out of the picks of the next event,
+/// unless that refreshes it anyway; best is one that leaves rows to be picked that are not in the
+/// block and disturb the target in turn. If there is none, the row that lifts the picks highest.
+fn row_beside_unpicked(device: &Device, target: u32, hold: u32) -> u32 {
     let settings = &device.settings;
     let summary = device.summary();
     let beside = victims(settings, target);
-    let refreshed_next = device.position.events == own_event(settings, target);
-    // Whether the target is picked, how many picks are beside it, and the sum of the other picks.
+    let event = device.position.events;
+    let refreshed_next = event == own_event(settings, target);
+    // Whether the target is left out, how many picks help, and the sum of the picks but the target.
     let outlook = |row: u32| {
         let mut after = summary.clone();
-        after.drop_row(row);
-        disturb_victims(settings, &mut after, row);
+        for _ in 0..hold {
+            after.drop_row(row);
+            disturb_victims(settings, &mut after, row);
+        }
         let picks = after.pick(settings.volume as usize);
         let lasts = refreshed_next || !picks.contains(&target);
-        let helpful = picks.iter().filter(|row| beside.contains(row)).count();
+        let helps = |row: &u32| beside.contains(row) && own_event(settings, *row) != event;
+        let helpful = picks.iter().filter(|row| helps(row)).count();
         let others = picks.iter().filter(|row| **row != target);
         let height: u32 = others.map(|row| after.estimate(*row)).sum();
         (lasts, helpful, height)
@@ -122,14 +158,14 @@ fn row_beside_unpicked(device: &Device, target: u32) -> u32 {
 /// A bank of 16 or 32 rows, on which the figures by row are nearly reached.
 pub fn tiny_bank(random: &mut Random) -> Settings {
     let rows = random.choose(&[16, 16, 16, 32]);
-    let block = random.choose(&[1, 1, 2, 3, 4, 5, 6, 8, 16, 17]);
+    let block = random.choose(&[1, 1, 2, 2, 3, 3, 4, 5, 8, 17]);
     let volume = random.choose(&[1, 1, 1, 2, 3]);
     Settings {
         rows,
-        blast_diameter: random.choose(&[2, 4]),
+        blast_diameter: random.choose(&[2, 4, 4]),
         volume,
         counters: volume + random.between(0, 15),
-        interval: random.choose(&[1, 2, 4, 9, 40, 150]),
+        interval: random.choose(&[1, 2, 3, 4, 5, 9, 20, 200]),
         window: u32::div_ceil(rows, block) + random.choose(&[0, 0, 0, 1, 2, 5]),
         block,
     }
