@@ -1,14 +1,14 @@
 #!/usr/bin/env python3
-"""Compares the library's set up, activation, refresh event and agreement with the plain model.
+"""Compares the library's set up, activation, refresh event, agreement and row's figure with the plain model.
 
     rt check test_calls
     python3 tests/calls/compare.py [--seed N] [--program FILE]
 
 The program of crates/test_calls makes the library's calls. Builds the model, then compares the
 number and all lent memory after each call: on document 01's example and on edges, with answers
-written by hand (example.calls, edges.calls), and on the calls of cases.py, the random ones with one
-fixed and one fresh seed (--seed repeats a fresh one). What the model gives is also held against what
-the case was made for. Queries and answers stay in target/calls/.
+written by hand (example.calls, edges.calls), and on the calls of cases.py and figures.py, the random ones
+with one fixed and one fresh seed (--seed repeats a fresh one). What the model gives is also held against
+what the case was made for. Queries and answers stay in target/calls/.
 Exit status: 0 all equal; 1 a difference; 2 something is missing or cannot be built.
 """
 
@@ -28,6 +28,7 @@ from comparison import (
     BLOCK, BUILD_MODEL, COUNTERS, DIAMETER, FIXED_SEED, INTERVAL, MODEL, ROOT, ROWS, Run, Tally,
     TIME_LIMIT, VOLUME, WINDOW, arguments_with_seeds, build, give_up, read_figures,
 )
+from figures import FIGURE_KINDS, figure_kinds, figure_sweeps, random_figures
 from holds import LONGEST, is_accepted_hold
 from remaps import NAMES, OURS, REFUSED, is_accepted, physical_row
 from states import (
@@ -38,7 +39,7 @@ HERE = "tests/calls"
 OUT = "target/calls"
 WRITTEN = {"example": "document 01's example", "edges": "edges"}
 MODEL_CALLS = [MODEL, "calls"]
-WITH_REMAP = ("set_up", "activate")
+WITH_REMAP = ("set_up", "activate", "row_limit")
 
 
 # Queries and answers of the model
@@ -46,6 +47,8 @@ WITH_REMAP = ("set_up", "activate")
 
 def query(case):
     parts = [case.call, str(case.state)]
+    if case.call == "row_limit":
+        parts = [case.call, *map(str, case.state.settings), listed(case.state.position)]
     if case.call == "refresh":
         parts.append(listed(case.argument))
     elif case.argument is not None:
@@ -58,8 +61,10 @@ def query(case):
 
 
 def answered(case, answer):
-    """The number of an answer line and the state that it hands back."""
+    """The number of an answer line and the state that it hands back; a figure hands back none."""
     numbers = [int(word) for word in answer.split()]
+    if case.call == "row_limit":
+        return numbers[0], case.state
     lists = read_lists(numbers[1:], 3)[0]
     return numbers[0], State(case.state.settings, *lists)
 
@@ -78,7 +83,11 @@ def read_query(text):
     text, _, remap = text.partition(" remap ")
     remap = tuple(map(int, remap.split())) or OURS
     call, *words = text.split()
-    state, rest = read_state([int(word) for word in words])
+    numbers = [int(word) for word in words]
+    if call == "row_limit":
+        (position,), rest = read_lists(numbers[7:], 1)
+        return case(call, State(tuple(numbers[:7]), [], [], position), rest[0], remap=remap)
+    state, rest = read_state(numbers)
     if call == "activate":
         return case(call, state, rest[0], remap=remap, hold=rest[1])
     if call == "refresh":
@@ -98,10 +107,10 @@ def read_state(numbers):
 # A request: the call, settings, position, row, lengths of both tables and of the picks, rows,
 # counts, picks; then the second state of an agreement: settings, position, lengths, rows, counts;
 # then the remap, which is not looked at in an event or an agreement, and the hold, which is looked at
-# in an activation alone.
+# in an activation alone. A figure looks at the settings, the position, the row and the remap.
 # An answer: the refusal or 0, the value, the position, rows, counts, picks, all as after the call.
 
-CALLS = ("set_up", "activate", "refresh", "agree")
+CALLS = ("set_up", "activate", "refresh", "agree", "row_limit")
 PICKS = 32  # places for the picks
 REQUEST = struct.Struct(f"<{16 + 2 * PLACES + PICKS + 13 + 2 * PLACES + 16 + 1}I")
 ANSWER = struct.Struct(f"<{6 + 2 * PLACES + PICKS}I")
@@ -120,7 +129,7 @@ def lengths_and_tables(state):
 
 
 def request(case):
-    row = case.argument if case.call == "activate" else 0
+    row = case.argument if case.call in ("activate", "row_limit") else 0
     picks = case.argument if case.call == "refresh" else []
     other = case.argument if case.call == "agree" else State((0,) * 7, [], [], [0] * 4)
     lengths, tables = lengths_and_tables(case.state)
@@ -153,6 +162,10 @@ def answer_line(case, answer):
     if case.call == "refresh":
         lists.append((picks, given))
     parts = [str(-refusal if refusal else value)]
+    if case.call == "row_limit":
+        lent = case.state.rows, case.state.counts, case.state.position
+        changed = any([*numbers[:length]] != before for (numbers, length), before in zip(lists, lent))
+        return parts[0] + (" changed" if changed else "") + problem
     parts += [listed(numbers[:length]) for numbers, length in lists]
     if case.call == "agree":
         other = case.argument
@@ -220,6 +233,8 @@ def kinds_of(case, answer):
         yield from activation_kinds(case, after)
     if case.call == "refresh":
         yield from event_kinds(case)
+    if case.call == "row_limit":
+        yield from figure_kinds(case)
 
 
 def order_kinds(case, number):
@@ -343,6 +358,7 @@ EXPECTED_KINDS = (
     "event: block empty", "event: fewer rows tracked than the volume", "event: no row tracked",
     "event: equal counts at the cut between picked and not", "event: tracked row in the block",
     "event: list longer than the volume",
+    *FIGURE_KINDS,
 )
 
 
@@ -400,9 +416,10 @@ def main():
     kinds = collections.Counter()
     check_written(tally, program)
     model = Model()
-    compare(tally, kinds, program, list(sweep_cases()), "sweeps")
-    compare(tally, kinds, program, list(random_cases(random.Random(FIXED_SEED), model)), "fixed")
-    compare(tally, kinds, program, list(random_cases(random.Random(fresh_seed), model)), "fresh")
+    compare(tally, kinds, program, [*sweep_cases(), *figure_sweeps()], "sweeps")
+    for name, seed in (("fixed", FIXED_SEED), ("fresh", fresh_seed)):
+        rng = random.Random(seed)
+        compare(tally, kinds, program, [*random_cases(rng, model), *random_figures(rng)], name)
     model.close()
     tally.begin("how often each kind of call occurred")
     tally.check_kinds(kinds, EXPECTED_KINDS)

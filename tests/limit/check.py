@@ -1,14 +1,17 @@
 #!/usr/bin/env python3
-"""Checks the limit on disturbance on random runs of the plain model.
+"""Checks the limit on disturbance and each row's closer figure on random runs of the plain model.
 
     python3 tests/limit/check.py [--seed N] [--runs N]
 
-Builds the model, which then plays the runs (tests/model/src/limit.rs): settings, holds, early events
-and refused calls at random, one remap for all calls or another at each, and rows at random or chosen
-to drive disturbance high. After each call every row's disturbance has to be at most 2 x H, and at
-most H while the first window lasts; a hold has to do what its units do one by one; a call is refused
-only for its row, its hold, its remap, its list or an interval without room for its units. One fixed
-and one fresh seed (--seed repeats a fresh one).
+Builds the model, which then plays the runs (tests/model/src/limit.rs, plan.rs): settings, holds, early
+events and refused calls at random, one remap for all calls or another at each, and rows at random or
+chosen to drive disturbance high, in two of three runs that of rows of a tiny bank over a window's end.
+After each call every row's disturbance has to be at most 2 x H, and at most H while the first window
+lasts; at most H(e + 1) in the first window and once the row's event has passed, and else at most that
+and what the row may have carried over; and at most the figure that the call `row_limit` gives at the
+position that the run left, which has to be accepted. A hold has to do what its units do one by one; a
+call is refused only for its row, its hold, its remap, its list or an interval without room for its
+units. One fixed and one fresh seed (--seed repeats a fresh one).
 Exit status: 0 the limit held; 1 it did not; 2 something is missing or cannot be built.
 """
 
@@ -25,7 +28,7 @@ from comparison import (
     BUILD_MODEL, FIXED_SEED, MODEL, ROOT, TIME_LIMIT, Tally, arguments_with_seeds, build, give_up,
 )
 
-RUNS = 1000  # for each seed
+RUNS = 3000  # for each seed
 CLOSING = re.compile(r"limit: (\d+) passed, (\d+) failed")
 
 

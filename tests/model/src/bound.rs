@@ -6,7 +6,7 @@ use crate::settings::{Settings, MAX_COUNTERS};
 /// 'H', or the refusal of the settings.
 pub fn bound(settings: &Settings) -> Result<u64, Refusal> {
     settings.check()?;
-    Ok(bound_of_accepted(settings))
+    Ok(bound_at(settings, settings.window))
 }
 
 /// The smallest counter count with 2 x H below the threshold; `settings.counters` is not read.
@@ -17,18 +17,18 @@ pub fn least_counters(settings: &Settings, threshold: u64) -> Result<u32, Refusa
             counters,
             ..*settings
         };
-        if 2 * bound_of_accepted(&candidate) < threshold {
+        if 2 * bound_at(&candidate, candidate.window) < threshold {
             return Ok(counters);
         }
     }
     Err(Refusal::Threshold)
 }
 
-fn bound_of_accepted(settings: &Settings) -> u64 {
+/// 'H(i)': the bound of accepted settings with `events` in place of n; P x n is not tested again.
+pub fn bound_at(settings: &Settings, events: u32) -> u64 {
     let blast_diameter = u64::from(settings.blast_diameter);
-    let window = u64::from(settings.window);
     let mut total = 0;
-    for j in (1..window).rev() {
+    for j in (1..u64::from(events)).rev() {
         total += blast_diameter * disturbers(settings);
         total = total * size(settings, j - 1) / size(settings, j);
     }
@@ -36,7 +36,7 @@ fn bound_of_accepted(settings: &Settings) -> u64 {
 }
 
 /// "T'": the most rows that disturb their neighbours from one event to the next.
-fn disturbers(settings: &Settings) -> u64 {
+pub fn disturbers(settings: &Settings) -> u64 {
     u64::from(settings.interval) + u64::from(settings.volume) + u64::from(settings.block)
 }
 

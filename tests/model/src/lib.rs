@@ -3,10 +3,13 @@
 //! product.
 
 pub mod bound;
+pub mod device;
 pub mod disturbance;
+pub mod figure;
 pub mod hold;
 pub mod limit;
 pub mod listing;
+pub mod plan;
 pub mod random;
 pub mod refusal;
 pub mod remap;

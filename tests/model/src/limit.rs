@@ -1,16 +1,15 @@
-//! Random runs of calls on which the limit on disturbance (demand 3) has to hold.
+//! Random runs of calls on which the limit on disturbance (demand 3) and each row's closer figure
+//! (document 02, C-17) have to hold.
 
-use std::cmp::Reverse;
-
-use crate::bound::bound;
-use crate::disturbance::Disturbance;
+use crate::bound::{bound, bound_at};
+use crate::device::Device;
+use crate::figure::{own_event, Figures};
 use crate::hold::LONGEST_HOLD;
+use crate::plan::{is_large, large_bank, random_plan, random_settings, tiny_bank, tiny_plan};
 use crate::random::Random;
 use crate::refusal::Refusal;
 use crate::remap::{check_remap, Remap, OUR_REMAP};
-use crate::settings::{Settings, MAX_ROWS};
-use crate::tracker::{activate, refresh, set_up, Position};
-use crate::victims::{victims, SUBARRAY_ROWS};
+use crate::settings::Settings;
 
 /// Once in so many calls.
 const HARDLY_EVER: u32 = 1_000_000;
@@ -23,39 +22,43 @@ pub struct Report {
     /// Accepted activations of more than one unit.
     pub held: u64,
     /// The highest disturbance, in percent of H during the first window and of 2 x H later.
-    pub first_window_percent: u64,
-    pub later_percent: u64,
-}
-
-/// How a run chooses the physical rows that it activates.
-enum Plan {
-    Uniform,
-    /// Some rows, in random order.
-    Few(Vec<u32>),
-    /// Keeps that many of the most disturbed rows equally high.
-    Unison(usize),
-    /// The same, with just more rows than the events before this one of the window can refresh.
-    Feinting(u32),
-    /// Holds the first row and lets the others have more activations, of one unit each.
-    Held(Vec<u32>),
+    pub first_window_percent: f64,
+    pub later_percent: f64,
+    /// The nearest that a row came to its closer figure, in percent: to H(e + 1), and to the figure
+    /// with what the row may have carried over a window's end.
+    pub present_percent: f64,
+    pub carried_percent: f64,
 }
 
 /// Plays the run of this seed from its set up; an error says what did not hold.
 pub fn play(seed: u64) -> Result<Report, String> {
     let mut random = Random::new(seed);
-    let settings = if random.once_in(200) {
+    let is_tiny = !random.once_in(3);
+    let settings = if is_tiny {
+        tiny_bank(&mut random)
+    } else if random.once_in(200) {
         large_bank(&mut random)
     } else {
         random_settings(&mut random)
     };
-    let plan = random_plan(&mut random, &settings);
-    let early = random.choose(&[HARDLY_EVER, HARDLY_EVER, 20, 3]);
+    let plan = if is_tiny {
+        tiny_plan(&mut random, &settings)
+    } else {
+        random_plan(&mut random, &settings)
+    };
+    let early = random.choose(if is_tiny {
+        &[HARDLY_EVER, HARDLY_EVER, HARDLY_EVER, 20]
+    } else {
+        &[HARDLY_EVER, HARDLY_EVER, 20, 3]
+    });
     let faults = random.choose(&[HARDLY_EVER, 20]);
     let longest_hold = random.choose(&[1, 1, 3, LONGEST_HOLD]);
     // Either every call brings the same remap or each a new one.
     let same = random.once_in(2).then(|| random_remap(&mut random));
     let windows: &[u32] = if is_large(&settings) {
         &[1, 2]
+    } else if is_tiny {
+        &[2, 3]
     } else {
         &[1, 1, 2, 3, 5]
     };
@@ -81,10 +84,13 @@ pub fn play(seed: u64) -> Result<Report, String> {
             run.activate(random.between(0, settings.rows - 1), hold, &remap)
         } else if random.once_in(faults) {
             run.refresh(settings.volume - 1)
-        } else if random.once_in(early) || room == 0 && !random.once_in(faults) {
+        } else if plan.skips_interval(&run.device)
+            || random.once_in(early)
+            || room == 0 && !random.once_in(faults)
+        {
             run.refresh(settings.volume + random.between(0, 2))
         } else {
-            let (row, mut hold) = run.next_activation(&plan, longest_hold, &mut random);
+            let (row, mut hold) = plan.next(&run.device, longest_hold, &mut random);
             // More units than there is room for are refused.
             if hold > room && !random.once_in(faults) {
                 hold = room.max(1);
@@ -98,74 +104,32 @@ pub fn play(seed: u64) -> Result<Report, String> {
     Ok(run.report)
 }
 
-/// A tracker and the exact disturbance beside it.
-#[derive(Clone)]
-struct Device {
-    settings: Settings,
-    rows: Vec<u32>,
-    counts: Vec<u32>,
-    position: Position,
-    disturbance: Disturbance,
-}
-
-impl Device {
-    fn activate(&mut self, logical_row: u32, hold: u32, remap: &Remap) -> Result<(), Refusal> {
-        self.position = activate(
-            &self.settings,
-            &mut self.rows,
-            &mut self.counts,
-            self.position,
-            logical_row,
-            hold,
-            remap,
-        )?;
-        self.disturbance.activate(logical_row, hold, remap);
-        Ok(())
-    }
-
-    fn refresh(&mut self, length: u32) -> Result<(), Refusal> {
-        let mut picks = vec![u32::MAX; length as usize];
-        let (position, picked) = refresh(
-            &self.settings,
-            &mut self.rows,
-            &mut self.counts,
-            self.position,
-            &mut picks,
-        )?;
-        self.position = position;
-        self.disturbance.refresh(&picks[..picked]);
-        Ok(())
-    }
-}
-
 struct Run {
     settings: Settings,
     bound: u64,
+    /// H(i), from i = 1 to n.
+    bounds: Vec<u64>,
     device: Device,
     /// Is given the accepted calls alone, an activation for each unit.
     by_units: Device,
+    /// That of the last call that was accepted with one.
+    remap: Remap,
     report: Report,
 }
 
 impl Run {
     fn set_up(settings: Settings, remap: &Remap, random: &mut Random) -> Result<Run, String> {
-        let garbage = random.next() as u32;
-        let mut rows = vec![garbage; settings.counters as usize];
-        let mut counts = rows.clone();
-        let position = set_up(&settings, &mut rows, &mut counts, remap)
+        let device = Device::set_up(settings, remap, random.next() as u32)
             .map_err(|refusal| format!("set up refused: {refusal:?}"))?;
-        let device = Device {
-            settings,
-            rows,
-            counts,
-            position,
-            disturbance: Disturbance::set_up(&settings),
-        };
         let mut run = Run {
             settings,
             bound: bound(&settings).map_err(|refusal| format!("no bound: {refusal:?}"))?,
+            bounds: (1..=settings.window)
+                .map(|events| bound_at(&settings, events))
+                .collect(),
             by_units: device.clone(),
             device,
+            remap: *remap,
             report: Report::default(),
         };
         run.check()?;
@@ -189,6 +153,7 @@ impl Run {
         self.check_answer("activation", answer, expected)?;
         if answer.is_ok() {
             self.report.held += u64::from(hold > 1);
+            self.remap = *remap;
             for _ in 0..hold {
                 let unit = self.by_units.activate(logical_row, 1, remap);
                 unit.map_err(|refusal| format!("a unit refused: {refusal:?}"))?;
@@ -232,31 +197,66 @@ impl Run {
         }
     }
 
-    /// Looks at every row, or in a large bank at those that the last call disturbed, since the
-    /// others stand no higher than before.
+    /// Looks at every row right after an event, and else at those that the last call disturbed,
+    /// since the others stand no higher than before and have the same figures. In a large bank every
+    /// row has its turn when a window begins: within it a figure falls only at the event whose block
+    /// has the row, which refreshes it.
     fn check(&mut self) -> Result<(), String> {
         self.check_units()?;
-        let disturbance = &self.device.disturbance;
-        let counts = disturbance.counts();
-        let highest = if is_large(&self.settings) {
-            let disturbed = disturbance.disturbed().iter();
-            disturbed.map(|row| counts[*row as usize]).max()
+        let position = self.device.position;
+        let is_turn = position.events == 0 || !is_large(&self.settings);
+        if position.activations == 0 && is_turn {
+            (0..self.settings.rows).try_for_each(|row| self.check_row(row))
         } else {
-            counts.iter().copied().max()
+            let disturbed = self.device.disturbance.disturbed().to_vec();
+            disturbed.iter().try_for_each(|row| self.check_row(*row))
+        }
+    }
+
+    /// Holds a physical row's disturbance against the limit, against its closer figure and against
+    /// what the call gives for it at the position that the run left.
+    fn check_row(&mut self, row: u32) -> Result<(), String> {
+        let figures = Figures {
+            settings: &self.settings,
+            bound_at: |events| self.bounds[events as usize - 1],
         };
-        let highest = highest.unwrap_or(0);
-        let (limit, percent) = if disturbance.in_first_window() {
-            (self.bound, &mut self.report.first_window_percent)
+        let report = &mut self.report;
+        let position = self.device.position;
+        let is_first = self.device.disturbance.in_first_window();
+        let count = self.device.disturbance.counts()[row as usize];
+
+        let (limit, percent) = if is_first {
+            (self.bound, &mut report.first_window_percent)
         } else {
-            (2 * self.bound, &mut self.report.later_percent)
+            (2 * self.bound, &mut report.later_percent)
         };
-        *percent = (*percent).max(100 * highest / limit);
-        if highest <= limit {
+        *percent = percent.max(100.0 * count as f64 / limit as f64);
+
+        let present = figures.present(position.events);
+        let has_passed = position.events > own_event(&self.settings, row);
+        let carried = if is_first || has_passed {
+            0
+        } else {
+            figures.carried(row)
+        };
+        let percent = if carried == 0 {
+            &mut report.present_percent
+        } else {
+            &mut report.carried_percent
+        };
+        *percent = percent.max(100.0 * count as f64 / (present + carried) as f64);
+
+        let given = figures.row_limit(&self.remap, logical_row(&self.remap, row), position);
+        let at = || format!("call {}, row {row} at {position:?}", report.calls);
+        let given = given.map_err(|refusal| format!("{}: no figure: {refusal:?}", at()))?;
+        if count <= limit && count <= present + carried && count <= given {
             Ok(())
         } else {
             Err(format!(
-                "call {}: disturbance {highest} is above the limit {limit}",
-                self.report.calls
+                "{}: disturbance {count} is above the limit {limit}, the row's figure {} or the \
+                 {given} that the call gives",
+                at(),
+                present + carried
             ))
         }
     }
@@ -275,37 +275,6 @@ impl Run {
         } else {
             Err(format!("call {}: not what its units do", self.report.calls))
         }
-    }
-
-    /// The next physical row, and its hold.
-    fn next_activation(&self, plan: &Plan, longest_hold: u32, random: &mut Random) -> (u32, u32) {
-        let row = match plan {
-            Plan::Held(rows) if random.once_in(8) => return (rows[0], LONGEST_HOLD),
-            Plan::Held(rows) => return (random.choose(&rows[1..]), 1),
-            Plan::Uniform => random.between(0, self.settings.rows - 1),
-            Plan::Few(rows) => random.choose(rows),
-            Plan::Unison(size) => self.row_beside_rank(*size),
-            Plan::Feinting(last_event) => {
-                let window = self.settings.window;
-                let events_left = (window + last_event - self.device.position.events) % window;
-                let decoys = events_left * self.settings.volume + 1;
-                self.row_beside_rank(decoys.min(self.settings.counters + 1) as usize)
-            }
-        };
-        (row, random.between(1, longest_hold))
-    }
-
-    /// The least disturbed victim of the row that is the `rank`th in disturbance: to activate it
-    /// costs the least.
-    fn row_beside_rank(&self, rank: usize) -> u32 {
-        let counts = self.device.disturbance.counts();
-        let mut order: Vec<u32> = (0..self.settings.rows).collect();
-        order.sort_by_key(|row| Reverse(counts[*row as usize]));
-        let target = order[rank.min(order.len()) - 1];
-        let beside = victims(&self.settings, target)
-            .into_iter()
-            .min_by_key(|row| counts[*row as usize]);
-        beside.unwrap_or(target)
     }
 }
 
@@ -333,81 +302,4 @@ fn spoil(remap: &mut Remap, random: &mut Random) {
     let place = random.between(0, 15) as usize;
     let other = remap[(place + random.between(1, 15) as usize) % 16];
     remap[place] = random.choose(&[other, other, 16, 16 + remap[place], u32::MAX]);
-}
-
-fn random_settings(random: &mut Random) -> Settings {
-    let several_subarrays = random.once_in(10);
-    let large = several_subarrays || random.once_in(40);
-    let (rows, block) = if several_subarrays {
-        let subarrays = random.between(1, 2) * SUBARRAY_ROWS;
-        // Blocks of 33, 48 and 63 rows straddle an edge.
-        let rows = subarrays + 16 * random.choose(&[1, 2, 31, 32]);
-        (rows, random.choose(&[33, 48, 63, 64]))
-    } else {
-        let rows = 16 * random.between(1, if large { 32 } else { 3 });
-        (rows, random.choose(&[1, 2, 3, 4, 8, 9, 16, 17, 33, 64]))
-    };
-    let volume = random.choose(&[1, 1, 1, 2, 2, 3, 4, 16]);
-    let shortest_window = rows.div_ceil(block);
-    Settings {
-        rows,
-        blast_diameter: random.choose(&[2, 4]),
-        volume,
-        counters: volume + random.between(0, if large { 200 } else { 10 }),
-        interval: random.choose(&[1, 2, 3, 4, 6, 9, 12, 40, 150]),
-        window: shortest_window + random.choose(&[0, 0, 1, 2, 5, 16]),
-        block,
-    }
-}
-
-/// More than 65,536 rows: too many to look at each of them after each call.
-fn is_large(settings: &Settings) -> bool {
-    settings.rows > 65_536
-}
-
-/// With so many counters and so long an interval, a row that is hammered and never refreshed
-/// passes the limit.
-fn large_bank(random: &mut Random) -> Settings {
-    let rows = random.choose(&[65_552, 65_600, 131_072, 262_128, MAX_ROWS]);
-    let block = random.choose(&[63, 64]);
-    let volume = random.choose(&[1, 2, 4]);
-    Settings {
-        rows,
-        blast_diameter: random.choose(&[2, 4]),
-        volume,
-        counters: volume + random.between(20, 40),
-        interval: random.between(30, 40),
-        window: rows.div_ceil(block) + random.choose(&[0, 1]),
-        block,
-    }
-}
-
-fn random_plan(random: &mut Random, settings: &Settings) -> Plan {
-    // Those behind the sixth sort all rows.
-    let plans = if is_large(settings) { 6 } else { 10 };
-    match random.between(1, plans) {
-        1 => Plan::Uniform,
-        2..=4 => {
-            let spread = random.choose(&[1, 2, 4, 8]);
-            let edges = (settings.rows - 1) / SUBARRAY_ROWS;
-            let first = if edges > 0 && !random.once_in(3) {
-                SUBARRAY_ROWS * random.between(1, edges) - random.between(0, spread)
-            } else {
-                random.between(0, settings.rows - 1)
-            };
-            let few = random.between(1, 5);
-            let row = |_| (first + random.between(0, spread)) % settings.rows;
-            Plan::Few((0..few).map(row).collect())
-        }
-        5..=6 => {
-            // No row of these disturbs one that another disturbs.
-            let apart = settings.blast_diameter + 1;
-            let first = random.between(0, settings.rows - 1);
-            let row = |place| (first + place * apart) % settings.rows;
-            Plan::Held((0..=random.between(1, 2)).map(row).collect())
-        }
-        7 => Plan::Unison(random.between(1, 12) as usize),
-        8 => Plan::Feinting(random.between(0, settings.window - 1)),
-        _ => Plan::Feinting(settings.window - 1),
-    }
 }

@@ -137,7 +137,8 @@ pub fn agree(
     Ok((0..settings1.rows).all(|row| summary1.estimate(row) == summary2.estimate(row)))
 }
 
-fn disturb_victims(settings: &Settings, summary: &mut Summary, row: u32) {
+/// A row that is activated or refreshed disturbs each of its victims.
+pub fn disturb_victims(settings: &Settings, summary: &mut Summary, row: u32) {
     for victim in victims(settings, row) {
         summary.disturb(victim);
     }
@@ -158,13 +159,7 @@ fn check_state(
     counts: &[u32],
     position: Position,
 ) -> Result<(), Refusal> {
-    if position.events >= settings.window
-        || position.activations > settings.interval
-        || position.tracked > settings.counters
-        || position.spillover > MAX_COUNT
-    {
-        return Err(Refusal::State);
-    }
+    check_position(settings, position)?;
     let (tracked_rows, unused_rows) = rows.split_at(position.tracked as usize);
     let (tracked_counts, unused_counts) = counts.split_at(position.tracked as usize);
     let rows_good = tracked_rows.iter().all(|row| *row < settings.rows);
@@ -180,8 +175,20 @@ fn check_state(
     }
 }
 
+/// Refuses a position that breaks a rule by itself.
+pub fn check_position(settings: &Settings, position: Position) -> Result<(), Refusal> {
+    if position.events >= settings.window
+        || position.activations > settings.interval
+        || position.tracked > settings.counters
+        || position.spillover > MAX_COUNT
+    {
+        return Err(Refusal::State);
+    }
+    Ok(())
+}
+
 /// The summary that accepted tables and their position stand for.
-fn read(rows: &[u32], counts: &[u32], position: Position) -> Summary {
+pub fn read(rows: &[u32], counts: &[u32], position: Position) -> Summary {
     let entries = rows.iter().zip(counts).take(position.tracked as usize);
     Summary {
         counters: rows.len(),

@@ -3,9 +3,12 @@
 //! A list is its length and its numbers, STATE is the seven settings and the lists of rows,
 //! counts and position (events, activations, tracked, spillover). Queries:
 //! `set_up STATE [remap REMAP]`, `activate STATE ROW HOLD [remap REMAP]`, `refresh STATE PICKS`,
-//! `agree STATE STATE`. REMAP is 16 numbers, and where it is left out it is our own.
-//! The answer is the call's number and then every lent list as it is afterwards.
+//! `agree STATE STATE`, and `row_limit` with the settings, the list of the position, `ROW` and
+//! `[remap REMAP]`. REMAP is 16 numbers, and where it is left out it is our own.
+//! The answer is the call's number and then every lent list as it is afterwards; `row_limit` is
+//! lent none.
 
+use row_tracker_model::figure::row_limit;
 use row_tracker_model::refusal::Refusal;
 use row_tracker_model::remap::{Remap, OUR_REMAP};
 use row_tracker_model::settings::Settings;
@@ -17,6 +20,14 @@ use crate::numbers::Words;
 pub fn answer(line: &str) -> Option<String> {
     let mut words = Words::new(line);
     let call = words.word()?;
+    if call == "row_limit" {
+        let settings = words.settings()?;
+        let position = read_position(&mut words)?;
+        let logical_row = words.number()?;
+        let remap = read_remap(&mut words)?;
+        let figure = row_limit(&settings, &remap, logical_row, position);
+        return words.last(signed(figure.map(|figure| figure as i64)).to_string());
+    }
     let mut state = State::read(&mut words)?;
     let State {
         settings,
@@ -81,6 +92,16 @@ fn read_remap(words: &mut Words) -> Option<Remap> {
     Some(remap)
 }
 
+fn read_position(words: &mut Words) -> Option<Position> {
+    let [events, activations, tracked, spillover] = words.list()?.try_into().ok()?;
+    Some(Position {
+        events,
+        activations,
+        tracked,
+        spillover,
+    })
+}
+
 struct State {
     settings: Settings,
     rows: Vec<u32>,
@@ -93,17 +114,12 @@ impl State {
         let settings = words.settings()?;
         let rows = words.list()?;
         let counts = words.list()?;
-        let [events, activations, tracked, spillover] = words.list()?.try_into().ok()?;
+        let position = read_position(words)?;
         Some(State {
             settings,
             rows,
             counts,
-            position: Position {
-                events,
-                activations,
-                tracked,
-                spillover,
-            },
+            position,
         })
     }
 

@@ -17,6 +17,8 @@ pub fn check(seed: u64, runs: u64) -> i32 {
                 total.first_window_percent =
                     total.first_window_percent.max(report.first_window_percent);
                 total.later_percent = total.later_percent.max(report.later_percent);
+                total.present_percent = total.present_percent.max(report.present_percent);
+                total.carried_percent = total.carried_percent.max(report.carried_percent);
             }
             Err(what) => {
                 failed += 1;
@@ -26,8 +28,15 @@ pub fn check(seed: u64, runs: u64) -> i32 {
     }
     println!(
         "seed {seed}: {} calls, {} refused, {} of more than one unit; the highest disturbance is \
-         {} % of H in the first window and {} % of 2 x H later",
-        total.calls, total.refused, total.held, total.first_window_percent, total.later_percent
+         {:.2} % of H in the first window and {:.2} % of 2 x H later; the nearest to a row's figure \
+         is {:.2} % of H(e + 1) and {:.2} % with what it may have carried over",
+        total.calls,
+        total.refused,
+        total.held,
+        total.first_window_percent,
+        total.later_percent,
+        total.present_percent,
+        total.carried_percent
     );
     println!("limit: {} passed, {failed} failed", runs - failed);
     i32::from(failed > 0)
