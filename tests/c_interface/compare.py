@@ -1,13 +1,14 @@
 #!/usr/bin/env python3
 """Compares the library's C interface with the plain model, answer by answer.
 
-    rt staticlib bound
-    python3 tests/c_interface/compare.py [--seed N] [--archive FILE]
+    rt staticlib bound && rt staticlib rowlimit
+    python3 tests/c_interface/compare.py [--seed N] [--archive FILE] [--rows-archive FILE]
 
-Builds the model, answers.c and the example program, then compares on the figures of document 01
+Builds the model, answers.c and the example programs, then compares on the figures of document 01
 (figures.txt), on the limits of every setting, on the sweep that bench/ measures (sweep.py) and on
-random inputs: one fixed seed, one fresh (--seed repeats a fresh one). Queries and answers stay in
-target/c_interface/.
+random inputs: one fixed seed, one fresh (--seed repeats a fresh one). A row's figure is asked for
+in the calls that tests/calls compares with the model, and has to be the number that each was made
+for. Queries and answers stay in target/c_interface/.
 Exit status: 0 all equal; 1 a difference; 2 something is missing or cannot be built.
 """
 
@@ -21,33 +22,39 @@ import subprocess
 import sys
 
 sys.dont_write_bytecode = True
-sys.path.insert(0, str(pathlib.Path(__file__).resolve().parents[1]))
+TESTS = pathlib.Path(__file__).resolve().parents[1]
+sys.path[:0] = [str(TESTS), str(TESTS / "calls")]
 import sweep
 from comparison import (
     BLOCK, BUILD_MODEL, COUNTERS, C_FLAGS, FIXED_SEED, MAX_COUNTERS, MAX_WINDOW, ROOT, ROWS, Run,
     TIME_LIMIT, Tally, U32, U64, VOLUME, WINDOW, accepted_settings, arguments_with_seeds, build,
     changed, faulty_settings, give_up, limit_values, read_figures, spread,
 )
-from queries import OUT, bound_query, least_query, model_answers
+from figures import figure_sweeps, random_figures
+from queries import OUT, bound_query, least_query, model_answers, row_limit_query
 
 HERE = "tests/c_interface"
 ANSWERS = f"{OUT}/answers"
 EXAMPLES = (f"{OUT}/example_c", f"{OUT}/example_cxx")
+ROW_EXAMPLES = (f"{OUT}/row_example_c", f"{OUT}/row_example_cxx")
 
 # Building and running
 
 
-def build_all(archive):
-    if not os.path.exists(archive):
-        give_up(f"{archive} is missing; `rt staticlib bound` writes it")
+def build_all(archive, rows_archive):
+    for name, file in (("bound", archive), ("rowlimit", rows_archive)):
+        if not os.path.exists(file):
+            give_up(f"{file} is missing; `rt staticlib {name}` writes it")
     flags = (*C_FLAGS, "-Iinclude")
-    example = "examples/bound.c"
+    examples = ("examples/bound.c", archive, EXAMPLES), ("examples/row_limit.c", rows_archive, ROW_EXAMPLES)
     build(
         OUT,
         BUILD_MODEL,
-        ["cc", "-std=c99", *flags, f"{HERE}/answers.c", archive, "-o", ANSWERS],
-        ["cc", "-std=c99", *flags, example, archive, "-o", EXAMPLES[0]],
-        ["g++", *flags, "-x", "c++", example, "-x", "none", archive, "-o", EXAMPLES[1]],
+        ["cc", "-std=c99", *flags, f"{HERE}/answers.c", archive, rows_archive, "-o", ANSWERS],
+        *(["cc", "-std=c99", *flags, source, library, "-o", as_c]
+          for source, library, (as_c, _) in examples),
+        *(["g++", *flags, "-x", "c++", source, "-x", "none", library, "-o", as_cxx]
+          for source, library, (_, as_cxx) in examples),
     )
 
 
@@ -267,11 +274,23 @@ def compare_sweep(tally, kinds):
         tally.check(5 * sizes[size] >= sweep.COUNT, f"too few least counts {size}")
 
 
-# The example program
+# A row's figure
+
+
+def compare_rows(tally, cases, name):
+    """The numbers that the cases were made for."""
+    tally.begin(f"{name}: {len(cases)} figures of rows")
+    queries = [row_limit_query(case) for case in cases]
+    for case, query, answer in zip(cases, queries, library_answers(start_library(queries, name))):
+        tally.check(answer == case.number,
+                    f"{query} ({case.kind}): the number is {case.number}, the library gives {answer}")
+
+
+# The example programs
 
 
 def check_examples(tally):
-    tally.begin("example program, as C and as C++")
+    tally.begin("example programs, as C and as C++")
     usual = "bound H: 30\n2 x H:   60\n"
     cases = (
         ("", 0, usual + "least counter count for threshold 61: 2\n"),
@@ -290,7 +309,20 @@ def check_examples(tally):
         ("16 2 1 2 4 4 4294967296", 2, ""),
         ("16 2 1 2 4 4 4 18446744073709551616", 2, ""),
     )
-    for program, (arguments, status, output) in itertools.product(EXAMPLES, cases):
+    row_cases = (
+        ("", 0, (ROOT / HERE / "row_limit.example").read_text()),
+        ("16 2 1 2 4 4 4 5", 0, "row 5: 27 36 24 30\n"),
+        ("65536 2 1 677 166 8192 8 65535 0", 0, "row 65535: 175\n"),
+        ("16 2 1 2 4 4 4 5 4", 1, "row 5:\n"),
+        ("16 2 1 2 4 4 4 16 0", 1, "row 16:\n"),
+        ("16 2 1 2 4 0 4 0", 1, "row 0:\n"),
+        ("16 2 1 2 4 4 4", 2, ""),
+        ("16 2 1 2 4 4 4 5 0 0", 2, ""),
+        ("16 2 1 2 4 4 4 x", 2, ""),
+        ("16 2 1 2 4 4 4 4294967296", 2, ""),
+    )
+    runs = (*itertools.product(EXAMPLES, cases), *itertools.product(ROW_EXAMPLES, row_cases))
+    for program, (arguments, status, output) in runs:
         run = subprocess.run([program, *arguments.split()], capture_output=True, text=True,
                              timeout=TIME_LIMIT)
         good = (run.returncode, run.stdout, run.stderr != "") == (status, output, status != 0)
@@ -301,11 +333,13 @@ def main():
     parser = argparse.ArgumentParser(description="Compares the C interface with the model.")
     parser.add_argument("--archive", default=ROOT / "target/staticlib/libbound.a",
                         help="in place of target/staticlib/libbound.a")
+    parser.add_argument("--rows-archive", default=ROOT / "target/staticlib/librowlimit.a",
+                        help="in place of target/staticlib/librowlimit.a")
     arguments, fresh_seed = arguments_with_seeds(parser)
-    archive = os.path.abspath(arguments.archive)
+    archives = map(os.path.abspath, (arguments.archive, arguments.rows_archive))
 
     os.chdir(ROOT)
-    build_all(archive)
+    build_all(*archives)
     tally = Tally()
     kinds = collections.Counter()
     check_figures(tally)
@@ -314,6 +348,9 @@ def main():
     compare_sweep(tally, kinds)
     compare(tally, kinds, random_queries(random.Random(FIXED_SEED), 1, "fixed"), "fixed")
     compare(tally, kinds, random_queries(random.Random(fresh_seed), 0.25, "fresh"), "fresh")
+    compare_rows(tally, list(figure_sweeps()), "row_sweeps")
+    compare_rows(tally, list(random_figures(random.Random(FIXED_SEED))), "row_fixed")
+    compare_rows(tally, list(random_figures(random.Random(fresh_seed))), "row_fresh")
     tally.begin("how often each kind of answer occurred")
     tally.check_kinds(kinds, EXPECTED_KINDS)
     return tally.close("c_interface")

@@ -16,6 +16,12 @@ def least_query(settings, threshold):
     return "least " + " ".join(map(str, given + (threshold,)))
 
 
+def row_limit_query(case):
+    """A call of tests/calls/figures.py: settings, row, position, remap."""
+    numbers = (*case.state.settings, case.argument, *case.state.position, *case.remap)
+    return "row_limit " + " ".join(map(str, numbers))
+
+
 def model_answers(queries, name):
     """The model's answers; the queries are dealt out to as many models as there are cores."""
     parts = os.cpu_count() or 1

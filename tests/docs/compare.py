@@ -5,7 +5,7 @@
 
 Each page has a block marked rust that begins with the page's comment, below, and every block marked rust has to
 stand in crates/example/src/main.rt, line for line. README.md also says what the program prints, shows the example
-traces with what comes of them, has the lines of the trace of subarrays and of its listing in its table, and has a line of
+traces with what comes of them and the figures of rows, has the lines of the trace of subarrays and of its listing in its table, and has a line of
 the trace of large banks and one of its listing whose columns are full.
 Exit status: 0 all equal; 1 a difference.
 """
@@ -30,6 +30,7 @@ SHOWN = (
     "tests/listing/loaded.trace", "tests/listing/loaded.listing",
     "tests/listing/holds.trace", "tests/listing/holds.listing",
     "tests/writer/example.trace", "tests/writer/example.spelling", "tests/writer/example.fault",
+    "tests/c_interface/row_limit.example",
 )
 SUBARRAYS = ("tests/listing/subarrays.trace", "tests/listing/subarrays.listing")
 COLUMNS = {
@@ -59,8 +60,8 @@ def main():
             first = block.split("\n")[0]
             tally.check("\n" + block in source, f"the block that begins '{first}' is not in {SOURCE}")
     readme = (ROOT / "README.md").read_text()
-    printed = (ROOT / "crates/example/stdout").read_text().strip()
-    tally.check(f"`{printed}`" in readme, f"README.md does not say that it prints '{printed}'")
+    for printed in (ROOT / "crates/example/stdout").read_text().splitlines():
+        tally.check(f"`{printed}`" in readme, f"README.md does not say that it prints '{printed}'")
     for file in SHOWN:
         text = (ROOT / file).read_text()
         tally.check("\n\n" + indented(text) + "\n" in readme, f"README.md does not show {file}")
