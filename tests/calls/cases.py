@@ -1,6 +1,6 @@
 """The calls that are compared: sweeps around limits, runs, states that no run reaches, states that
 break one rule each, and refused calls; a set up and an activation with any remap, an activation with
-any hold.
+any hold. figures.py has those of a row's figure besides the ones in runs.
 
 A Case is a call with what it is lent, the number that it has to answer and the state that it has to
 leave where these are known.
@@ -208,8 +208,10 @@ def run_step(rng, state, earlier, hot_rows, remap):
         return case("refresh", state, garbage(rng, settings[VOLUME] - 1), -10, "fault in a run")
     if chance < 0.12:
         return case("agree", state, earlier, None, "agreement in a run")
+    if chance < 0.15:
+        return case("row_limit", state, rng.randrange(settings[ROWS]), None, "figure in a run", remap)
     full = state.position[ACTIVATIONS] == settings[INTERVAL]
-    if chance < 0.2 or full and chance < 0.9:
+    if chance < 0.23 or full and chance < 0.9:
         picks = garbage(rng, settings[VOLUME] + rng.choice((0, 0, 1, 5)))
         return case("refresh", state, picks, None, "event of a run")
     row = rng.choice(hot_rows) if rng.random() < 0.8 else rng.randrange(settings[ROWS])

@@ -1,5 +1,5 @@
 #!/usr/bin/env python3
-"""Compares the library's set up, activation, refresh event, agreement and row's figure with the plain model.
+"""Compares the library's set up, activation, refresh event, agreement and a row's figure with the model.
 
     rt check test_calls
     python3 tests/calls/compare.py [--seed N] [--program FILE]
@@ -340,7 +340,7 @@ EXPECTED_KINDS = (
     "agree: all rows tracked, other spillover", "disagree: other number of rows",
     "disagree: one count", "disagree: spillover", "disagree: another row, alike in 16 bits",
     "set up of a run", "activation of a run", "event of a run", "agreement in a run",
-    "fault in a run", "valid state",
+    "figure in a run", "fault in a run", "valid state",
     *(f"activation {number} of an interval of 4" for number in (1, 4, 5)),
     "event in a full interval", "events of a whole window", "window of one event",
     "counts at the most", *(f"end of the bank, B {diameter}" for diameter in (2, 4)),

@@ -173,7 +173,8 @@ def settings_cases():
     settings = (MAX_ROWS, 2, 16, 16, 4, 4096, 64)
     for field, (good, bad) in LIMITS.items():
         for value in good:
-            yield accepted_case(changed(settings, (field, value)), 15, 0, f"{CALL}: setting {field + 1} at a limit")
+            yield accepted_case(changed(settings, (field, value)), 15, 0,
+                                f"{CALL}: setting {field + 1} at a limit")
         for value in (*bad, U32):
             yield figure_case(changed(settings, (field, value)), (0, 0, 0, 0), 15, -(field + 1),
                               f"{CALL}: setting {field + 1} outside")
@@ -270,13 +271,14 @@ def random_figures(rng):
 
 def figure_kinds(case):
     """The sorts of an accepted case."""
-    settings, (events, *_), window = case.state.settings, case.state.position, case.state.settings[WINDOW]
-    rows, block = settings[ROWS], settings[BLOCK]
+    settings, events = case.state.settings, case.state.position[EVENTS]
+    rows, window, block = settings[ROWS], settings[WINDOW], settings[BLOCK]
     row = physical_row(case.remap, case.argument)
     event = own_event(settings, row)
     for name, holds in (
-            ("e = 0", events == 0), ("e = n - 1", events == window - 1), ("e = b - 1", events == event - 1),
-            ("e = b", events == event), ("e = b + 1", events == event + 1), ("e above b + 1", events > event + 1),
+            ("e = 0", events == 0), ("e = n - 1", events == window - 1),
+            ("e = b - 1", events == event - 1), ("e = b", events == event),
+            ("e = b + 1", events == event + 1), ("e above b + 1", events > event + 1),
             ("b = n - 1", event == window - 1), ("n = 1", window == 1), ("n = 8,192", window == MAX_WINDOW),
             ("the last row", row == rows - 1), ("a block cut at N", (event + 1) * block > rows),
             ("empty blocks behind the bank", own_event(settings, rows - 1) < window - 1),

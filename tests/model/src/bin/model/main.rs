@@ -5,7 +5,8 @@
 //! - `model listing`: the listing of the trace on standard input
 //! - `model rewrite`: the trace on standard input in its one spelling, as the program `tracefmt`
 //! - `model writer`: the answer to each request of the writer, as the program `test_writer`
-//! - `model limit SEED RUNS`: random runs on which the limit on disturbance has to hold
+//! - `model limit SEED RUNS`: random runs on which the limit on disturbance and each row's closer
+//!   figure have to hold
 
 mod calls;
 mod limit;
