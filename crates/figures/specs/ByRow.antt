@@ -36,7 +36,8 @@ by-block =
     at-four reverse 0 9 18 24 30
 
 -- with 8 events and P = 2, T' is 7 and H(8) 42: of row 0 H(8) is the smaller, of physical row 3 both are equal, of row 4 T' × (n − 1 − b) is. With 8 events
--- and P = 4 the last four blocks are empty. A window of one event. P = 1: rows 2 and 3 have other blocks under our own remap than under the identity
+-- and P = 4 the last four blocks are empty. A window of one event. Logical row 15 in blocks of one row and of 5, of which the last is cut at N, under three
+-- remaps
 unfoldable pub by-window : List Figure
 by-window =
     row-figure-under own-remap (settings-of 16 2 1 2 4 8 2) 0 0 49 ∷
@@ -47,17 +48,26 @@ by-window =
     row-figure-under own-remap (settings-of 16 2 1 2 4 8 4) 15 4 36 ∷
     row-figure-under own-remap (settings-of 16 2 1 1 1 1 16) 0 0 18 ∷
     row-figure-under own-remap (settings-of 16 2 1 2 4 16 1) 15 0 12 ∷
-    row-figure-under identity (settings-of 16 2 1 2 4 16 1) 15 0 6 ∷ []
+    row-figure-under identity (settings-of 16 2 1 2 4 16 1) 15 0 6 ∷
+    row-figure-under own-remap (settings-of 16 2 1 2 4 4 5) 15 2 36 ∷
+    row-figure-under identity (settings-of 16 2 1 2 4 4 5) 15 2 26 ∷
+    row-figure-under reverse (settings-of 16 2 1 2 4 4 5) 15 0 40 ∷ []
 
--- 65,536 rows with H = 6,185: the last block's row at the window's ends, and rows of other blocks
+-- 65,536 rows with H = 6,185: the last block's row at the window's ends, and rows of other blocks. 262,144 rows in blocks of which half are empty: the last
+-- row at its own event and behind it, and a row of which H(n) and T' × (n − 1 − b) are the same
 unfoldable pub by-large-window : List Figure
 by-large-window =
     let s = settings-of 65536 2 1 677 166 8192 8 in
+    let large = settings-of 262144 2 1 2 4 8192 64 in
     row-figure-under own-remap s 65535 0 175 ∷
+    row-figure-under own-remap s 65535 8190 6184 ∷
     row-figure-under own-remap s 65535 8191 6185 ∷
     row-figure-under own-remap s 0 0 6360 ∷
     row-figure-under own-remap s 65500 0 875 ∷
-    row-figure-under own-remap s 65000 100 7827 ∷ []
+    row-figure-under own-remap s 65000 100 7827 ∷
+    row-figure-under own-remap large 262143 4095 471086 ∷
+    row-figure-under own-remap large 262143 4096 188508 ∷
+    row-figure-under own-remap large 174656 0 376947 ∷ []
 
 -- refusals, 'the settings' .., 9, 14, and 21 for the position alone' in this order; the position at its limits and one above each
 unfoldable pub by-refusal : List Figure
