@@ -5,8 +5,8 @@
 
 Each page has a block marked rust that begins with the page's comment, below, and every block marked rust has to
 stand in crates/example/src/main.rt, line for line. README.md also says what the program prints, shows the example
-traces with what comes of them and the figures of rows, has the lines of the trace of subarrays and of its listing in its table, and has a line of
-the trace of large banks and one of its listing whose columns are full.
+traces with what comes of them and the figures of rows, has the lines of the trace of subarrays and of its listing in
+its table, and has a line of the trace of large banks and one of its listing whose columns are full.
 Exit status: 0 all equal; 1 a difference.
 """
 

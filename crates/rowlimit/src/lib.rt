@@ -36,7 +36,7 @@ fn smaller(a: u64, b: u64) -> u64
     if a <= b { a } else { b }
 }
 
-// What a physical row may carry from the window before. H is at least what is given, so where less can have gathered it need not be worked out.
+// What a physical row may carry from the window before. H is at least `least`: where no more can have gathered, H need not be worked out.
 fn carried(s: Settings, row: u32, least: u64) -> u64
     requires { ⌜ first-failed (settings-tests s) ≡ 0 ⌝ }
     requires { ⌜ (row < s .rows) × (least ≤ bound-of s) ⌝ }
