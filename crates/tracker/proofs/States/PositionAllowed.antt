@@ -10,13 +10,13 @@ use Rattle.tracker.specs.declared.Position.{Position}
 use Rattle.tracker.specs.State.{position-allowed, most-count}
 
 -- what the tests of a position say
-pub record In-range (s : Settings) (p : Position) : Type 0 where
+pub record Position-facts (s : Settings) (p : Position) : Type 0 where
   pub early : p .events < s .window
   pub within : p .activations ≤ s .interval
   pub fits : p .tracked ≤ s .counters
   pub spillover-le : p .spillover ≤ most-count
 
-pub position-facts : (s : Settings) (p : Position) → position-allowed s p ≡ true → In-range s p
+pub position-facts : (s : Settings) (p : Position) → position-allowed s p ≡ true → Position-facts s p
 position-facts s p e =
     let p3 = and-both _ (leb (p .spillover) most-count) e in
     let p2 = and-both _ (leb (p .tracked) (s .counters)) (p3 .0) in
@@ -29,7 +29,7 @@ position-facts s p e =
     }
 
 -- and the other way round
-pub facts-position : (s : Settings) (p : Position) → In-range s p → position-allowed s p ≡ true
+pub facts-position : (s : Settings) (p : Position) → Position-facts s p → position-allowed s p ≡ true
 facts-position s p q =
     rw (
       lt-ltb (p .events) (s .window) (q .early),
