@@ -35,6 +35,22 @@ unfoldable pub or-later : ℕ → ℕ → ℕ
 or-later zero later = later
 or-later (suc k) later = suc k
 
+-- a refusal that was given stands
+pub or-later-first : (k later : ℕ) → (k ≡ 0 → ⊥) → k ≡ or-later k later
+unfolding or-later
+or-later-first zero later h = absurd (h refl)
+or-later-first (suc k) later h = refl
+
+pub or-later-zero : (k later : ℕ) → k ≡ 0 → or-later k later ≡ later
+unfolding or-later
+or-later-zero k later e = rw e
+
+-- neither a refusal nor a later one
+pub or-later-none : (k later : ℕ) → or-later k later ≡ 0 → (k ≡ 0) × (later ≡ 0)
+unfolding or-later
+or-later-none zero later e = (refl, e)
+or-later-none (suc k) later e = absurd (omega arith)
+
 pub or-later-le : (k : ℕ) {later most : ℕ} → k ≤ most → later ≤ most → or-later k later ≤ most
 unfolding or-later
 or-later-le zero h later = later

@@ -11,7 +11,7 @@ use Rattle.laws.proofs.Cases.{split}
 use Rattle.device.specs.declared.Settings.{Settings}
 use Rattle.device.proofs.Acceptance.{Accepted}
 use Rattle.device.proofs.Victims.{in-between, between-in}
-use Rattle.bound.specs.Totals.{disturbers, bound-at, bound-of}
+use Rattle.bound.specs.Totals.{disturbers, bound-of}
 use Rattle.bound.proofs.Totals.Bound.{bound-grows}
 use Rattle.summary.specs.Steps.{Summary}
 use Rattle.tracker.specs.Calls.{block-rows}

@@ -1,5 +1,5 @@
 -- The claims, each under its statement's name.
-use mathlib.Core.Path.{_≡_, _∙_}
+use mathlib.Core.Path.{_≡_}
 use mathlib.Core.Bool.{true}
 use mathlib.Core.List.{List}
 use Prim.Native.Nat.{ℕ}
@@ -8,10 +8,9 @@ use Rattle.device.specs.declared.Settings.{Settings}
 use Rattle.device.specs.Refusal.{first-failed, refuse, accepted}
 use Rattle.device.specs.Remap.{physical}
 use Rattle.device.proofs.Acceptance.{accepted-settings}
-use Rattle.device.proofs.Refusal.{tested-passed}
+use Rattle.device.proofs.Refusal.{tested-passed, or-later-zero}
 use Rattle.device.proofs.Remap.{physical-below}
 use Rattle.tracker.specs.State.{State, state-of, position-allowed}
-use Rattle.tracker.proofs.Calls.Tests.{or-later-zero}
 use Rattle.tracker.proofs.States.PositionAllowed.{facts-position}
 use Rattle.limit.specs.Exact.{Happened, exact}
 use Rattle.limit.specs.Run.{state-after}

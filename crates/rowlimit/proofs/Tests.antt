@@ -10,12 +10,11 @@ use Rattle.device.specs.declared.Settings.{Settings}
 use Rattle.device.specs.Refusal.{unless, refuse, first-failed}
 use Rattle.device.specs.Acceptance.{settings-tests}
 use Rattle.device.specs.Remap.{remap-allowed}
-use Rattle.device.proofs.Refusal.{or-later, or-later-le, refuse-passed, refuse-le}
+use Rattle.device.proofs.Refusal.{or-later, or-later-le, refuse-passed, refuse-le, or-later-none}
 use Rattle.device.proofs.Acceptance.{settings-then, refusals-le}
 use Rattle.tracker.specs.declared.Position.{Position}
 use Rattle.tracker.specs.State.{position-allowed}
 use Rattle.tracker.proofs.States.PositionAllowed.{position-facts}
-use Rattle.tracker.proofs.Calls.Tests.{or-later-none}
 use Rattle.rowlimit.specs.Answers.{row-limit-tests}
 
 -- no test failed

@@ -13,6 +13,7 @@ use Rattle.device.specs.Hold.{repeated}
 use Rattle.device.specs.Victims.{victims}
 use Rattle.device.proofs.Acceptance.{accepted-settings}
 use Rattle.device.proofs.Remap.{physical-below}
+use Rattle.device.proofs.Refusal.{refuse-passed}
 use Rattle.summary.specs.Steps.{Summary, activation, event}
 use Rattle.summary.specs.Rules.{Room, Room-for}
 use Rattle.summary.specs.Contracts.{PickedFrom}
@@ -21,7 +22,6 @@ use Rattle.tracker.specs.State.{State, summary-of, state-of, most-count}
 use Rattle.tracker.specs.Calls.{kept-unless, activation-tests, refresh-to, victims-in, block-rows, ends-window, next-event}
 use Rattle.tracker.specs.Contracts.{Ranges}
 use Rattle.tracker.proofs.States.StateOf.{read-back}
-use Rattle.tracker.proofs.Calls.Tests.{passed-test}
 use Rattle.tracker.proofs.Calls.Ready.{Ready-activation, activation-ready, refresh-ready, diameter-four}
 use Rattle.tracker.proofs.Calls.Outcomes.{activation-refused, activation-done, activation-leaves}
 use Rattle.tracker.proofs.Steps.Event.{take-picked, count-picked-le}
@@ -77,7 +77,7 @@ module _ (p : Place) (counts : List ℕ) (ready : Ready (memory p counts)) where
   module _ (row hold : ℕ) (free : activation-refusal p row hold ≡ 0) where
     pub activation-active : p .active ≡ true
     unfolding activation-refusal
-    activation-active = passed-test (p .active) 10 _ free .0
+    activation-active = refuse-passed (p .active) 10 _ free .0
 
     no-test-fails : first-failed (activation-tests (p .settings) (p .remap) (state-in p counts) row hold) ≡ 0
     no-test-fails = tests-fail activation-active row hold ∙ free

@@ -1,7 +1,7 @@
 -- `rowlimit::row_limit_refusal` meets its contract.
 use mathlib.Core.Path.{sym, _∙_}
 use borrow.Author.Needs.{needs}
-use Rattle.tracker.proofs.Calls.Tests.{or-later-first, or-later-zero}
+use Rattle.device.proofs.Refusal.{or-later-first, or-later-zero}
 use Rattle.rowlimit.proofs.Tests.{row-limit-tested}
 use Rattle.rowlimit.proofs.row_limit_refusal.Statement.{statement}
 use Rattle.rowlimit.proofs.row_limit_refusal.Tie as tie

@@ -16,6 +16,7 @@ use Rattle.device.specs.Remap.{remap-allowed}
 use Rattle.device.specs.Hold.{hold-allowed}
 use Rattle.device.proofs.Acceptance.{Between, Accepted, accepted-settings}
 use Rattle.device.proofs.Hold.{hold-between}
+use Rattle.device.proofs.Refusal.{or-later-zero, or-later-none, refuse-passed}
 use Rattle.summary.specs.Entries.{Entry}
 use Rattle.summary.specs.Rules.{Ordered, ordered-none, ordered-more}
 use Rattle.summary.specs.Contracts.{Holds, Held}
@@ -25,7 +26,7 @@ use Rattle.tracker.specs.State.{State, summary-of, valid}
 use Rattle.tracker.specs.Calls.{tables-long, set-up-tests, activation-tests, refresh-tests, agreement-tests}
 use Rattle.tracker.specs.Contracts.{tables-tests}
 use Rattle.tracker.proofs.States.Valid.{Facts, valid-facts}
-use Rattle.tracker.proofs.Calls.Tests.{or-later-zero, or-later-none, passed-test, tables-tested, set-up-tested, activation-tested, refresh-tested, agreement-tested}
+use Rattle.tracker.proofs.Calls.Tests.{tables-tested, set-up-tested, activation-tested, refresh-tested, agreement-tested}
 
 pub tables-long-fit : (s : Settings) (rows counts : List ℕ) → tables-long s rows counts ≡ true → (length rows ≡ s .counters) × (length counts ≡ s .counters)
 unfolding tables-long
@@ -43,7 +44,7 @@ pub record Open (s : Settings) (rows counts : List ℕ) : Type 0 where
 pub open-tables : (s : Settings) (rows counts : List ℕ) → first-failed (tables-tests s rows counts) ≡ 0 → Open s rows counts
 open-tables s rows counts e =
     let parts = or-later-none (first-failed (settings-tests s)) (refuse (not (tables-long s rows counts)) 8 0) (sym (tables-tested s rows counts) ∙ e) in
-    let long = passed-test (tables-long s rows counts) 7 0 (parts .1) .0 in
+    let long = refuse-passed (tables-long s rows counts) 7 0 (parts .1) .0 in
     let fit = tables-long-fit s rows counts long in
     record { settled = parts .0; long = long; rows-long = fit .0; counts-long = fit .1 }
 
@@ -51,7 +52,7 @@ open-tables s rows counts e =
 pub set-up-ready : (s : Settings) (remap rows counts : List ℕ) → first-failed (set-up-tests s remap rows counts) ≡ 0 → Open s rows counts × (remap-allowed remap ≡ true)
 set-up-ready s remap rows counts e =
     let parts = or-later-none (first-failed (tables-tests s rows counts)) (refuse (not (remap-allowed remap)) 14 0) (sym (set-up-tested s remap rows counts) ∙ e) in
-    (open-tables s rows counts (parts .0), passed-test (remap-allowed remap) 13 0 (parts .1) .0)
+    (open-tables s rows counts (parts .0), refuse-passed (remap-allowed remap) 13 0 (parts .1) .0)
 
 -- no refusal of an activation, or of an event
 pub record Ready (s : Settings) (st : State) : Type 0 where
@@ -78,11 +79,11 @@ activation-passed s remap st row hold e =
     let parts = or-later-none (first-failed (tables-tests s (st .rows) (st .counts))) _ (sym (activation-tested s remap st row hold) ∙ e) in
     let last = refuse (not (leb (st .position .activations + hold) (s .interval))) 22 0 in
     let behind = refuse (not (remap-allowed remap)) 14 (refuse (not (valid s st)) 21 last) in
-    let nine = passed-test (ltb row (s .rows)) 8 (refuse (not (hold-allowed hold)) 15 behind) (parts .1) in
-    let held = passed-test (hold-allowed hold) 14 behind (nine .1) in
-    let allowed = passed-test (remap-allowed remap) 13 (refuse (not (valid s st)) 21 last) (held .1) in
-    let state = passed-test (valid s st) 20 last (allowed .1) in
-    let spare = passed-test (leb (st .position .activations + hold) (s .interval)) 21 0 (state .1) in
+    let nine = refuse-passed (ltb row (s .rows)) 8 (refuse (not (hold-allowed hold)) 15 behind) (parts .1) in
+    let held = refuse-passed (hold-allowed hold) 14 behind (nine .1) in
+    let allowed = refuse-passed (remap-allowed remap) 13 (refuse (not (valid s st)) 21 last) (held .1) in
+    let state = refuse-passed (valid s st) 20 last (allowed .1) in
+    let spare = refuse-passed (leb (st .position .activations + hold) (s .interval)) 21 0 (state .1) in
     record { tables = parts .0; inside = nine .0; held = held .0; allowed = allowed .0; sound = state .0; spare = spare .0 }
 
 pub passed-activation : (s : Settings) (remap : List ℕ) (st : State) (row hold : ℕ) → Passed s remap st row hold → first-failed (activation-tests s remap st row hold) ≡ 0
@@ -112,8 +113,8 @@ activation-ready s remap st row hold e =
 pub refresh-ready : (s : Settings) (st : State) (picks : List ℕ) → first-failed (refresh-tests s st picks) ≡ 0 → Ready s st × (s .volume ≤ length picks)
 refresh-ready s st picks e =
     let parts = or-later-none (first-failed (tables-tests s (st .rows) (st .counts))) _ (sym (refresh-tested s st picks) ∙ e) in
-    let ten = passed-test (leb (s .volume) (length picks)) 9 (refuse (not (valid s st)) 21 0) (parts .1) in
-    let state = passed-test (valid s st) 20 0 (ten .1) in
+    let ten = refuse-passed (leb (s .volume) (length picks)) 9 (refuse (not (valid s st)) 21 0) (parts .1) in
+    let state = refuse-passed (valid s st) 20 0 (ten .1) in
     (ready s st (parts .0) (state .0), leb-true (s .volume) (length picks) (ten .0))
 
 -- rows below the bank's end are 32-bit numbers
@@ -153,8 +154,8 @@ agreement-ready s st s′ st′ e =
     let l′ = tables-long s′ (st′ .rows) (st′ .counts) in
     let one = or-later-none (first-failed (settings-tests s)) _ (sym (agreement-tested s st s′ st′) ∙ e) in
     let two = or-later-none (first-failed (settings-tests s′)) (refuse (not (l && l′)) 8 (refuse (not (valid s st && valid s′ st′)) 21 0)) (one .1) in
-    let eight = passed-test (l && l′) 7 (refuse (not (valid s st && valid s′ st′)) 21 0) (two .1) in
-    let state = passed-test (valid s st && valid s′ st′) 20 0 (eight .1) in
+    let eight = refuse-passed (l && l′) 7 (refuse (not (valid s st && valid s′ st′)) 21 0) (two .1) in
+    let state = refuse-passed (valid s st && valid s′ st′) 20 0 (eight .1) in
     let longs = and-both l l′ (eight .0) in
     let valids = and-both (valid s st) (valid s′ st′) (state .0) in
     record { first = valid-facts s st (longs .0) (valids .0); second = valid-facts s′ st′ (longs .1) (valids .1) }

@@ -3,7 +3,6 @@ use mathlib.Core.Path.{_≡_, refl}
 use mathlib.Core.Bool.{Bool, true, false, not, _&&_}
 use mathlib.Core.List.{List, [], _∷_, _++_, append-assoc}
 use Prim.Native.Nat.{ℕ, zero, suc, _+_}
-use native.Mathlib.Omega.{arith}
 use lib.Dec.{ltb, leb}
 use lib.ListN.{length}
 use Rattle.device.specs.declared.Settings.{Settings}
@@ -17,32 +16,11 @@ use Rattle.tracker.specs.State.{State, valid}
 use Rattle.tracker.specs.Calls.{tables-long, set-up-tests-to, set-up-tests, activation-tests-to, activation-tests, refresh-tests-to, refresh-tests, agreement-tests-to, agreement-tests}
 use Rattle.tracker.specs.Contracts.{tables-tests}
 
--- a refusal that was given stands
-pub or-later-first : (k later : ℕ) → (k ≡ 0 → ⊥) → k ≡ or-later k later
-unfolding or-later
-or-later-first zero later h = absurd (h refl)
-or-later-first (suc k) later h = refl
-
-pub or-later-zero : (k later : ℕ) → k ≡ 0 → or-later k later ≡ later
-unfolding or-later
-or-later-zero k later e = rw e
-
--- neither a refusal nor a later one
-pub or-later-none : (k later : ℕ) → or-later k later ≡ 0 → (k ≡ 0) × (later ≡ 0)
-unfolding or-later
-or-later-none zero later e = (refl, e)
-or-later-none (suc k) later e = absurd (omega arith)
-
 later-test : (k : ℕ) (allowed : Bool) (number later : ℕ) → or-later k (refuse (not allowed) (suc number) later) ≡ or-later (or-later k (refuse (not allowed) (suc number) 0)) later
 unfolding or-later refuse
 later-test zero true number later = refl
 later-test zero false number later = refl
 later-test (suc k) allowed number later = refl
-
-pub passed-test : (allowed : Bool) (k later : ℕ) → refuse (not allowed) (suc k) later ≡ 0 → (allowed ≡ true) × (later ≡ 0)
-unfolding refuse
-passed-test true k later e = (refl, e)
-passed-test false k later e = absurd (omega arith)
 
 -- what stands behind the tests of settings and tables
 behind-tables : (s : Settings) (rows counts : List ℕ) (later : List Test) → first-failed (settings-tests s ++ unless (tables-long s rows counts) 8 ∷ later) ≡ or-later (first-failed (tables-tests s rows counts)) (first-failed later)

@@ -10,11 +10,12 @@ use Rattle.device.specs.Remap.{remap-allowed}
 use Rattle.device.specs.Hold.{hold-allowed}
 use Rattle.device.proofs.Acceptance.{accepted-settings}
 use Rattle.device.proofs.Hold.{hold-between}
+use Rattle.device.proofs.Refusal.{or-later-first, or-later-zero}
 use Rattle.tracker.specs.Answers.{given}
 use Rattle.tracker.specs.Contracts.{tables-tests}
 use Rattle.tracker.specs.State.{valid}
 use Rattle.tracker.proofs.States.Valid.{valid-facts}
-use Rattle.tracker.proofs.Calls.Tests.{activation-tested, or-later-first, or-later-zero}
+use Rattle.tracker.proofs.Calls.Tests.{activation-tested}
 use Rattle.tracker.proofs.Calls.Ready.{open-tables}
 use Rattle.tracker.proofs.activation_refusal.Statement.{statement}
 use Rattle.tracker.proofs.activation_refusal.Tie as tie

@@ -3,8 +3,9 @@ use mathlib.Core.Path.{sym, _∙_}
 use borrow.Author.Needs.{needs}
 use borrow.Author.Tests.{not-true, not-false}
 use Rattle.device.specs.Refusal.{refuse}
+use Rattle.device.proofs.Refusal.{or-later-first, or-later-zero}
 use Rattle.tracker.specs.Answers.{given}
-use Rattle.tracker.proofs.Calls.Tests.{or-later-first, or-later-zero, agreement-tested}
+use Rattle.tracker.proofs.Calls.Tests.{agreement-tested}
 use Rattle.tracker.proofs.Calls.Ready.{tables-long-fit}
 use Rattle.tracker.proofs.agreement_refusal.Statement.{statement}
 use Rattle.tracker.proofs.agreement_refusal.Tie as tie

@@ -1,7 +1,8 @@
 -- `tracker::set_up_refusal` meets its contract.
 use mathlib.Core.Path.{sym, _∙_}
 use borrow.Author.Needs.{needs}
-use Rattle.tracker.proofs.Calls.Tests.{set-up-tested, or-later-first, or-later-zero}
+use Rattle.device.proofs.Refusal.{or-later-first, or-later-zero}
+use Rattle.tracker.proofs.Calls.Tests.{set-up-tested}
 use Rattle.tracker.proofs.set_up_refusal.Statement.{statement}
 use Rattle.tracker.proofs.set_up_refusal.Tie as tie
 

@@ -1,7 +1,8 @@
 -- `tracker::tables_refusal` meets its contract.
 use mathlib.Core.Path.{sym, _∙_}
 use borrow.Author.Needs.{needs}
-use Rattle.tracker.proofs.Calls.Tests.{tables-tested, or-later-first, or-later-zero}
+use Rattle.device.proofs.Refusal.{or-later-first, or-later-zero}
+use Rattle.tracker.proofs.Calls.Tests.{tables-tested}
 use Rattle.tracker.proofs.tables_refusal.Statement.{statement}
 use Rattle.tracker.proofs.tables_refusal.Tie as tie
 

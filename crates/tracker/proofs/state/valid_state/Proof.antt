@@ -2,16 +2,14 @@
 use mathlib.Core.Path.{_≡_, refl}
 use mathlib.Core.Bool.{Bool, true, false, _&&_, and-assoc}
 use mathlib.Core.List.{List}
-use Prim.Native.Nat.{ℕ, _≤_}
+use Prim.Native.Nat.{ℕ}
 use native.Mathlib.Omega.{arith}
 use borrow.Author.Needs.{needs}
-use borrow.Author.Tests.{leb-true, not-true, not-false}
-use lib.Dec.{leb, ltb}
+use borrow.Author.Tests.{not-true, not-false}
 use lib.ListN.{take, drop}
-use Rattle.laws.proofs.Cases.{and-both}
 use Rattle.device.specs.declared.Settings.{Settings}
 use Rattle.tracker.specs.declared.Position.{Position}
-use Rattle.tracker.specs.State.{zeros, ascending, counts-allowed, position-allowed, valid, most-count}
+use Rattle.tracker.specs.State.{zeros, ascending, counts-allowed, position-allowed, valid}
 use Rattle.tracker.proofs.States.PositionAllowed.{position-facts}
 use Rattle.tracker.proofs.state.valid_state.Statement.{statement}
 use Rattle.tracker.proofs.state.valid_state.Tie as tie
