@@ -91,9 +91,16 @@ pub first-figure-le : (s : Settings) {e : ℕ} → e < s .window → first-figur
 unfolding first-figure bound-of
 first-figure-le s early = bound-grows s (omega arith)
 
+pub carried-most-le : (s : Settings) (row : ℕ) → carried-most s row ≤ bound-of s
+unfolding carried-most
+carried-most-le s row = omega arith
+
+both-figures-le : (b e first second : ℕ) {most : ℕ} → first ≤ most → second ≤ most → cond (ltb b e) first second ≤ most
+both-figures-le b e first second one other = split (ltb b e) (λ on. rw on one) (λ off. rw off other)
+
 pub row-figure-le : (s : Settings) {e : ℕ} (row : ℕ) → e < s .window → row-figure s e row ≤ 2 * bound-of s
-unfolding row-figure second-figure carried-most
+unfolding row-figure second-figure
 row-figure-le s {e} row early =
-    split (ltb (own-event s row) e)
-    (λ on. rw on (omega (arith, first-figure-le s early)))
-    (λ off. rw off (omega (arith, first-figure-le s early)))
+    let first : first-figure s e ≤ 2 * bound-of s = omega (arith, first-figure-le s early) in
+    let second : second-figure s e row ≤ 2 * bound-of s = omega (arith, first-figure-le s early, carried-most-le s row) in
+    both-figures-le (own-event s row) _ (first-figure s e) (second-figure s e row) first second

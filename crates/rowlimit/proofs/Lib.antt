@@ -1,4 +1,4 @@
--- The call's tests in their order, how large a figure can be, and the claims.
+-- The call's tests in their order, how large an answer can be, and the claims.
 pub mod Tests
-pub mod Figures
+pub mod Answers
 pub mod Claims

@@ -1,12 +1,13 @@
 -- `rowlimit::figure` meets its contract: neither figure comes near 2^64.
-use Prim.Native.Nat.{_/_, _<_, _^_}
+use Prim.Native.Nat.{_/_, _≤_}
 use native.Mathlib.Omega.{arith}
 use borrow.Author.Needs.{needs}
 use borrow.Author.Tests.{lt-ltb, le-ltb}
 use Rattle.device.proofs.Acceptance.{accepted-settings}
+use Rattle.bound.specs.Totals.{bound-of}
+use Rattle.bound.proofs.Totals.Bound.{bound-lt}
 use Rattle.limit.specs.ByRow.{own-event, first-figure, second-figure, row-figure}
-use Rattle.limit.proofs.ByRow.{first-figure-le}
-use Rattle.rowlimit.proofs.Figures.{first-figure-lt, carried-most-lt}
+use Rattle.limit.proofs.ByRow.{first-figure-le, carried-most-le}
 use Rattle.rowlimit.proofs.figure.Statement.{statement}
 use Rattle.rowlimit.proofs.figure.Tie as tie
 
@@ -30,11 +31,10 @@ unfolding first-figure
 add-result c =
     let a = c .before .before .before .before in
     let s = a .args .s in
-    let ok = accepted-settings s (a .pre .0) in
     let first = c .before .before .before .bound-at in
-    let one : first .result < 2 ^ 29 = rw (first .ensures) (first-figure-lt s ok (a .args .events) (a .pre .1 .0)) in
-    let other : c .carried .result < 2 ^ 28 = rw (c .carried .ensures) (carried-most-lt s ok (a .args .row)) in
-    omega arith
+    let one : first .result ≤ bound-of s = rw (first .ensures) (first-figure-le s (a .pre .1 .0)) in
+    let other : c .carried .result ≤ bound-of s = rw (c .carried .ensures) (carried-most-le s (a .args .row)) in
+    omega (arith, bound-lt s (accepted-settings s (a .pre .0) .others))
 
 returns : tie.Need-returns
 unfolding row-figure first-figure own-event

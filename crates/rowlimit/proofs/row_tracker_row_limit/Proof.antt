@@ -5,7 +5,7 @@ use mir.ValLaws.{toZ-ofZ}
 use borrow.Author.Needs.{needs}
 use Rattle.bound.specs.Answers.{signed, settings-of}
 use Rattle.rowlimit.specs.Answers.{position-of}
-use Rattle.rowlimit.proofs.Figures.{small-row-limit-answer}
+use Rattle.rowlimit.proofs.Answers.{small-row-limit-answer}
 use Rattle.rowlimit.proofs.row_tracker_row_limit.Statement.{statement}
 use Rattle.rowlimit.proofs.row_tracker_row_limit.Tie as tie
 
