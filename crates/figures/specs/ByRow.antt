@@ -10,9 +10,10 @@ use Rattle.figures.specs.Remaps.{identity, reverse, doubled}
 
 -- the call for a logical row under a remap, at a position: e, a, 'number of tracked rows', 'spill'
 unfoldable pub row-figure-at : Settings → List ℕ → ℕ → ℕ → ℕ → ℕ → ℕ → List ℕ → Figure
-row-figure-at s remap row e a tracked spill given = shown given (numbers (row-limit-answer s remap row (at-position e a tracked spill)))
+row-figure-at s remap row e a tracked spillover given =
+    shown given (numbers (row-limit-answer s remap row (at-position e a tracked spillover)))
 
--- with nothing tracked since the last event, accepted
+-- accepted, right behind an event and with nothing tracked
 unfoldable pub row-figure-under : List ℕ → Settings → ℕ → ℕ → ℕ → Figure
 row-figure-under remap s row e figure = row-figure-at s remap row e 0 0 0 (0 ∷ figure ∷ [])
 

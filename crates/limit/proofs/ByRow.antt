@@ -20,6 +20,7 @@ use Rattle.limit.specs.ByRow.{own-event, first-figure, carried-most, sec
 use Rattle.limit.proofs.Recent.{Recent}
 use Rattle.limit.proofs.Invariant.{Inv, inv-present}
 
+-- a row of block b, with k events behind it in a window
 within-events : (n block b k row : ℕ) → n ≡ b + suc k → b * block ≤ row → n * block ≤ row + suc k * block
 within-events n block b k row e h = rw e (omega arith)
 
@@ -64,7 +65,7 @@ module _ (s : Settings) (ok : Accepted s) (row : ℕ) (inside : row < s .rows) w
   unfolding first-figure carried-most second-figure bound-of
   inv-row-limited {e} {a} {sum} {x} {y} i =
       let carry = i .carry in
-      let sum = carry .split row inside in
+      let parts = carry .split row inside in
       let window = inv-present s ok i row in
       let at : x .refreshes % s .window ≡ e = i .counted in
       record {

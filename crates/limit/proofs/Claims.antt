@@ -18,7 +18,7 @@ use Rattle.tracker.proofs.States.StateOf.{read-back}
 use Rattle.tracker.proofs.Calls.SoundTests.{activation-refusals, refresh-refusals}
 use Rattle.summary.specs.Steps.{besides}
 use Rattle.limit.specs.Exact.{zeroed, disturbed-by, once, restored, renewed, after}
-use Rattle.limit.specs.Claims.{Demand-3, Demand-3-of-answers, Units-counted, Never-21, Events-modulo, Estimated, Window-figure, Own-event, Row-limit, Row-limit-of-answers, Row-figure-limits, Figures-closer}
+use Rattle.limit.specs.Claims.{Demand-3, Demand-3-of-answers, Units-counted, Never-21, Events-modulo, Estimated, Window-figure, Own-block, Row-limit, Row-limit-of-answers, Row-figure-limits, Figures-closer}
 use Rattle.limit.proofs.Invariant.{inv-limit, inv-first, inv-present}
 use Rattle.limit.proofs.Run.{begun-accepted, plain-held, state-inv-run}
 use Rattle.limit.proofs.Answered.{answered-run}
@@ -86,9 +86,9 @@ window-figure s st b calls row =
     let k = state-inv-run b calls in
     rw (k .stored) (inv-present s (accepted-settings s (begun-accepted b)) (k .inv) row)
 
-pub own-event : Own-event
-unfolding Own-event
-own-event s e row inside =
+pub own-block : Own-block
+unfolding Own-block
+own-block s e row inside =
     let ok = accepted-settings s e in
     (own-early s ok row inside, own-holds s ok row inside, own-only s ok row inside)
 

@@ -26,7 +26,7 @@ pub record Recent (s : Settings) (e g : ℕ) (cur old : ℕ → ℕ) : Type 0 wh
   pub carried : (v k : ℕ) → v < s .rows → s .window * s .block ≤ v + suc k * s .block → old v ≤ disturbers s * k
 
 pub recent-at-rest : (s : Settings) → Recent s 0 0 (λ v. 0) (λ v. 0)
-recent-at-rest s = record { present = λ v k b h near. omega arith; carried = λ v k b near. omega arith }
+recent-at-rest s = record { present = λ v k below passed near. omega arith; carried = λ v k below near. omega arith }
 
 -- rows of the bank disturb a row at most once each
 disturbed-by-le : (s : Settings) {sources : List ℕ} → Below (s .rows) sources → (d : ℕ → ℕ) (v : ℕ) → disturbed-by s sources d v ≤ d v + length sources
@@ -38,21 +38,22 @@ module _ (s : Settings) (named : List ℕ) {e g : ℕ} {cur old : ℕ → ℕ} (
   pub recent-renewed : (block : List ℕ) {sources : List ℕ} → Below (s .rows) sources → Recent s e (g + length sources) (disturbed-by s sources (restored named block cur)) (restored named block old)
   recent-renewed block inside =
       record {
-        present = λ v k b h near.
-            omega (arith, disturbed-by-le s inside (restored named block cur) v, restored-le named block cur v, r .present v k b h near);
-        carried = λ v k b near. le-trans (restored-le named block old v) (r .carried v k b near);
+        present = λ v k below passed near.
+            omega (arith, disturbed-by-le s inside (restored named block cur) v, restored-le named block cur v, r .present v k below passed near);
+        carried = λ v k below near. le-trans (restored-le named block old v) (r .carried v k below near);
       }
 
+  -- one event further, a row that had passed before has the rows of one interval more
   longer : (v k : ℕ) → g ≤ disturbers s → v < s .rows → v < e * s .block → suc e * s .block ≤ v + suc k * s .block → cur v ≤ disturbers s * k
-  longer v zero few b before near = absurd (omega arith)
-  longer v (suc k) few b before near = omega (arith, r .present v k b before (omega arith))
+  longer v zero few below before near = absurd (omega arith)
+  longer v (suc k) few below before near = omega (arith, r .present v k below before (omega arith))
 
   -- an event sets its block to 0; any other row that has passed has gathered at most T' more since the event before
   swept : g ≤ disturbers s → (v k : ℕ) → v < s .rows → v < suc e * s .block → suc e * s .block ≤ v + suc k * s .block → restored named (block-rows s e) cur v ≤ disturbers s * k
-  swept few v k b h near =
+  swept few v k below passed near =
       ⊎-elim
-      (λ from. omega (arith, block-restored s named e cur v b from h))
-      (λ before. le-trans (restored-le named (block-rows s e) cur v) (longer v k few b before near))
+      (λ from. omega (arith, block-restored s named e cur v below from passed))
+      (λ before. le-trans (restored-le named (block-rows s e) cur v) (longer v k few below before near))
       (le-or-lt (e * s .block) v)
 
   -- an event within a window
@@ -60,14 +61,14 @@ module _ (s : Settings) (named : List ℕ) {e g : ℕ} {cur old : ℕ → ℕ} (
   recent-event few inside =
       let block = block-rows s e in
       record {
-        present = λ v k b h near. omega (arith, disturbed-by-le s inside (restored named block cur) v, swept few v k b h near);
-        carried = λ v k b near. le-trans (restored-le named block old v) (r .carried v k b near);
+        present = λ v k below passed near. omega (arith, disturbed-by-le s inside (restored named block cur) v, swept few v k below passed near);
+        carried = λ v k below near. le-trans (restored-le named block old v) (r .carried v k below near);
       }
 
   -- the event that ends a window: its own disturbances are the next window's
   pub recent-last-event : g ≤ disturbers s → s .rows ≤ suc e * s .block → suc e ≡ s .window → (sources : List ℕ) → Recent s 0 (length sources) (disturbed-by s sources (restored named (block-rows s e) (λ v. 0))) (restored named (block-rows s e) cur)
   recent-last-event few covered whole sources =
       record {
-        present = λ v k b h near. absurd (omega arith);
-        carried = λ v k b near. swept few v k b (omega arith) (rw (← whole) at near);
+        present = λ v k below passed near. absurd (omega arith);
+        carried = λ v k below near. swept few v k below (omega arith) (rw (← whole) at near);
       }

@@ -69,8 +69,8 @@ Window-figure =
     present s (happened s calls st) .disturbance row ≤ bound-at s (state-after s calls st .position .events + 1)
 
 -- b is an event of the window, its block holds the row, and no other event's does
-unfoldable pub Own-event : Type 0
-Own-event =
+unfoldable pub Own-block : Type 0
+Own-block =
     (s : Settings) → first-failed (settings-tests s) ≡ 0 → (row : ℕ) → row < s .rows →
     (own-event s row < s .window) × List·Memᴰ row (block-rows s (own-event s row)) ×
     ((e : ℕ) → List·Memᴰ row (block-rows s e) → e ≡ own-event s row)
