@@ -1,19 +1,13 @@
 -- What a turn begins with and leaves: memory that is a listing's, no more to write than the buffer holds, and no more kept than the text holds.
-use mathlib.Core.Path.{_≡_, sym, ap, _∙_}
-use mathlib.Core.Logic.{⊎-elim}
+use mathlib.Core.Path.{_≡_}
 use mathlib.Core.Bool.{true, false}
 use mathlib.Core.List.{List}
 use Prim.Native.Nat.{ℕ, _≤_}
 use native.Mathlib.Nat.{zero-add}
 use native.Mathlib.Omega.{arith}
-use lib.ListN.{length, getD, take, replicate, length-replicate, getD-replicate, List·getD-eq-default}
+use lib.ListN.{length, take}
 use Rattle.trace.specs.Output.{Prints}
-use Rattle.laws.proofs.Cases.{le-or-lt, clash}
-use Rattle.device.specs.Acceptance.{most-rows}
-use Rattle.aids.specs.Marks.{all-words, Marked, Empty-from}
-use Rattle.aids.specs.Bounds.{all-bounds}
-use Rattle.aids.proofs.Emptied.{unmarked}
-use Rattle.listing.specs.Memory.{Memory, start-place, Ready, Banked}
+use Rattle.listing.specs.Memory.{Memory, Ready}
 use Rattle.listing.specs.Chunks.{next-number, Chunked, chunk, last-line}
 use Rattle.listing.proofs.Parts.Moves.{steady-chunk}
 use Rattle.listing.proofs.Chunks.LastLine.{length-last-line}
@@ -48,23 +42,3 @@ turn-chunk m text kept len buffer q e = rw e
 pub turn-end : (m : Memory) (text : List ℕ) (kept : ℕ) (buffer : List ℕ) {buffer′ : List ℕ} {end : ℕ} → Prints buffer 0 (last-line (next-number (m .lines)) (take kept text) (length buffer)) buffer′ end → record { memory = m; text = text; kept = kept; buffer = buffer′; end = end; more = false } ≡ turn-of m text kept End buffer
 unfolding turn-of
 turn-end m text kept buffer p = rw (p .holds, p .behind, zero-add)
-
--- tables of zeros
-zero-everywhere : {counts : List ℕ} (n : ℕ) → counts ≡ replicate n 0 → Empty-from counts 0
-zero-everywhere {counts} n e =
-    record {
-      zero-at = λ i h.
-          ap (λ (xs : List ℕ). getD xs i 0) e ∙
-          ⊎-elim
-          (λ outside. List·getD-eq-default (replicate n 0) 0 (rw (length-replicate {A = ℕ} n 0) outside))
-          (λ inside. getD-replicate {A = ℕ} n i 0 0 inside)
-          (le-or-lt n i);
-    }
-
-pub zeros-marked : {counts marks : List ℕ} (n : ℕ) → n ≡ most-rows → counts ≡ replicate n 0 → marks ≡ replicate all-words 0 → Marked counts marks
-zeros-marked n long e f = unmarked (ap length e ∙ length-replicate {A = ℕ} n 0 ∙ long) (zero-everywhere n e) f
-
--- tables in which no row has a count, before the first turn
-pub banked-start : {counts marks bounds : List ℕ} → Marked counts marks → length bounds ≡ all-bounds → Banked start-place counts marks bounds
-unfolding start-place
-banked-start marked long = record { marked = marked; bounds-long = long; bank = λ on. clash (sym on) }

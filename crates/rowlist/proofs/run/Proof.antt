@@ -8,8 +8,9 @@ use lib.ListN.{length}
 use lib.Seq.{length-take-le}
 use Rattle.listing.specs.Memory.{memory, Ready, Banked}
 use Rattle.listing.proofs.Memory.Progress.{represents-start}
+use Rattle.listing.proofs.Memory.Zeros.{banked-start}
 use Rattle.turns.specs.declared.Turn.{Turn}
-use Rattle.turns.proofs.Turns.{steady-turn-left, banked-start}
+use Rattle.turns.proofs.Turns.{steady-turn-left}
 use Rattle.rowlist.proofs.run.Statement.{statement}
 use Rattle.rowlist.proofs.run.Tie as tie
 

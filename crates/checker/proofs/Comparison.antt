@@ -1,0 +1,105 @@
+-- A comparison byte by byte finds the first line that departs.
+use mathlib.Core.Path.{_≡_, refl, sym, _∙_, ap}
+use mathlib.Core.Bool.{true, false, cond}
+use mathlib.Core.List.{List, [], _∷_, _++_}
+use mathlib.Core.Option.{Option, none, some}
+use Prim.Native.Nat.{ℕ, suc, _+_, _-_, _≤_}
+use native.Mathlib.Omega.{arith}
+use borrow.Author.Tests.{eqb-true, eq-eqb}
+use lib.Dec.{eqb}
+use lib.ListN.{length, drop}
+use Rattle.laws.proofs.Cases.{split, clash}
+use Rattle.trace.specs.Texts.{in-front, lines}
+use Rattle.checker.specs.Departure.{same, departure-from, departing}
+use Rattle.checker.specs.Comparison.{counted, compared}
+
+-- the first line of a text begins with its first byte
+record Begins (b : ℕ) (bs : List ℕ) : Type 0 where
+  rest : List ℕ
+  others : List (List ℕ)
+  holds : lines (b ∷ bs) ≡ (b ∷ rest) ∷ others
+
+begins : (b : ℕ) (bs : List ℕ) → Begins b bs
+unfolding lines in-front
+begins b [] = split (eqb b 10) (λ e. record { rest = []; others = []; holds = rw e }) (λ e. record { rest = []; others = []; holds = rw e })
+begins b (c ∷ cs) =
+    split (eqb b 10)
+    (λ e. record { rest = []; others = lines (c ∷ cs); holds = rw e })
+    (λ e.
+    let t = begins c cs in
+    record { rest = c ∷ t .rest; others = t .others; holds = rw (e, t .holds) })
+
+-- a byte that both texts begin with
+alike-inside : (n x : ℕ) (a b : List ℕ) → eqb x 10 ≡ false → departing n (x ∷ a) (x ∷ b) ≡ departing n a b
+unfolding departing departure-from lines in-front same
+alike-inside n x [] [] e = rw (e, eq-eqb x x refl)
+alike-inside n x [] (d ∷ b) e = let t = begins d b in rw (e, t .holds, eq-eqb x x refl)
+alike-inside n x (c ∷ a) [] e = let t = begins c a in rw (e, t .holds, eq-eqb x x refl)
+alike-inside n x (c ∷ a) (d ∷ b) e =
+    let t = begins c a in
+    let u = begins d b in
+    rw (e, t .holds, u .holds, eq-eqb x x refl)
+
+alike-ended : (n x : ℕ) (a b : List ℕ) → eqb x 10 ≡ true → departing n (x ∷ a) (x ∷ b) ≡ departing (suc n) a b
+unfolding departing departure-from lines in-front same
+alike-ended n x a b e = rw (e, eq-eqb x x refl)
+
+pub departing-alike : (n x : ℕ) (a b : List ℕ) → departing n (x ∷ a) (x ∷ b) ≡ departing (counted n x) a b
+unfolding counted
+departing-alike n x a b = split (eqb x 10) (λ e. rw e (alike-ended n x a b e)) (λ e. rw e (alike-inside n x a b e))
+
+-- one that differs, or that only one has
+pub departing-other : (n x y : ℕ) (a b : List ℕ) → eqb x y ≡ false → departing n (x ∷ a) (y ∷ b) ≡ some (suc n)
+unfolding departing departure-from same
+departing-other n x y a b e =
+    let t = begins x a in
+    let u = begins y b in
+    rw (t .holds, u .holds, e)
+
+pub departing-missing : (n x : ℕ) (a : List ℕ) → departing n (x ∷ a) [] ≡ some (suc n)
+unfolding departing departure-from lines
+departing-missing n x a = let t = begins x a in rw (t .holds)
+
+pub departing-surplus : (n y : ℕ) (b : List ℕ) → departing n [] (y ∷ b) ≡ some (suc n)
+unfolding departing departure-from lines
+departing-surplus n y b = let t = begins y b in rw (t .holds)
+
+pub departing-none : (n : ℕ) → departing n [] [] ≡ none
+unfolding departing departure-from lines
+departing-none n = refl
+
+-- so does what was compared tell, whatever else is required
+pub departing-compared : (n : ℕ) (required more given : List ℕ) → departing n (required ++ more) given ≡ cond (compared n required given .all) (departing (compared n required given .lines) more (drop (length required) given)) (some (suc (compared n required given .lines)))
+unfolding compared
+departing-compared n [] more given = refl
+departing-compared n (x ∷ xs) more [] = departing-missing n x (xs ++ more)
+departing-compared n (x ∷ xs) more (y ∷ ys) =
+    split (eqb x y)
+    (λ e.
+    rw e (ap (λ (z : ℕ). departing n (x ∷ (xs ++ more)) (z ∷ ys)) (sym (eqb-true x y e)) ∙ departing-alike n x (xs ++ more) ys ∙ departing-compared (counted n x) xs more ys))
+    (λ e. rw e (departing-other n x y (xs ++ more) ys e))
+
+counted-few : (n x : ℕ) → counted n x ≤ n + 1
+unfolding counted
+counted-few n x = split (eqb x 10) (λ e. rw e (omega arith)) (λ e. rw e (omega arith))
+
+-- no more lines end than bytes are required, nor than are given; and all are there only if as many are given
+pub record Few (n : ℕ) (required given : List ℕ) : Type 0 where
+  pub required-few : compared n required given .lines ≤ n + length required
+  pub given-few : compared n required given .lines ≤ n + length given
+  pub all-given : compared n required given .all ≡ true → length required ≤ length given
+
+pub few : (n : ℕ) (required given : List ℕ) → Few n required given
+unfolding compared
+few n [] given = record { required-few = omega arith; given-few = omega arith; all-given = λ e. omega arith }
+few n (x ∷ xs) [] = record { required-few = omega arith; given-few = omega arith; all-given = λ e. clash (sym e) }
+few n (x ∷ xs) (y ∷ ys) =
+    let f = few (counted n x) xs ys in
+    split (eqb x y)
+    (λ e.
+    record {
+      required-few = rw e (omega (arith, f .required-few, counted-few n x));
+      given-few = rw e (omega (arith, f .given-few, counted-few n x));
+      all-given = λ all. omega (arith, f .all-given (rw e at all));
+    })
+    (λ e. record { required-few = rw e (omega arith); given-few = rw e (omega arith); all-given = λ all. clash (sym (rw e at all)) })

@@ -1,0 +1,4 @@
+-- Laws of the check.
+pub mod Comparison
+pub mod Cuts
+pub mod Checks
