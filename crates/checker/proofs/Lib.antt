@@ -2,3 +2,4 @@
 pub mod Comparison
 pub mod Cuts
 pub mod Checks
+pub mod Claims

@@ -1,4 +1,5 @@
 -- Laws of a line's step.
+pub mod LineEnds
 pub mod LineNumbers
 pub mod ReachedCalls
 pub mod CallLines
