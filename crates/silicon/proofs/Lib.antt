@@ -1,0 +1,3 @@
+-- The claims of the silicon behind a listing, and what they lean on.
+pub mod Names
+pub mod Claims

@@ -1,0 +1,41 @@
+-- What is claimed of the silicon behind a listing. proofs/Claims.antt proves each under the same name.
+use Prim.Native.Nat.{ℕ, _*_, _≤_, _<_}
+use mathlib.Core.Path.{_≡_}
+use mathlib.Core.Bool.{true}
+use mathlib.Core.List.{List, []}
+use mathlib.Core.Option.{some}
+use lib.ListN.{length, getD, take}
+use Rattle.device.specs.Refusal.{accepted}
+use Rattle.bound.specs.Totals.{bound-of}
+use Rattle.limit.specs.Exact.{exact}
+use Rattle.limit.specs.ByRow.{Row-limited}
+use Rattle.trace.specs.declared.Record.the-variants.{Activate}
+use Rattle.trace.specs.Texts.{outcomes}
+use Rattle.listing.specs.Output.{refresh-line}
+use Rattle.listing.specs.Steps.{start, step}
+use Rattle.listing.specs.Texts.{passed, listing}
+use Rattle.silicon.specs.EventLines.{rows-named}
+use Rattle.silicon.specs.Silicon.{Silicon, takes, silicon-after}
+
+-- reading an `R` line gives back the rows that were printed: any that have no more than 6 digits
+unfoldable pub Names-back : Type 0
+Names-back =
+    (e : ℕ) (rows : List ℕ) → length rows < 1000000 → ((i : ℕ) → i < length rows → getD rows i 0 < 1000000) →
+    rows-named (refresh-line e rows) ≡ rows
+
+-- the activations that the silicon takes are the accepted ones, whatever the listing: those of which the trace's own listing says nothing
+unfoldable pub Takes-the-accepted : Type 0
+Takes-the-accepted =
+    (trace given : List ℕ) (count : ℕ) (d : Silicon) → silicon-after count trace given ≡ some d → (row hold : ℕ) →
+    let prints = step (passed start (take count (outcomes trace))) (accepted (Activate row hold)) .prints in
+    (takes d row hold ≡ true → prints ≡ []) × (prints ≡ [] → takes d row hold ≡ true)
+
+-- behind the trace's own listing, after every line of the trace: each row's exact disturbance, counted anew from each accepted `S`, is at most 2 × H, at
+-- most H in the first window, and at most its closer figures
+unfoldable pub Silicon-limited : Type 0
+Silicon-limited =
+    (trace : List ℕ) (count : ℕ) (d : Silicon) → silicon-after count trace (listing start trace) ≡ some d → (row : ℕ) → row < d .settings .rows →
+    let x = exact (d .settings) (d .did) in
+    (x .disturbance row ≤ 2 * bound-of (d .settings)) ×
+    (x .refreshes < d .settings .window → x .disturbance row ≤ bound-of (d .settings)) ×
+    Row-limited (d .settings) x row
