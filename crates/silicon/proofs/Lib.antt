@@ -1,3 +1,4 @@
 -- The claims of the silicon behind a listing, and what they lean on.
 pub mod Names
+pub mod Pieces
 pub mod Claims
