@@ -2,4 +2,7 @@
 pub mod Names
 pub mod Pieces
 pub mod Standing
+pub mod SettingsLine
+pub mod ActivationLine
+pub mod EventLine
 pub mod Claims

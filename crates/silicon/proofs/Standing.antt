@@ -16,7 +16,8 @@ use Rattle.limit.specs.Reachable.{Reached}
 use Rattle.limit.proofs.Run.{state-after-append, happened-append}
 use Rattle.limit.proofs.Reachable.{activation-refused-with}
 use Rattle.listing.specs.Steps.{Tracker}
-use Rattle.silicon.specs.Silicon.{Silicon, takes}
+use Rattle.silicon.specs.EventLines.{event-lines}
+use Rattle.silicon.specs.Silicon.{Silicon, takes, Walk}
 
 -- the silicon of a tracker that stands, with what it did
 abbrev pub beside : Tracker → List Happened → Silicon
@@ -79,3 +80,9 @@ module _ {Own : Type 0} {t : Tracker} {did : List Happened} (m : Matched Own t d
       let s = t .settings in
       rw (activation-refused-with (matched-reached m) (t .remap) row hold)
       (none-refuses (ltb row (s .rows)) (hold-allowed hold) (leb (t .state .position .activations + hold) (s .interval)) (remap-allowed (t .remap)) (m .allowed))
+
+-- behind a line: what stands on both sides, the remap that is loaded, and if Own the `R` lines that are left, those of the text still to be printed
+pub record Behind (Own : Type 0) (t : Option Tracker) (loaded rest : List ℕ) (w : Walk) : Type 0 where
+  pub stands : Stands Own t (w .silicon)
+  pub alike : w .loaded ≡ loaded
+  pub left : Own → w .events ≡ event-lines rest
