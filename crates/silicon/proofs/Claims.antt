@@ -1,8 +1,76 @@
 -- The claims, each under its statement's name.
+use mathlib.Core.Path.{_≡_, refl, subst}
+use mathlib.Core.Bool.{true}
+use mathlib.Core.List.{List, []}
+use mathlib.Core.Option.{Option, none, some}
+use Prim.Native.Nat.{ℕ, _*_, _≤_, _<_}
+use lib.ListN.{take}
+use Rattle.laws.proofs.Cases.{missing}
+use Rattle.device.specs.declared.Settings.{Settings}
+use Rattle.bound.specs.Totals.{bound-of}
+use Rattle.limit.specs.Exact.{Happened, exact}
+use Rattle.limit.specs.ByRow.{Row-limited}
+use Rattle.limit.specs.Claims.{Demand-3, Row-limit}
+use Rattle.limit.proofs.Claims.{demand-3, row-limit}
+use Rattle.trace.specs.declared.Record.the-variants.{Activate}
+use Rattle.trace.specs.Texts.{outcomes}
 use Rattle.trace.proofs.Spelling.Numbers.{narrow-by}
-use Rattle.silicon.specs.Claims.{Names-back}
+use Rattle.listing.specs.Steps.{Tracker, start, record-step-to, record-step, line-step-to, step-to}
+use Rattle.listing.specs.Texts.{passed, listing}
+use Rattle.silicon.specs.Silicon.{Silicon, takes, begin, walked, silicon-after}
+use Rattle.silicon.specs.Claims.{Names-back, Takes-the-accepted, Silicon-limited}
 use Rattle.silicon.proofs.Names.{names-read}
+use Rattle.silicon.proofs.Standing.{beside, Matched, Stands, neither, both}
+use Rattle.silicon.proofs.ActivationLine.{taken-prints, prints-taken}
+use Rattle.silicon.proofs.Alongside.{alike-after}
 
 pub names-back : Names-back
 unfolding Names-back
 names-back e rows few narrow = names-read e few (narrow-by rows narrow)
+
+-- the silicon is the one that stands
+some-same : {d e : Silicon} → some d ≡ some e → d ≡ e
+some-same h = cc
+
+takes-by : {Own : Type 0} (number : ℕ) (loaded : List ℕ) {t : Option Tracker} {x : Option Silicon} (d : Silicon) → Stands Own t x → x ≡ some d → (row hold : ℕ)
+    → (takes d row hold ≡ true → record-step number loaded t (Activate row hold) .prints ≡ []) ×
+    (record-step number loaded t (Activate row hold) .prints ≡ [] → takes d row hold ≡ true)
+unfolding record-step-to
+takes-by number loaded d neither e row hold = missing e
+takes-by number loaded d (both t did m) e row hold =
+    subst
+    (λ (d : Silicon).
+    (takes d row hold ≡ true → record-step number loaded (some t) (Activate row hold) .prints ≡ []) ×
+    (record-step number loaded (some t) (Activate row hold) .prints ≡ [] → takes d row hold ≡ true))
+    (some-same e)
+    (taken-prints t did m row hold number, prints-taken t did m row hold number)
+
+pub takes-the-accepted : Takes-the-accepted
+unfolding Takes-the-accepted silicon-after step-to line-step-to
+takes-the-accepted trace given count d e row hold =
+    let a = alike-after {Own = ⊥} trace given count (λ own. absurd own) in
+    takes-by _ _ d (a .here .stands) e row hold
+
+-- each row's limits
+abbrev Limited : Settings → List Happened → ℕ → Type 0
+Limited s did row =
+    (exact s did .disturbance row ≤ 2 * bound-of s) ×
+    (exact s did .refreshes < s .window → exact s did .disturbance row ≤ bound-of s) ×
+    Row-limited s (exact s did) row
+
+matched-limited : (t : Tracker) (did : List Happened) → Matched (Unit {0}) t did → (row : ℕ) → row < t .settings .rows → Limited (t .settings) did row
+unfolding Demand-3 Row-limit
+matched-limited t did m row inside =
+    let both-limits = demand-3 (t .settings) (m .begun) (m .starts) (m .calls) row inside in
+    rw (m .tells tt) (both-limits .0, both-limits .1, row-limit (t .settings) (m .begun) (m .starts) (m .calls) row inside)
+
+limited-by : {t : Option Tracker} {x : Option Silicon} (d : Silicon) → Stands (Unit {0}) t x → x ≡ some d → (row : ℕ) → row < d .settings .rows → Limited (d .settings) (d .did) row
+limited-by d neither e = missing e
+limited-by d (both t did m) e =
+    subst (λ (d : Silicon). (row : ℕ) → row < d .settings .rows → Limited (d .settings) (d .did) row) (some-same e) (matched-limited t did m)
+
+pub silicon-limited : Silicon-limited
+unfolding Silicon-limited silicon-after
+silicon-limited trace count d e row inside =
+    let a = alike-after {Own = Unit {0}} trace (listing start trace) count (λ own. refl) in
+    limited-by d (a .here .stands) e row inside

@@ -5,4 +5,5 @@ pub mod Standing
 pub mod SettingsLine
 pub mod ActivationLine
 pub mod EventLine
+pub mod Alongside
 pub mod Claims
