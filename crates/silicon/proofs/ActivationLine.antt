@@ -1,12 +1,11 @@
 -- An activation line on both sides: an accepted one is one call more, and a refused one leaves the tracker and the silicon as they were.
 use mathlib.Core.Path.{_≡_, refl, sym, _∙_, ap}
-use mathlib.Core.Bool.{Bool, true}
+use mathlib.Core.Bool.{true}
 use mathlib.Core.List.{List, [], _∷_, _++_}
 use mathlib.Core.Option.{some}
 use Prim.Native.Nat.{ℕ, zero, suc}
 use native.Mathlib.Omega.{arith}
 use borrow.Author.Tests.{eqb-true, eqb-false, eq-eqb}
-use lib.Dec.{eqb}
 use lib.ListN.{length}
 use Rattle.laws.proofs.Cases.{split}
 use Rattle.device.specs.Refusal.{first-failed}
@@ -15,7 +14,6 @@ use Rattle.tracker.specs.Calls.{Activation-call, activation-tests, activation-t
 use Rattle.tracker.proofs.Calls.Outcomes.{activation-refused, activation-leaves}
 use Rattle.limit.specs.Exact.{Happened, activated}
 use Rattle.limit.specs.Run.{activation-of, left-by, told-by}
-use Rattle.trace.specs.Output.{refusal-line}
 use Rattle.trace.proofs.Output.{length-refusal-line}
 use Rattle.listing.specs.Steps.{Tracker, answered, activation-step}
 use Rattle.silicon.specs.Silicon.{takes, activated-by}

@@ -2,9 +2,8 @@
 use mathlib.Core.Path.{_≡_, refl, subst}
 use mathlib.Core.Bool.{true}
 use mathlib.Core.List.{List, []}
-use mathlib.Core.Option.{Option, none, some}
+use mathlib.Core.Option.{Option, some}
 use Prim.Native.Nat.{ℕ, _*_, _≤_, _<_}
-use lib.ListN.{take}
 use Rattle.laws.proofs.Cases.{missing}
 use Rattle.device.specs.declared.Settings.{Settings}
 use Rattle.bound.specs.Totals.{bound-of}
@@ -13,14 +12,13 @@ use Rattle.limit.specs.ByRow.{Row-limited}
 use Rattle.limit.specs.Claims.{Demand-3, Row-limit}
 use Rattle.limit.proofs.Claims.{demand-3, row-limit}
 use Rattle.trace.specs.declared.Record.the-variants.{Activate}
-use Rattle.trace.specs.Texts.{outcomes}
 use Rattle.trace.proofs.Spelling.Numbers.{narrow-by}
 use Rattle.listing.specs.Steps.{Tracker, start, record-step-to, record-step, line-step-to, step-to}
-use Rattle.listing.specs.Texts.{passed, listing}
-use Rattle.silicon.specs.Silicon.{Silicon, takes, begin, walked, silicon-after}
+use Rattle.listing.specs.Texts.{listing}
+use Rattle.silicon.specs.Silicon.{Silicon, takes, silicon-after}
 use Rattle.silicon.specs.Claims.{Names-back, Takes-the-accepted, Silicon-limited}
 use Rattle.silicon.proofs.Names.{names-read}
-use Rattle.silicon.proofs.Standing.{beside, Matched, Stands, neither, both}
+use Rattle.silicon.proofs.Standing.{Matched, Stands, neither, both}
 use Rattle.silicon.proofs.ActivationLine.{taken-prints, prints-taken}
 use Rattle.silicon.proofs.Alongside.{alike-after}
 

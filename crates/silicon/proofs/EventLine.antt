@@ -1,11 +1,11 @@
 -- An event line on both sides: it is accepted, the silicon refreshes the rows of the next `R` line, and behind the trace's own listing those are the picked rows.
-use mathlib.Core.Path.{_≡_, refl, sym, _∙_, ap}
+use mathlib.Core.Path.{_≡_, refl, _∙_, ap}
 use mathlib.Core.Bool.{true}
 use mathlib.Core.List.{List, [], _∷_, _++_}
-use mathlib.Core.Option.{Option, some}
-use Prim.Native.Nat.{ℕ, _≤_, _<_}
+use mathlib.Core.Option.{some}
+use Prim.Native.Nat.{ℕ, _≤_}
 use native.Mathlib.Omega.{arith}
-use lib.ListN.{length, take, replicate}
+use lib.ListN.{length, replicate}
 use Rattle.laws.proofs.Cases.{zero-one}
 use Rattle.device.specs.declared.Settings.{Settings}
 use Rattle.device.proofs.Acceptance.{accepted-settings}

@@ -1,5 +1,5 @@
 -- An `R` line read back: the rows that it names are those that were printed.
-use mathlib.Core.Path.{_≡_, refl, _∙_, sym, ap}
+use mathlib.Core.Path.{_≡_, refl}
 use mathlib.Core.List.{List, [], _∷_, _++_, append-assoc}
 use mathlib.Core.Option.{some, bind}
 use Prim.Native.Nat.{ℕ, _<_}

@@ -22,7 +22,7 @@ use Rattle.trace.specs.declared.Record.the-variants.{Set}
 use Rattle.listing.specs.Steps.{Tracker, refused-step, set-up-step, record-step-to, record-step}
 use Rattle.listing.proofs.Steps.LineNumbers.{set-up-first}
 use Rattle.silicon.specs.Silicon.{set-up-by}
-use Rattle.silicon.proofs.Standing.{Matched, Stands, neither, stands-by}
+use Rattle.silicon.proofs.Standing.{Stands, neither, stands-by}
 
 cleared-first : (s : Settings) (remap : List ℕ) → remap-allowed remap ≡ true → first-failed (set-up-tests s remap (replicate (s .counters) 0) (replicate (s .counters) 0)) ≡ or-later (first-failed (settings-tests s)) 0
 cleared-first s remap ok =

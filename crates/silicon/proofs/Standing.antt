@@ -9,7 +9,7 @@ use Rattle.device.specs.Refusal.{first-failed, refuse}
 use Rattle.device.specs.Remap.{remap-allowed}
 use Rattle.device.specs.Hold.{hold-allowed}
 use Rattle.tracker.specs.State.{State}
-use Rattle.tracker.specs.Calls.{activation-to, activation-on, activation-tests}
+use Rattle.tracker.specs.Calls.{activation-tests}
 use Rattle.limit.specs.Exact.{Happened}
 use Rattle.limit.specs.Run.{Command, Begun, left-by, told-by, state-after, happened}
 use Rattle.limit.specs.Reachable.{Reached}
