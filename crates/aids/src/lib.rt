@@ -6,6 +6,7 @@ mod marks;
 pub use bounds::cover;
 pub use bounds::top_row;
 pub use marks::clear;
+pub use marks::clear_marks;
 pub use marks::enter;
 pub use marks::first_at;
 pub use marks::remove;

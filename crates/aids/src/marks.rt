@@ -158,7 +158,7 @@ fn clear_marked(counts: &mut [u32], marks: &[u64])
 }
 
 // No place is marked then.
-fn clear_marks(marks: &mut [u64])
+pub fn clear_marks(marks: &mut [u64])
     ensures { λ _. ⌜ now (marks .exit) ≡ replicate (length (now (marks .entry))) 0 ⌝ }
 {
     let mut w: usize = 0;

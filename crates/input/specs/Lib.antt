@@ -1,2 +1,2 @@
--- Reads of standard input: what one comes to.
+-- Reads of a file: what one comes to.
 pub mod AtHand

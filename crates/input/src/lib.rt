@@ -1,4 +1,4 @@
-// Standard input, read behind bytes that are kept: what a read came to.
+// A file, read behind bytes that are kept: what a read came to.
 use libc::STDIN_FILENO;
 ghost use mathlib.Core.Path.{_≡_};
 ghost use Prim.Native.Nat.{_+_, _≤_};
@@ -27,12 +27,20 @@ fn input_from(got: isize, kept: usize, part: &[u8]) -> Input
     Input::Bytes(kept + more)
 }
 
-// Reads behind the bytes that are kept at the front; how many bytes are at hand then.
-pub fn read_behind(text: &mut [u8], kept: usize) -> Input
+// Reads a file behind the bytes that are kept at the front; how many bytes are at hand then.
+pub fn read_from(fd: i32, text: &mut [u8], kept: usize) -> Input
     requires { ⌜ kept ≤ length (now text) ⌝ }
     ensures { λ r. ⌜ Came r kept (now (text .entry)) (now (text .exit)) ⌝ }
 {
     let part = &mut text[kept..];
-    let got = libc::read(STDIN_FILENO, part);
+    let got = libc::read(fd, part);
     input_from(got, kept, part)
+}
+
+// The same of standard input.
+pub fn read_behind(text: &mut [u8], kept: usize) -> Input
+    requires { ⌜ kept ≤ length (now text) ⌝ }
+    ensures { λ r. ⌜ Came r kept (now (text .entry)) (now (text .exit)) ⌝ }
+{
+    read_from(STDIN_FILENO, text, kept)
 }

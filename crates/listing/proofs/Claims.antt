@@ -18,7 +18,7 @@ use Rattle.listing.specs.Claims.{Parts-joined, Part-moves, Chunk-moves, 
 use Rattle.listing.proofs.Steps.Alike.{Standing-alike, listed-alike, step-above}
 use Rattle.listing.proofs.Memory.Progress.{loadable-behind}
 use Rattle.listing.proofs.Texts.{listing-cut, listing-kept}
-use Rattle.listing.proofs.Chunks.Lines.{done-part}
+use Rattle.listing.proofs.Chunks.Lines.{done-part, all-taken}
 use Rattle.listing.proofs.Chunks.LastLine.{last-line-listing}
 use Rattle.listing.proofs.Parts.Moves.{printed-taken}
 
@@ -53,7 +53,7 @@ chunk-moves m g text len buffer r h room =
     let at-hand : List ℕ = take len text in
     let d = done-part at-hand buffer r in
     let rest : List ℕ = drop (part m at-hand buffer .taken) at-hand in
-    let unended = d .all (rw (length-take-le len text h) room) in
+    let unended = all-taken d (rw (length-take-le len text h) room) in
     record {
       next = after g (take (part m at-hand buffer .taken) at-hand);
       represents = d .took .represents;

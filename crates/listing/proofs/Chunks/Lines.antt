@@ -119,10 +119,14 @@ unfolding lines
 lines-split [] l ls e = zero-one (cc)
 lines-split (b ∷ bs) l ls e = record { some = omega arith; line = cc (lines-front b bs); others = cc (lines-front b bs) }
 
--- what the lines of a text come to: with room enough, no line that has ended is left
+-- what the lines of a text come to: while room is left, no line that has ended is
 pub record Done (g : Progress) (text buffer : List ℕ) (q : Going) : Type 0 where
   pub took : Taken g text buffer q
-  pub all : 55 * length text + 200 ≤ length buffer → ended (drop (q .taken) text) ≡ false
+  pub roomy : q .end + 200 ≤ length buffer → ended (drop (q .taken) text) ≡ false
+
+-- with room enough none is left
+pub all-taken : {g : Progress} {text buffer : List ℕ} {q : Going} → Done g text buffer q → 55 * length text + 200 ≤ length buffer → ended (drop (q .taken) text) ≡ false
+all-taken d room = d .roomy (omega (arith, room, d .took .spent, d .took .within))
 
 pub behind-first : (text : List ℕ) (at : ℕ) (l : List ℕ) → l ≡ first (drop at text) → drop (extent (drop at text)) (drop at text) ≡ drop (at + length l) text
 behind-first text at l e = rw (e, first-long (drop at text)) (drop-drop (extent (drop at text)) at text)
@@ -130,7 +134,7 @@ behind-first text at l e = rw (e, first-long (drop at text)) (drop-drop (extent 
 done-going : {g : Progress} {text buffer : List ℕ} (ls : List (List ℕ)) {q : Going} → ls ≡ lines (drop (q .taken) text) → Taken g text buffer q → Done g text buffer (going q ls)
 unfolding going gone
 done-going {g} {text} {buffer} [] {q} e t =
-    record { took = t; all = λ room. none-ended (drop (q .taken) text) (lines-none (drop (q .taken) text) e) }
+    record { took = t; roomy = λ room. none-ended (drop (q .taken) text) (lines-none (drop (q .taken) text) e) }
 done-going {g} {text} {buffer} (l ∷ ls) {q} e t =
     let s = lines-split (drop (q .taken) text) l ls e in
     let less : q .taken < length text = omega (arith, s .some, length-drop (q .taken) text) in
@@ -142,9 +146,9 @@ done-going {g} {text} {buffer} (l ∷ ls) {q} e t =
     rw no
     (record {
       took = t;
-      all = λ room.
+      roomy = λ room.
           sym (ended-first (drop (q .taken) text)) ∙
-          rw (s .line) at (takes-false q l no (omega (arith, room, t .spent, t .within, prints-long (t .prints))));
+          rw (s .line) at (takes-false q l no (omega (arith, room, prints-long (t .prints))));
     }))
 
 -- the lines at the front of a text

@@ -15,7 +15,7 @@ use Rattle.trace.specs.Texts.{most-kept, kept-bytes}
 use Rattle.listing.specs.Chunks.{Going, part, Chunked, chunk}
 use Rattle.listing.specs.Parts.{Printed, lists, ends}
 use Rattle.listing.proofs.Memory.Progress.{represents-memory}
-use Rattle.listing.proofs.Chunks.Lines.{Taken, done-part}
+use Rattle.listing.proofs.Chunks.Lines.{Taken, done-part, all-taken}
 use Rattle.trace.proofs.Texts.Cuts.{ended-less}
 
 module _ {g : Progress} {text buffer : List ℕ} {q : Going} (t : Taken g text buffer q) where
@@ -35,7 +35,7 @@ unfolding chunk kept-bytes
 ended-kept m g text len buffer r h room =
     let at-hand : List ℕ = take len text in
     let rest : List ℕ = drop (part m at-hand buffer .taken) at-hand in
-    let unended = done-part at-hand buffer r .all (rw (length-take-le len text h) room) in
+    let unended = all-taken (done-part at-hand buffer r) (rw (length-take-le len text h) room) in
     rw (take-at (take most-kept rest) (drop (length (take most-kept rest)) text) (length (take most-kept rest)) refl) (ended-less most-kept rest unended)
 
 -- the memory stays a listing's, no more is kept than the text holds, and no more printed than the buffer

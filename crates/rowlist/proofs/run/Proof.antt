@@ -8,8 +8,8 @@ use lib.ListN.{length}
 use lib.Seq.{length-take-le}
 use Rattle.listing.specs.Memory.{memory, Ready, Banked}
 use Rattle.listing.proofs.Memory.Progress.{represents-start}
-use Rattle.rowlist.specs.declared.Turn.{Turn}
-use Rattle.rowlist.proofs.Turns.{steady-turn-left, banked-start}
+use Rattle.turns.specs.declared.Turn.{Turn}
+use Rattle.turns.proofs.Turns.{steady-turn-left, banked-start}
 use Rattle.rowlist.proofs.run.Statement.{statement}
 use Rattle.rowlist.proofs.run.Tie as tie
 
@@ -21,10 +21,10 @@ record Lent (counts marks bounds text out : List ℕ) (turn : Turn) : Type 0 whe
   few : turn .kept ≤ 6144
 
 abbrev Inv-loop : tie.InvT-loop
-Inv-loop counts₀ marks₀ bounds₀ text₀ out₀ turn₀ turns₀ counts marks bounds text out turn turns = Lent counts marks bounds text out turn
+Inv-loop counts₀ marks₀ bounds₀ text₀ out₀ turn₀ left₀ counts marks bounds text out turn left = Lent counts marks bounds text out turn
 
 abbrev μ-loop : tie.MeasureT-loop
-μ-loop counts₀ marks₀ bounds₀ text₀ out₀ turn₀ turns₀ counts marks bounds text out turn turns = turns
+μ-loop counts₀ marks₀ bounds₀ text₀ out₀ turn₀ left₀ counts marks bounds text out turn left = left
 
 loop-holds : tie.Need-loop-holds Inv-loop μ-loop
 loop-holds c =
@@ -102,8 +102,8 @@ same-length-9 c = c .before .before .before .before .before .before .before .bef
 same-length-10 : tie.Need-same-length-10 Inv-loop μ-loop
 same-length-10 c = c .before .before .before .before .before .before .before .before .before .before .before .before .before .before .before .between-reads .kept .1 .1 .1 .1 .1 .1 .0 ∙ c .before .before .before .before .before .before .before .before .before .before .before .before .before .before .before .before .before .before .before .before .before .before .before .before .before .before .loop .inv .out-long ∙ sym (c .before .before .before .before .before .before .before .before .before .before .before .before .before .before .before .before .before .before .before .before .before .before .before .before .before .before .before .before .before .before .before .before .before .pre .3)
 
-sub-turns : tie.Need-sub-turns Inv-loop μ-loop
-sub-turns c = omega (arith, c .before .before .before .before .before .before .before .before .before .before .before .before .before .before .before .before .before .before .before .before .before .before .before .before .before .loop-test .taken)
+sub-left : tie.Need-sub-left Inv-loop μ-loop
+sub-left c = omega (arith, c .before .before .before .before .before .before .before .before .before .before .before .before .before .before .before .before .before .before .before .before .before .before .before .before .before .loop-test .taken)
 
 loop-less : tie.Need-loop-less Inv-loop μ-loop
 loop-less c = omega (arith, c .before .before .before .before .before .before .before .before .before .before .before .before .before .before .before .before .before .before .before .before .before .before .before .before .before .loop-test .taken)
@@ -163,7 +163,7 @@ run-spec =
     same-length-9
     same-length-10
     (λ c. search needs)
-    sub-turns
+    sub-left
     loop-less
     loop-again
     same-length-11

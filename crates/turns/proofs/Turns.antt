@@ -20,7 +20,7 @@ use Rattle.listing.proofs.Chunks.LastLine.{length-last-line}
 use Rattle.input.specs.declared.Input.{Input}
 use Rattle.input.specs.declared.Input.the-variants.{Bytes, End, Failed}
 use Rattle.input.specs.AtHand.{Within}
-use Rattle.rowlist.specs.Turns.{Turned, turn-of}
+use Rattle.turns.specs.Turns.{Turned, turn-of}
 
 pub record Steady (most room : ℕ) (q : Turned) : Type 0 where
   pub ready : Ready (q .memory)

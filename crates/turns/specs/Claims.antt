@@ -1,4 +1,4 @@
--- What is claimed of the program, besides its functions' contracts. proofs/Claims.antt proves it under the same name.
+-- What is claimed of the turns of a run, besides the functions' contracts. proofs/Claims.antt proves it under the same name.
 use Prim.Native.Nat.{ℕ}
 use mathlib.Core.Path.{_≡_}
 use mathlib.Core.List.{List}
@@ -6,7 +6,7 @@ use Rattle.listing.specs.Steps.{start}
 use Rattle.listing.specs.Texts.{listing}
 use Rattle.listing.specs.Memory.{memory, start-place}
 use Rattle.trace.specs.Texts.{joined}
-use Rattle.rowlist.specs.Turns.{Turns}
+use Rattle.turns.specs.Turns.{Turns}
 
 -- from the start on, all that is to be written is the listing of all that the reads brought
 unfoldable pub Turns-listed : Type 0

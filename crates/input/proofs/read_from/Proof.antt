@@ -1,4 +1,4 @@
--- `input::read_behind` meets its contract.
+-- `input::read_from` meets its contract.
 use mathlib.Core.Path.{_≡_}
 use mathlib.Core.List.{List, _++_}
 use Prim.Native.Nat.{ℕ, _+_, _-_, _≤_}
@@ -8,8 +8,8 @@ use borrow.Rule.Slice.PartMut.{postOf}
 use lib.ListN.{length, take, length-append}
 use lib.Seq.{take-at, length-take-le}
 use Rattle.input.proofs.AtHand.{within-input}
-use Rattle.input.proofs.read_behind.Statement.{statement}
-use Rattle.input.proofs.read_behind.Tie as tie
+use Rattle.input.proofs.read_from.Statement.{statement}
+use Rattle.input.proofs.read_from.Tie as tie
 
 -- the bytes in front of a place are as they were, whatever stands behind it
 take-front : (text : List ℕ) (kept : ℕ) (part : List ℕ) → kept ≤ length text → take kept (take kept text ++ part) ≡ take kept text
@@ -31,8 +31,8 @@ returns c =
       within = rw (c .before .before .input-from .ensures) (within-input _ _ _ _ (part-within text kept (read .last .1 .0) (postOf kept (length text - kept) text) (start .pre)));
     }
 
-pub read-behind-spec : {M : Type 1} → statement M
-read-behind-spec =
+pub read-from-spec : {M : Type 1} → statement M
+read-from-spec =
     tie.close
     (tie.spec
     (λ c. search needs)

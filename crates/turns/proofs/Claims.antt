@@ -18,8 +18,8 @@ use Rattle.listing.proofs.Parts.Moves.{ended-kept}
 use Rattle.listing.proofs.Claims.{parts-joined, chunk-moves, end-moves}
 use Rattle.input.specs.AtHand.{Within}
 use Rattle.input.proofs.AtHand.{at-hand}
-use Rattle.rowlist.specs.Turns.{turn-of, Turns, goes-on, stops}
-use Rattle.rowlist.specs.Claims.{Turns-listed}
+use Rattle.turns.specs.Turns.{turn-of, Turns, goes-on, stops}
+use Rattle.turns.specs.Claims.{Turns-listed}
 
 turns-printed : {m : Memory} {g : Progress} {text : List ℕ} {kept : ℕ} {parts : List (List ℕ)} {out : List ℕ} → Represents m g → ended (take kept text) ≡ false → Turns m text kept parts out → Printed g (take kept text) parts out
 unfolding Chunk-moves End-moves turn-of Within written

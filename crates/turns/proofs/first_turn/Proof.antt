@@ -1,7 +1,7 @@
--- `rowlist::first_turn` meets its contract.
+-- `turns::first_turn` meets its contract.
 use borrow.Author.Needs.{needs}
-use Rattle.rowlist.proofs.first_turn.Statement.{statement}
-use Rattle.rowlist.proofs.first_turn.Tie as tie
+use Rattle.turns.proofs.first_turn.Statement.{statement}
+use Rattle.turns.proofs.first_turn.Tie as tie
 
 returns : tie.Need-returns
 returns c = rw (c .start .ensures)

@@ -1,4 +1,4 @@
--- The program's turns: what lies between two reads, and what all turns print.
+-- Turns: what lies between two reads of a trace, and what all turns print.
 use Prim.Native.Nat.{ℕ, _+_, _*_, _≤_}
 use mathlib.Core.Path.{_≡_}
 use mathlib.Core.Bool.{Bool, true, false}
@@ -12,7 +12,7 @@ use Rattle.listing.specs.Chunks.{next-number, line-room, chunk, last-line}
 use Rattle.input.specs.declared.Input.{Input}
 use Rattle.input.specs.declared.Input.the-variants.{Bytes, End, Failed}
 use Rattle.input.specs.AtHand.{Within, Came}
-use Rattle.rowlist.specs.declared.Turn.{Turn}
+use Rattle.turns.specs.declared.Turn.{Turn}
 
 -- what lies between two reads leaves: memory, text and buffer, how many bytes are kept and how many are to be written, and whether to read again
 pub record Turned : Type 0 where

@@ -1,13 +1,13 @@
--- `rowlist::between_reads` meets its contract: by what the read came to.
+-- `turns::between_reads` meets its contract: by what the read came to.
 use mathlib.Core.Path.{refl}
 use native.Mathlib.Nat.{sub-zero}
 use native.Mathlib.Omega.{arith}
 use borrow.Author.Needs.{needs}
 use Rattle.input.specs.AtHand.{Within}
-use Rattle.rowlist.specs.Turns.{turn-of}
-use Rattle.rowlist.proofs.Turns.{turn-chunk, turn-end}
-use Rattle.rowlist.proofs.between_reads.Statement.{statement}
-use Rattle.rowlist.proofs.between_reads.Tie as tie
+use Rattle.turns.specs.Turns.{turn-of}
+use Rattle.turns.proofs.Turns.{turn-chunk, turn-end}
+use Rattle.turns.proofs.between_reads.Statement.{statement}
+use Rattle.turns.proofs.between_reads.Tie as tie
 
 list-chunk-requires : tie.Need-list-chunk-requires
 unfolding Within

@@ -1,3 +1,0 @@
--- Laws of the program's turns.
-pub mod Turns
-pub mod Claims

@@ -1,0 +1,3 @@
+-- Laws of the turns between reads.
+pub mod Turns
+pub mod Claims
