@@ -1,5 +1,5 @@
 -- An `R` line read back: the rows that it names are those that were printed.
-use mathlib.Core.Path.{_≡_, refl}
+use mathlib.Core.Path.{_≡_}
 use mathlib.Core.List.{List, [], _∷_, _++_, append-assoc}
 use mathlib.Core.Option.{some, bind}
 use Prim.Native.Nat.{ℕ, _<_}
@@ -9,17 +9,9 @@ use lib.Seq.{drop-at}
 use Rattle.trace.specs.Numbers.{field, fields, printed}
 use Rattle.trace.specs.Output.{number-columns}
 use Rattle.trace.proofs.Numbers.Printed.{length-printed}
-use Rattle.trace.proofs.Spelling.Numbers.{Narrow, no-number, one-more, field-printed}
+use Rattle.trace.proofs.Spelling.Numbers.{Narrow, field-printed, fields-columns}
 use Rattle.listing.specs.Output.{refresh-line}
 use Rattle.silicon.specs.EventLines.{or-none, rows-named}
-
--- numbers in columns, read from the front of a text
-fields-front : {ns : List ℕ} → Narrow ns → (rest : List ℕ) → fields (length ns) (number-columns ns ++ rest) ≡ some ns
-unfolding fields number-columns bind
-fields-front no-number rest = refl
-fields-front (one-more {n} {ns} h narrow) rest =
-    let behind = number-columns ns ++ rest in
-    rw (append-assoc (printed 6 n) (number-columns ns) rest, field-printed n behind h, drop-at (printed 6 n) behind 6 (length-printed 6 n), fields-front narrow rest)
 
 -- a letter, a number, how many rows there are and the rows
 named-front : (b : ℕ) (e count rows : List ℕ) (n : ℕ) (ns : List ℕ) → length e ≡ 6 → length count ≡ 6 → field 0 (count ++ rows) ≡ some n → fields n rows ≡ some ns
@@ -35,4 +27,4 @@ unfolding refresh-line
 names-read e {rows} few narrow =
     let named = number-columns rows ++ 10 ∷ [] in
     simp append-assoc
-    (named-front 82 (printed 6 e) (printed 6 (length rows)) named (length rows) rows (length-printed 6 e) (length-printed 6 (length rows)) (field-printed (length rows) named few) (fields-front narrow (10 ∷ [])))
+    (named-front 82 (printed 6 e) (printed 6 (length rows)) named (length rows) rows (length-printed 6 e) (length-printed 6 (length rows)) (field-printed (length rows) named few) (fields-columns narrow (10 ∷ [])))

@@ -2,61 +2,25 @@
 use mathlib.Core.Path.{_≡_, refl}
 use mathlib.Core.Bool.{false}
 use mathlib.Core.List.{List, [], _∷_, _++_}
-use Prim.Native.Nat.{ℕ, zero, suc, _+_, _*_, _/_, _%_, _≤_}
+use Prim.Native.Nat.{ℕ, zero, suc, _*_, _%_}
 use native.Mathlib.Omega.{arith}
 use borrow.Author.Tests.{ne-eqb}
-use lib.Dec.{eqb}
 use lib.ListN.{length}
-use Rattle.laws.proofs.Cases.{split, clash}
 use Rattle.device.specs.Refusal.{Outcome, accepted, refused}
 use Rattle.device.specs.declared.Settings.{Settings}
 use Rattle.tracker.specs.declared.Position.{Position}
 use Rattle.tracker.specs.Calls.{SetUp-call}
 use Rattle.bound.specs.Totals.{bound-of}
-use Rattle.trace.specs.Numbers.{digit-or-blank, columns-before, printed}
+use Rattle.trace.specs.Numbers.{printed}
 use Rattle.trace.specs.Output.{number-columns, refusal-line}
 use Rattle.trace.specs.Lines.{ended}
-use Rattle.trace.specs.Texts.{in-front, lines}
 use Rattle.trace.proofs.Lines.{ended-append}
+use Rattle.trace.proofs.Numbers.Printed.{ended-printed}
+use Rattle.trace.proofs.Output.{ended-number-columns}
+use Rattle.trace.proofs.Texts.FirstLine.{lines-piece}
 use Rattle.listing.specs.Output.{bound-line, refresh-line}
 use Rattle.listing.specs.Steps.{refused-step, set-up-step, answered}
 use Rattle.silicon.specs.EventLines.{is-event-line, event-lines-of, event-lines}
-
--- bytes without byte 10, then a byte 10: the first line
-lines-piece : (bytes rest : List ℕ) → ended bytes ≡ false → lines ((bytes ++ 10 ∷ []) ++ rest) ≡ (bytes ++ 10 ∷ []) ∷ lines rest
-unfolding lines in-front ended
-lines-piece [] rest h = refl
-lines-piece (b ∷ bytes) rest h =
-    split (eqb b 10)
-    (λ e. clash (rw e at h))
-    (λ e. rw (e, lines-piece bytes rest (rw e at h)))
-
--- columns hold no byte 10
-ended-byte : (b : ℕ) → 11 ≤ b → ended (b ∷ []) ≡ false
-unfolding ended
-ended-byte b h = rw (ne-eqb b 10 (λ e. omega arith))
-
-column-high : (m : ℕ) → 11 ≤ digit-or-blank m
-unfolding digit-or-blank
-column-high zero = omega arith
-column-high (suc m) = omega arith
-
-ended-columns-before : (k m : ℕ) → ended (columns-before k m) ≡ false
-unfolding columns-before ended
-ended-columns-before zero m = refl
-ended-columns-before (suc k) m =
-    ended-append (columns-before k (m / 10)) (digit-or-blank m ∷ []) (ended-columns-before k (m / 10)) (ended-byte (digit-or-blank m) (column-high m))
-
-ended-printed : (k n : ℕ) → ended (printed k n) ≡ false
-unfolding printed ended
-ended-printed zero n = refl
-ended-printed (suc k) n =
-    ended-append (columns-before k (n / 10)) ((48 + n % 10) ∷ []) (ended-columns-before k (n / 10)) (ended-byte (48 + n % 10) (omega arith))
-
-ended-number-columns : (ns : List ℕ) → ended (number-columns ns) ≡ false
-unfolding number-columns ended
-ended-number-columns [] = refl
-ended-number-columns (n ∷ ns) = ended-append (printed 6 n) (number-columns ns) (ended-printed 6 n) (ended-number-columns ns)
 
 -- a text in front of others adds no `R` line
 pub record Quiet (text : List ℕ) : Type 0 where
