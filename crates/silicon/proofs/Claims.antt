@@ -1,5 +1,5 @@
 -- The claims, each under its statement's name.
-use mathlib.Core.Path.{_≡_, refl, subst}
+use mathlib.Core.Path.{_≡_, refl, _∙_, subst}
 use mathlib.Core.Bool.{true}
 use mathlib.Core.List.{List, []}
 use mathlib.Core.Option.{Option, some}
@@ -59,8 +59,9 @@ Limited s did row =
 matched-limited : (t : Tracker) (did : List Happened) → Matched (Unit {0}) t did → (row : ℕ) → row < t .settings .rows → Limited (t .settings) did row
 unfolding Demand-3 Row-limit
 matched-limited t did m row inside =
-    let both-limits = demand-3 (t .settings) (m .begun) (m .starts) (m .calls) row inside in
-    rw (m .tells tt) (both-limits .0, both-limits .1, row-limit (t .settings) (m .begun) (m .starts) (m .calls) row inside)
+    let r = m .run in
+    let both-limits = demand-3 (t .settings) (r .begun) (r .starts) (r .calls) row inside in
+    rw (m .same tt ∙ r .tells) (both-limits .0, both-limits .1, row-limit (t .settings) (r .begun) (r .starts) (r .calls) row inside)
 
 limited-by : {t : Option Tracker} {x : Option Silicon} (d : Silicon) → Stands (Unit {0}) t x → x ≡ some d → (row : ℕ) → row < d .settings .rows → Limited (d .settings) (d .did) row
 limited-by d neither e = missing e

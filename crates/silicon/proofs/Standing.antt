@@ -1,5 +1,5 @@
 -- The silicon beside a listing's tracker: the same settings, remap and units, and the accepted calls that lead to the tracker's state.
-use mathlib.Core.Path.{_≡_, refl, sym, _∙_, ap, subst}
+use mathlib.Core.Path.{_≡_, refl, _∙_, ap, subst}
 use mathlib.Core.Bool.{Bool, true, false, not, _&&_}
 use mathlib.Core.List.{List, [], _∷_, _++_}
 use mathlib.Core.Option.{Option, none, some}
@@ -8,12 +8,11 @@ use lib.Dec.{eqb, leb, ltb}
 use Rattle.device.specs.Refusal.{first-failed, refuse}
 use Rattle.device.specs.Remap.{remap-allowed}
 use Rattle.device.specs.Hold.{hold-allowed}
-use Rattle.tracker.specs.State.{State}
 use Rattle.tracker.specs.Calls.{activation-tests}
 use Rattle.limit.specs.Exact.{Happened}
-use Rattle.limit.specs.Run.{Command, Begun, left-by, told-by, state-after, happened}
+use Rattle.limit.specs.Run.{Command, left-by, told-by}
 use Rattle.limit.specs.Reachable.{Reached}
-use Rattle.limit.proofs.Run.{state-after-append, happened-append}
+use Rattle.limit.proofs.Answered.{Run-of, run-of-call}
 use Rattle.limit.proofs.Reachable.{activation-refused-with}
 use Rattle.listing.specs.Steps.{Tracker}
 use Rattle.silicon.specs.EventLines.{event-lines}
@@ -24,14 +23,12 @@ abbrev pub beside : Tracker → List Happened → Silicon
 beside t did =
     record { settings = t .settings; remap = t .remap; units = t .state .position .activations; did = did }
 
--- the tracker's state was reached, and if Own, that the `R` lines are the trace's own, the silicon did what the counter was told of these calls
+-- a run of calls leads to the tracker's state, and if Own, that the `R` lines are the trace's own, the silicon did what the counter is told of it
 pub record Matched (Own : Type 0) (t : Tracker) (did : List Happened) : Type 0 where
   pub allowed : remap-allowed (t .remap) ≡ true
-  pub begun : State
-  pub starts : Begun (t .settings) begun
-  pub calls : List Command
-  pub leads : t .state ≡ state-after (t .settings) calls begun
-  pub tells : Own → did ≡ happened (t .settings) calls begun
+  pub told : List Happened
+  pub run : Run-of (t .settings) (t .state) told
+  pub same : Own → did ≡ told
 
 -- a tracker and the silicon stand, or neither
 pub data Stands (Own : Type 0) : Option Tracker → Option Silicon → Type 0 where
@@ -43,25 +40,18 @@ stands-by {Own} t did d same m = subst (λ (x : Silicon). Stands Own (some t) (s
 
 module _ {Own : Type 0} {t : Tracker} {did : List Happened} (m : Matched Own t did) where
   pub matched-reached : Reached (t .settings) (t .state)
-  matched-reached = record { begun = m .begun; starts = m .starts; calls = m .calls; leads = m .leads }
+  matched-reached = let r = m .run in record { begun = r .begun; starts = r .starts; calls = r .calls; leads = r .leads }
 
   -- one call more
   pub matched-on : (c : Command) (did′ : List Happened) → (Own → did′ ≡ did ++ told-by (t .settings) c (t .state) ∷ [])
       → Matched Own (record { settings = t .settings; remap = t .remap; state = left-by (t .settings) c (t .state) }) did′
-  unfolding state-after happened
   matched-on c did′ same =
-      let s = t .settings in
+      let one = told-by (t .settings) c (t .state) in
       record {
         allowed = m .allowed;
-        begun = m .begun;
-        starts = m .starts;
-        calls = m .calls ++ c ∷ [];
-        leads = ap (λ (x : State). left-by s c x) (m .leads) ∙ sym (state-after-append s (m .calls) (c ∷ []) (m .begun));
-        tells =
-            λ own.
-            same own ∙ ap (λ (hs : List Happened). hs ++ told-by s c (t .state) ∷ []) (m .tells own) ∙
-            ap (λ (x : State). happened s (m .calls) (m .begun) ++ told-by s c x ∷ []) (m .leads) ∙
-            sym (happened-append s (m .calls) (c ∷ []) (m .begun));
+        told = m .told ++ one ∷ [];
+        run = run-of-call c (m .run) _ one refl refl;
+        same = λ own. same own ∙ ap (λ (told : List Happened). told ++ one ∷ []) (m .same own);
       }
 
 none-refuses : (inside held spare allowed : Bool) → allowed ≡ true
