@@ -1,8 +1,8 @@
 -- The claims, each under its statement's name.
-use mathlib.Core.Path.{_≡_, refl, _∙_, subst}
+use mathlib.Core.Path.{_≡_, refl, sym, _∙_, subst}
 use mathlib.Core.Bool.{true}
 use mathlib.Core.List.{List, []}
-use mathlib.Core.Option.{Option, some}
+use mathlib.Core.Option.{Option, none, some, Option·some-injective}
 use Prim.Native.Nat.{ℕ, _*_, _≤_, _<_}
 use Rattle.laws.proofs.Cases.{missing}
 use Rattle.device.specs.declared.Settings.{Settings}
@@ -16,9 +16,9 @@ use Rattle.trace.proofs.Spelling.Numbers.{narrow-by}
 use Rattle.listing.specs.Steps.{Tracker, start, record-step-to, record-step, line-step-to, step-to}
 use Rattle.listing.specs.Texts.{listing}
 use Rattle.silicon.specs.Silicon.{Silicon, takes, silicon-after}
-use Rattle.silicon.specs.Claims.{Names-back, Takes-the-accepted, Silicon-limited}
+use Rattle.silicon.specs.Claims.{Names-back, Stands-as, Stands-together, Takes-the-accepted, Silicon-limited}
 use Rattle.silicon.proofs.Names.{names-read}
-use Rattle.silicon.proofs.Standing.{Matched, Stands, neither, both}
+use Rattle.silicon.proofs.Standing.{beside, Matched, Stands, neither, both}
 use Rattle.silicon.proofs.ActivationLine.{taken-prints, prints-taken}
 use Rattle.silicon.proofs.Alongside.{alike-after}
 
@@ -26,9 +26,20 @@ pub names-back : Names-back
 unfolding Names-back
 names-back e rows few narrow = names-read e few (narrow-by rows narrow)
 
--- the silicon is the one that stands
-some-same : {d e : Silicon} → some d ≡ some e → d ≡ e
-some-same h = cc
+-- what stands on both sides
+together-by : {Own : Type 0} {t : Option Tracker} {x : Option Silicon} → Stands Own t x
+    → (t ≡ none → x ≡ none) × ((u : Tracker) → t ≡ some u → Stands-as u x)
+together-by neither = (λ e. refl, λ u e. missing e)
+together-by (both t did m) = (
+  λ e. missing (sym e),
+  λ u e.
+      subst (λ (u : Tracker). Stands-as u (some (beside t did))) (Option·some-injective t u e)
+      (record { silicon = beside t did; stands = refl; same-settings = refl; same-remap = refl; same-units = refl }),
+)
+
+pub stands-together : Stands-together
+unfolding Stands-together silicon-after
+stands-together trace given count = together-by (alike-after {Own = ⊥} trace given count (λ own. absurd own) .here .stands)
 
 takes-by : {Own : Type 0} (number : ℕ) (loaded : List ℕ) {t : Option Tracker} {x : Option Silicon} (d : Silicon) → Stands Own t x → x ≡ some d → (row hold : ℕ)
     → (takes d row hold ≡ true → record-step number loaded t (Activate row hold) .prints ≡ []) ×
@@ -40,7 +51,7 @@ takes-by number loaded d (both t did m) e row hold =
     (λ (d : Silicon).
     (takes d row hold ≡ true → record-step number loaded (some t) (Activate row hold) .prints ≡ []) ×
     (record-step number loaded (some t) (Activate row hold) .prints ≡ [] → takes d row hold ≡ true))
-    (some-same e)
+    (Option·some-injective (beside t did) d e)
     (taken-prints t did m row hold number, prints-taken t did m row hold number)
 
 pub takes-the-accepted : Takes-the-accepted
@@ -66,7 +77,7 @@ matched-limited t did m row inside =
 limited-by : {t : Option Tracker} {x : Option Silicon} (d : Silicon) → Stands (Unit {0}) t x → x ≡ some d → (row : ℕ) → row < d .settings .rows → Limited (d .settings) (d .did) row
 limited-by d neither e = missing e
 limited-by d (both t did m) e =
-    subst (λ (d : Silicon). (row : ℕ) → row < d .settings .rows → Limited (d .settings) (d .did) row) (some-same e) (matched-limited t did m)
+    subst (λ (d : Silicon). (row : ℕ) → row < d .settings .rows → Limited (d .settings) (d .did) row) (Option·some-injective (beside t did) d e) (matched-limited t did m)
 
 pub silicon-limited : Silicon-limited
 unfolding Silicon-limited silicon-after

@@ -3,7 +3,7 @@ use Prim.Native.Nat.{ℕ, _*_, _≤_, _<_}
 use mathlib.Core.Path.{_≡_}
 use mathlib.Core.Bool.{true}
 use mathlib.Core.List.{List, []}
-use mathlib.Core.Option.{some}
+use mathlib.Core.Option.{Option, none, some}
 use lib.ListN.{length, getD, take}
 use Rattle.device.specs.Refusal.{accepted}
 use Rattle.bound.specs.Totals.{bound-of}
@@ -12,7 +12,7 @@ use Rattle.limit.specs.ByRow.{Row-limited}
 use Rattle.trace.specs.declared.Record.the-variants.{Activate}
 use Rattle.trace.specs.Texts.{outcomes}
 use Rattle.listing.specs.Output.{refresh-line}
-use Rattle.listing.specs.Steps.{start, step}
+use Rattle.listing.specs.Steps.{Tracker, start, step}
 use Rattle.listing.specs.Texts.{passed, listing}
 use Rattle.silicon.specs.EventLines.{rows-named}
 use Rattle.silicon.specs.Silicon.{Silicon, takes, silicon-after}
@@ -22,6 +22,23 @@ unfoldable pub Names-back : Type 0
 Names-back =
     (e : ℕ) (rows : List ℕ) → length rows < 1000000 → ((i : ℕ) → i < length rows → getD rows i 0 < 1000000) →
     rows-named (refresh-line e rows) ≡ rows
+
+-- the silicon stands as a tracker does: with the same settings, the same remap and as many units since the last event
+pub record Stands-as (t : Tracker) (x : Option Silicon) : Type 0 where
+  pub silicon : Silicon
+  pub stands : x ≡ some silicon
+  pub same-settings : silicon .settings ≡ t .settings
+  pub same-remap : silicon .remap ≡ t .remap
+  pub same-units : silicon .units ≡ t .state .position .activations
+
+-- after every line of the trace settings stand for the silicon exactly where the trace's own listing has a tracker standing, with the same settings,
+-- remap and units, whatever listing it goes by
+unfoldable pub Stands-together : Type 0
+Stands-together =
+    (trace given : List ℕ) (count : ℕ) →
+    let tracker = passed start (take count (outcomes trace)) .tracker in
+    let x = silicon-after count trace given in
+    (tracker ≡ none → x ≡ none) × ((t : Tracker) → tracker ≡ some t → Stands-as t x)
 
 -- the activations that the silicon takes are the accepted ones, whatever the listing: those of which the trace's own listing says nothing
 unfoldable pub Takes-the-accepted : Type 0
