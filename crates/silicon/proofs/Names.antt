@@ -1,5 +1,5 @@
 -- An `R` line read back: the rows that it names are those that were printed.
-use mathlib.Core.Path.{_≡_}
+use mathlib.Core.Path.{_≡_, ap, _∙_}
 use mathlib.Core.List.{List, [], _∷_, _++_, append-assoc}
 use mathlib.Core.Option.{some, bind}
 use Prim.Native.Nat.{ℕ, _<_}
@@ -20,7 +20,7 @@ unfolding rows-named field or-none bind
 named-front b e count rows n ns long wide counts named =
     let both : length (e ++ count) ≡ 12 = rw length-append (omega arith) in
     let behind : drop 12 (e ++ (count ++ rows)) ≡ rows = rw (← append-assoc e count rows) (drop-at (e ++ count) rows 12 both) in
-    rw (drop-at e (count ++ rows) 6 long, counts, behind, named)
+    rw (drop-at e (count ++ rows) 6 long, counts) (ap (λ (bytes : List ℕ). or-none (fields n bytes)) behind ∙ ap or-none named)
 
 pub names-read : (e : ℕ) {rows : List ℕ} → length rows < 1000000 → Narrow rows → rows-named (refresh-line e rows) ≡ rows
 unfolding refresh-line
