@@ -20,7 +20,7 @@ pub record Run-of (s : Settings) (st : State) (told : List Happened) : Type 0 wh
   pub tells : told ≡ happened s calls begun
 
 -- one call more
-run-of-call : {s : Settings} {st : State} {told : List Happened} (c : Command) → Run-of s st told → (st′ : State) (h : Happened) → st′ ≡ left-by s c st → h ≡ told-by s c st → Run-of s st′ (told ++ h ∷ [])
+pub run-of-call : {s : Settings} {st : State} {told : List Happened} (c : Command) → Run-of s st told → (st′ : State) (h : Happened) → st′ ≡ left-by s c st → h ≡ told-by s c st → Run-of s st′ (told ++ h ∷ [])
 unfolding state-after happened
 run-of-call {s} c k st′ h left tells =
     record {

@@ -1,5 +1,6 @@
 -- What is printed: texts one right behind another, numbers in columns, and the line of a refusal.
 use mathlib.Core.Path.{_≡_, refl, ap, sym, _∙_}
+use mathlib.Core.Bool.{false}
 use mathlib.Core.List.{List, [], _∷_, _++_, append-assoc, append-nil}
 use Prim.Native.Nat.{ℕ, suc, _+_, _*_, _%_, _≤_, _<_}
 use native.Mathlib.Numerals.{add-one}
@@ -7,8 +8,10 @@ use native.Mathlib.Nat.{add-zero, zero-add}
 use native.Mathlib.Omega.{arith}
 use lib.ListN.{length, getD, take, drop, set, length-append, length-drop, take-append-drop}
 use lib.Seq.{take-at, drop-append-add, drop-drop, length-take-le, set-split, take-suc}
+use Rattle.trace.specs.Lines.{ended}
 use Rattle.trace.specs.Numbers.{printed, written}
-use Rattle.trace.proofs.Numbers.Printed.{length-printed}
+use Rattle.trace.proofs.Lines.{ended-append}
+use Rattle.trace.proofs.Numbers.Printed.{length-printed, ended-printed}
 use Rattle.trace.specs.Output.{number-columns, refusal-line, Prints}
 
 length-front : (b x : List ℕ) (at : ℕ) → at ≤ length b → length (take at b ++ x) ≡ at + length x
@@ -73,6 +76,11 @@ length-number-columns (n ∷ ns) = rw length-append (omega (arith, length-printe
 
 pub length-number-columns-take : (ns : List ℕ) (i : ℕ) → i ≤ length ns → length (number-columns (take i ns)) ≡ 6 * i
 length-number-columns-take ns i h = length-number-columns (take i ns) ∙ rw (length-take-le i ns h)
+
+pub ended-number-columns : (ns : List ℕ) → ended (number-columns ns) ≡ false
+unfolding number-columns ended
+ended-number-columns [] = refl
+ended-number-columns (n ∷ ns) = ended-append (printed 6 n) (number-columns ns) (ended-printed 6 n) (ended-number-columns ns)
 
 columns-append : (xs ys : List ℕ) → number-columns (xs ++ ys) ≡ number-columns xs ++ number-columns ys
 unfolding number-columns

@@ -29,7 +29,7 @@ use Rattle.listing.specs.Memory.{memory, tracker-in}
 use Rattle.listing.specs.Contracts.{settings-line}
 use Rattle.listing.proofs.Steps.LineNumbers.{set-up-first}
 
-cleared-first : (s : Settings) (remap : List ℕ) → remap-allowed remap ≡ true → first-failed (set-up-tests s remap (replicate (s .counters) 0) (replicate (s .counters) 0)) ≡ or-later (first-failed (settings-tests s)) 0
+pub cleared-first : (s : Settings) (remap : List ℕ) → remap-allowed remap ≡ true → first-failed (set-up-tests s remap (replicate (s .counters) 0) (replicate (s .counters) 0)) ≡ or-later (first-failed (settings-tests s)) 0
 cleared-first s remap ok =
     set-up-first s remap (replicate (s .counters) 0) (replicate (s .counters) 0) ok (length-replicate (s .counters) 0) (length-replicate (s .counters) 0)
 
@@ -51,13 +51,13 @@ module _ (loaded : List ℕ) (ok : remap-allowed loaded ≡ true) where
       rw (cleared-first s loaded ok) (prints-by number s loaded _ (state-of s 0 0 empty .position) (first-failed (settings-tests s)))
 
   -- 'after an S line .. whose settings are refused no tracker stands'
-  settings-refused : (number : ℕ) (s : Settings) (t : Option Tracker) → (first-failed (settings-tests s) ≡ 0 → ⊥) → record-step number loaded t (Set s) .tracker ≡ none
+  pub settings-refused : (number : ℕ) (s : Settings) (t : Option Tracker) → (first-failed (settings-tests s) ≡ 0 → ⊥) → record-step number loaded t (Set s) .tracker ≡ none
   unfolding record-step-to set-up-to
   settings-refused number s t h =
       rw (cleared-first s loaded ok) (refused-by number s loaded _ (state-of s 0 0 empty .position) (first-failed (settings-tests s)) h)
 
   -- 'an accepted S sets up afresh'
-  settings-stand : (number : ℕ) (s : Settings) (t : Option Tracker) → first-failed (settings-tests s) ≡ 0 → record-step number loaded t (Set s) .tracker ≡ some (record { settings = s; remap = loaded; state = state-of s 0 0 empty })
+  pub settings-stand : (number : ℕ) (s : Settings) (t : Option Tracker) → first-failed (settings-tests s) ≡ 0 → record-step number loaded t (Set s) .tracker ≡ some (record { settings = s; remap = loaded; state = state-of s 0 0 empty })
   unfolding record-step-to set-up-step set-up-to tested kept-unless or-later state-of
   settings-stand number s t e = rw (cleared-first s loaded ok, e)
 

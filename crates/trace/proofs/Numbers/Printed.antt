@@ -1,13 +1,17 @@
--- Printed numbers: how long they are, and a number written into a buffer from its last column to its first.
+-- Printed numbers: how long they are, that they hold no byte 10, and a number written into a buffer from its last column to its first.
 use mathlib.Core.Path.{_≡_, refl, _∙_}
+use mathlib.Core.Bool.{false}
 use mathlib.Core.List.{List, [], _∷_, _++_, append-assoc, append-nil}
 use Prim.Native.Nat.{ℕ, zero, suc, _+_, _-_, _≤_, _<_, _/_, _%_}
 use native.Mathlib.Nat.{add-zero}
 use native.Mathlib.Omega.{arith}
+use borrow.Author.Tests.{ne-eqb}
 use lib.ListN.{length, take, drop, length-append, take-append-drop, set}
 use lib.Seq.{take-set-le}
 use Rattle.laws.proofs.Lists.{drop-set}
+use Rattle.trace.specs.Lines.{ended}
 use Rattle.trace.specs.Numbers.{digit-or-blank, columns-before, printed, written}
+use Rattle.trace.proofs.Lines.{ended-append}
 
 length-columns-before : (k m : ℕ) → length (columns-before k m) ≡ k
 unfolding columns-before
@@ -18,6 +22,28 @@ pub length-printed : (k n : ℕ) → length (printed k n) ≡ k
 unfolding printed
 length-printed zero n = refl
 length-printed (suc k) n = rw length-append (omega (arith, length-columns-before k (n / 10)))
+
+-- no column holds byte 10
+ended-byte : (b : ℕ) → 11 ≤ b → ended (b ∷ []) ≡ false
+unfolding ended
+ended-byte b h = rw (ne-eqb b 10 (λ e. omega arith))
+
+column-high : (m : ℕ) → 11 ≤ digit-or-blank m
+unfolding digit-or-blank
+column-high zero = omega arith
+column-high (suc m) = omega arith
+
+ended-columns-before : (k m : ℕ) → ended (columns-before k m) ≡ false
+unfolding columns-before ended
+ended-columns-before zero m = refl
+ended-columns-before (suc k) m =
+    ended-append (columns-before k (m / 10)) (digit-or-blank m ∷ []) (ended-columns-before k (m / 10)) (ended-byte (digit-or-blank m) (column-high m))
+
+pub ended-printed : (k n : ℕ) → ended (printed k n) ≡ false
+unfolding printed ended
+ended-printed zero n = refl
+ended-printed (suc k) n =
+    ended-append (columns-before k (n / 10)) ((48 + n % 10) ∷ []) (ended-columns-before k (n / 10)) (ended-byte (48 + n % 10) (omega arith))
 
 -- a byte is written: it joins the text in front of it
 append-set : (out text : List ℕ) (at j x : ℕ) → at ≤ j → j < length out

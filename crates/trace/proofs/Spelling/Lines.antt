@@ -1,7 +1,7 @@
 -- Spelled lines: the reader gives their records, whatever text follows.
 use mathlib.Core.Path.{_≡_, refl, _∙_}
 use mathlib.Core.Bool.{false}
-use mathlib.Core.List.{List, [], _∷_, _++_, append-assoc}
+use mathlib.Core.List.{List, [], _∷_, _++_, append-assoc, append-nil}
 use mathlib.Core.Option.{some, bind}
 use Prim.Native.Nat.{ℕ, _<_}
 use native.Mathlib.Omega.{arith}
@@ -17,6 +17,7 @@ use Rattle.trace.specs.declared.Record.{Record}
 use Rattle.trace.specs.declared.Record.the-variants.{Set, Remap, Activate, Refresh}
 use Rattle.trace.specs.Bytes.{letter-A, letter-F, letter-H, letter-R, letter-S}
 use Rattle.trace.specs.Lines.{ended}
+use Rattle.trace.specs.Numbers.{fields}
 use Rattle.trace.specs.Reading.{or-refused, reading, reading-by}
 use Rattle.trace.specs.Records.{as-settings, as-sixteen, as-activation, sixteen-of, numbered, settings, remap, activation, held-activation, refresh, record-of}
 use Rattle.trace.specs.Output.{number-columns}
@@ -45,7 +46,9 @@ outcomes-letter letter ns rest r e h = rw (append-assoc (number-columns ns) (10 
 
 numbered-spelled : (says : List ℕ → Record) {numbers : List ℕ} → Narrow numbers → numbered (length numbers) says (number-columns numbers) ≡ some (says numbers)
 unfolding numbered bind
-numbered-spelled says {numbers} h = rw (eq-eqb _ _ (length-number-columns numbers), fields-columns h)
+numbered-spelled says {numbers} h =
+    let whole : fields (length numbers) (number-columns numbers) ≡ some numbers = rw append-nil at (fields-columns h []) in
+    rw (eq-eqb _ _ (length-number-columns numbers), whole)
 
 settings-spelled : (s : Settings) → Narrow (settings-numbers s) → settings (number-columns (settings-numbers s)) ≡ some (Set s)
 unfolding settings as-settings settings-numbers

@@ -62,8 +62,10 @@ pub field-printed : (n : ℕ) (bytes : List ℕ) → n < 1000000 → field 0 (pr
 unfolding field
 field-printed n bytes h = rw (take-at (printed 6 n) bytes 6 (length-printed 6 n)) (number-printed 5 n (omega arith))
 
-pub fields-columns : {ns : List ℕ} → Narrow ns → fields (length ns) (number-columns ns) ≡ some ns
+-- whatever text follows
+pub fields-columns : {ns : List ℕ} → Narrow ns → (rest : List ℕ) → fields (length ns) (number-columns ns ++ rest) ≡ some ns
 unfolding fields number-columns bind
-fields-columns no-number = refl
-fields-columns (one-more {n} {ns} h narrow) =
-    rw (field-printed n (number-columns ns) h, drop-at (printed 6 n) (number-columns ns) 6 (length-printed 6 n), fields-columns narrow)
+fields-columns no-number rest = refl
+fields-columns (one-more {n} {ns} h narrow) rest =
+    let behind = number-columns ns ++ rest in
+    rw (append-assoc (printed 6 n) (number-columns ns) rest, field-printed n behind h, drop-at (printed 6 n) behind 6 (length-printed 6 n), fields-columns narrow rest)

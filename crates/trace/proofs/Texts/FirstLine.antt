@@ -1,7 +1,7 @@
 -- The first line of a text, as the reader reads it, and the lines behind it.
 use mathlib.Core.Path.{_≡_, refl, ap, sym, _∙_}
 use mathlib.Core.Bool.{true, false}
-use mathlib.Core.List.{List, [], _∷_}
+use mathlib.Core.List.{List, [], _∷_, _++_}
 use Prim.Native.Nat.{ℕ, suc, _≤_, _<_}
 use native.Mathlib.Omega.{arith}
 use lib.Dec.{eqb}
@@ -19,6 +19,15 @@ pub lines-front : (b : ℕ) (bs : List ℕ) → lines (b ∷ bs) ≡ take (exten
 unfolding lines in-front extent
 lines-front b [] = split (eqb b 10) (λ e. rw e) (λ e. rw e)
 lines-front b (c ∷ cs) = split (eqb b 10) (λ e. rw e) (λ e. rw (e, lines-front c cs))
+
+-- bytes without byte 10, then a byte 10: the first line
+pub lines-piece : (bytes rest : List ℕ) → ended bytes ≡ false → lines ((bytes ++ 10 ∷ []) ++ rest) ≡ (bytes ++ 10 ∷ []) ∷ lines rest
+unfolding lines in-front ended
+lines-piece [] rest h = refl
+lines-piece (b ∷ bytes) rest h =
+    split (eqb b 10)
+    (λ e. clash (rw e at h))
+    (λ e. rw (e, lines-piece bytes rest (rw e at h)))
 
 extent-most : (text : List ℕ) → ended text ≡ false → extent text ≡ length text
 unfolding extent ended

@@ -1,0 +1,87 @@
+-- The claims, each under its statement's name.
+use mathlib.Core.Path.{_≡_, refl, sym, _∙_, subst}
+use mathlib.Core.Bool.{true}
+use mathlib.Core.List.{List, []}
+use mathlib.Core.Option.{Option, none, some, Option·some-injective}
+use Prim.Native.Nat.{ℕ, _*_, _≤_, _<_}
+use Rattle.laws.proofs.Cases.{missing}
+use Rattle.device.specs.declared.Settings.{Settings}
+use Rattle.bound.specs.Totals.{bound-of}
+use Rattle.limit.specs.Exact.{Happened, exact}
+use Rattle.limit.specs.ByRow.{Row-limited}
+use Rattle.limit.specs.Claims.{Demand-3, Row-limit}
+use Rattle.limit.proofs.Claims.{demand-3, row-limit}
+use Rattle.trace.specs.declared.Record.the-variants.{Activate}
+use Rattle.trace.proofs.Spelling.Numbers.{narrow-by}
+use Rattle.listing.specs.Steps.{Tracker, start, record-step-to, record-step, line-step-to, step-to}
+use Rattle.checker.specs.Claims.{Passes-exactly}
+use Rattle.checker.proofs.Claims.{passes-exactly}
+use Rattle.silicon.specs.Silicon.{Silicon, takes, silicon-after}
+use Rattle.silicon.specs.Claims.{Names-back, Stands-as, Stands-together, Takes-the-accepted, Silicon-limited}
+use Rattle.silicon.proofs.Names.{names-read}
+use Rattle.silicon.proofs.Standing.{beside, Matched, Stands, neither, both}
+use Rattle.silicon.proofs.ActivationLine.{taken-prints, prints-taken}
+use Rattle.silicon.proofs.Alongside.{alike-after}
+
+pub names-back : Names-back
+unfolding Names-back
+names-back e rows few narrow = names-read e few (narrow-by rows narrow)
+
+-- what stands on both sides
+together-by : {Own : Type 0} {t : Option Tracker} {x : Option Silicon} → Stands Own t x
+    → (t ≡ none → x ≡ none) × ((u : Tracker) → t ≡ some u → Stands-as u x)
+together-by neither = (λ e. refl, λ u e. missing e)
+together-by (both t did m) = (
+  λ e. missing (sym e),
+  λ u e.
+      subst (λ (u : Tracker). Stands-as u (some (beside t did))) (Option·some-injective t u e)
+      (record { silicon = beside t did; stands = refl; same-settings = refl; same-remap = refl; same-units = refl }),
+)
+
+pub stands-together : Stands-together
+unfolding Stands-together silicon-after
+stands-together trace given count = together-by (alike-after {Own = ⊥} trace given count (λ own. absurd own) .here .stands)
+
+takes-by : {Own : Type 0} (number : ℕ) (loaded : List ℕ) {t : Option Tracker} {x : Option Silicon} (d : Silicon) → Stands Own t x → x ≡ some d → (row hold : ℕ)
+    → (takes d row hold ≡ true → record-step number loaded t (Activate row hold) .prints ≡ []) ×
+    (record-step number loaded t (Activate row hold) .prints ≡ [] → takes d row hold ≡ true)
+unfolding record-step-to
+takes-by number loaded d neither e row hold = missing e
+takes-by number loaded d (both t did m) e row hold =
+    subst
+    (λ (d : Silicon).
+    (takes d row hold ≡ true → record-step number loaded (some t) (Activate row hold) .prints ≡ []) ×
+    (record-step number loaded (some t) (Activate row hold) .prints ≡ [] → takes d row hold ≡ true))
+    (Option·some-injective (beside t did) d e)
+    (taken-prints t did m row hold number, prints-taken t did m row hold number)
+
+pub takes-the-accepted : Takes-the-accepted
+unfolding Takes-the-accepted silicon-after step-to line-step-to
+takes-the-accepted trace given count d e row hold =
+    let a = alike-after {Own = ⊥} trace given count (λ own. absurd own) in
+    takes-by _ _ d (a .here .stands) e row hold
+
+-- each row's limits
+abbrev Limited : Settings → List Happened → ℕ → Type 0
+Limited s did row =
+    (exact s did .disturbance row ≤ 2 * bound-of s) ×
+    (exact s did .refreshes < s .window → exact s did .disturbance row ≤ bound-of s) ×
+    Row-limited s (exact s did) row
+
+matched-limited : (t : Tracker) (did : List Happened) → Matched (Unit {0}) t did → (row : ℕ) → row < t .settings .rows → Limited (t .settings) did row
+unfolding Demand-3 Row-limit
+matched-limited t did m row inside =
+    let r = m .run in
+    let both-limits = demand-3 (t .settings) (r .begun) (r .starts) (r .calls) row inside in
+    rw (m .same tt ∙ r .tells) (both-limits .0, both-limits .1, row-limit (t .settings) (r .begun) (r .starts) (r .calls) row inside)
+
+limited-by : {t : Option Tracker} {x : Option Silicon} (d : Silicon) → Stands (Unit {0}) t x → x ≡ some d → (row : ℕ) → row < d .settings .rows → Limited (d .settings) (d .did) row
+limited-by d neither e = missing e
+limited-by d (both t did m) e =
+    subst (λ (d : Silicon). (row : ℕ) → row < d .settings .rows → Limited (d .settings) (d .did) row) (Option·some-injective (beside t did) d e) (matched-limited t did m)
+
+pub silicon-limited : Silicon-limited
+unfolding Silicon-limited Passes-exactly silicon-after
+silicon-limited trace given passes count d e row inside =
+    let a = alike-after {Own = Unit {0}} trace given count (λ own. passes-exactly trace given .0 passes) in
+    limited-by d (a .here .stands) e row inside
