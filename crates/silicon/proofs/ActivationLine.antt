@@ -1,8 +1,9 @@
--- An activation line on both sides: an accepted one is one call more, and a refused one leaves the tracker and the silicon as they were.
+-- An activation line on both sides: an accepted one is one call more, and a refused one leaves the tracker and the silicon as they were;
+-- behind a refused `S` all are refused.
 use mathlib.Core.Path.{_≡_, refl, sym, _∙_, ap}
-use mathlib.Core.Bool.{true}
+use mathlib.Core.Bool.{true, false}
 use mathlib.Core.List.{List, [], _∷_, _++_}
-use mathlib.Core.Option.{some}
+use mathlib.Core.Option.{none, some}
 use Prim.Native.Nat.{ℕ, zero, suc}
 use native.Mathlib.Omega.{arith}
 use borrow.Author.Tests.{eqb-true, eqb-false, eq-eqb}
@@ -14,16 +15,21 @@ use Rattle.tracker.specs.Calls.{Activation-call, activation-tests, activation-t
 use Rattle.tracker.proofs.Calls.Outcomes.{activation-refused, activation-leaves}
 use Rattle.limit.specs.Exact.{Happened, activated}
 use Rattle.limit.specs.Run.{activation-of, left-by, told-by}
+use Rattle.trace.specs.Output.{refusal-line}
 use Rattle.trace.proofs.Output.{length-refusal-line}
 use Rattle.listing.specs.Steps.{Tracker, answered, activation-step}
 use Rattle.silicon.specs.Silicon.{takes, activated-by}
-use Rattle.silicon.proofs.Standing.{beside, Matched, Stands, both, stands-by, matched-on, accepts-taken}
+use Rattle.silicon.proofs.Standing.{beside, beside-stopped, Matched, Stands, both, earlier, stands-by, matched-on, accepts-taken}
+
+-- a refusal prints something
+pub refusal-prints : (number k : ℕ) → refusal-line number k ≡ [] → ⊥
+refusal-prints number k e = omega (arith, ap length e, length-refusal-line number k)
 
 -- what prints nothing was accepted
 answered-nothing : (number k : ℕ) → answered number k [] ≡ [] → k ≡ 0
 unfolding answered
 answered-nothing number zero e = refl
-answered-nothing number (suc k) e = absurd (omega (arith, ap length e, length-refusal-line number (suc k)))
+answered-nothing number (suc k) e = absurd (refusal-prints number (suc k) e)
 
 module _ {Own : Type 0} (t : Tracker) (did : List Happened) (m : Matched Own t did) (row hold : ℕ) where
   abbrev k : ℕ
@@ -68,3 +74,12 @@ module _ {Own : Type 0} (t : Tracker) (did : List Happened) (m : Matched Own t d
   pub prints-taken : (number : ℕ) → activation-step number (t .settings) (t .remap) call .prints ≡ [] → takes (beside t did) row hold ≡ true
   unfolding activation-step activation-to
   prints-taken number e = sym (accepts-taken m row hold) ∙ eq-eqb k 0 (answered-nothing number k e)
+
+  -- behind a refused `S` the silicon takes none, and stays as it is
+  pub stopped-takes : takes (beside-stopped t did) row hold ≡ false
+  unfolding takes
+  stopped-takes = refl
+
+  pub stopped-stays : Stands Own none (some (activated-by row hold (beside-stopped t did)))
+  unfolding activated-by
+  stopped-stays = rw stopped-takes (earlier t did m)

@@ -18,9 +18,9 @@ use Rattle.listing.proofs.Memory.Progress.{loadable-behind}
 use Rattle.silicon.specs.EventLines.{event-lines}
 use Rattle.silicon.specs.Silicon.{Silicon, Walk, begin, record-by, behind, walked}
 use Rattle.silicon.proofs.Pieces.{Quiet, quiet-refusal, quiet-set-up, quiet-answered}
-use Rattle.silicon.proofs.Standing.{Stands, neither, both, Behind}
+use Rattle.silicon.proofs.Standing.{Stands, neither, both, earlier, Behind}
 use Rattle.silicon.proofs.SettingsLine.{set-up-stands}
-use Rattle.silicon.proofs.ActivationLine.{activation-stands}
+use Rattle.silicon.proofs.ActivationLine.{activation-stands, stopped-stays}
 use Rattle.silicon.proofs.EventLine.{event-behind}
 
 module _ {Own : Type 0} where
@@ -36,15 +36,18 @@ module _ {Own : Type 0} where
       → Behind Own (line-step number loaded t o .tracker) (loaded-behind loaded o) rest (behind (record { silicon = x; loaded = loaded; events = events }) o)
   unfolding behind record-by line-step-to record-step-to loaded-behind refused-step remap-step activation-step
   line-behind number loaded ok events rest (refused k) stands h = quiet-behind loaded _ rest events (quiet-refusal number k) h stands
-  line-behind number loaded ok {t} events rest (accepted (Set s)) stands h =
-      quiet-behind loaded _ rest events (quiet-set-up number s loaded _ _) h (set-up-stands loaded ok Own number s t)
+  line-behind number loaded ok events rest (accepted (Set s)) stands h =
+      quiet-behind loaded _ rest events (quiet-set-up number s loaded _ _) h (set-up-stands loaded ok number s stands)
   line-behind number loaded ok events rest (accepted (Remap table)) stands h =
       quiet-behind _ _ rest events (quiet-answered number (first-failed (unless (remap-allowed (sixteen-of table)) 14 ∷ []))) h stands
   line-behind number loaded ok events rest (accepted (Activate row hold)) neither h = quiet-behind loaded _ rest events (quiet-refusal number 11) h neither
   line-behind number loaded ok events rest (accepted (Activate row hold)) (both t did m) h =
       quiet-behind loaded _ rest events (quiet-answered number _) h (activation-stands t did m row hold number)
+  line-behind number loaded ok events rest (accepted (Activate row hold)) (earlier t did m) h =
+      quiet-behind loaded _ rest events (quiet-refusal number 11) h (stopped-stays t did m row hold)
   line-behind number loaded ok events rest (accepted Refresh) neither h = quiet-behind loaded _ rest events (quiet-refusal number 11) h neither
   line-behind number loaded ok events rest (accepted Refresh) (both t did m) h = event-behind t did m number (t .state .position .events) loaded events rest h
+  line-behind number loaded ok events rest (accepted Refresh) (earlier t did m) h = quiet-behind loaded _ rest events (quiet-refusal number 11) h (earlier t did m)
   line-behind number loaded ok events rest (accepted Blank) stands h = record { stands = stands; alike = refl; left = h }
 
 -- a walk is where the listing is, with lines still to come

@@ -1,10 +1,10 @@
 -- The claims, each under its statement's name.
-use mathlib.Core.Path.{_≡_, refl, sym, _∙_, subst}
-use mathlib.Core.Bool.{true}
+use mathlib.Core.Path.{_≡_, refl, sym, _∙_, ap, subst}
+use mathlib.Core.Bool.{true, false}
 use mathlib.Core.List.{List, []}
 use mathlib.Core.Option.{Option, none, some, Option·some-injective}
 use Prim.Native.Nat.{ℕ, _*_, _≤_, _<_}
-use Rattle.laws.proofs.Cases.{missing}
+use Rattle.laws.proofs.Cases.{clash, missing}
 use Rattle.device.specs.declared.Settings.{Settings}
 use Rattle.bound.specs.Totals.{bound-of}
 use Rattle.limit.specs.Exact.{Happened, exact}
@@ -13,14 +13,14 @@ use Rattle.limit.specs.Claims.{Demand-3, Row-limit}
 use Rattle.limit.proofs.Claims.{demand-3, row-limit}
 use Rattle.trace.specs.declared.Record.the-variants.{Activate}
 use Rattle.trace.proofs.Spelling.Numbers.{narrow-by}
-use Rattle.listing.specs.Steps.{Tracker, start, record-step-to, record-step, line-step-to, step-to}
+use Rattle.listing.specs.Steps.{Tracker, start, refused-step, record-step-to, record-step, line-step-to, step-to}
 use Rattle.checker.specs.Claims.{Passes-exactly}
 use Rattle.checker.proofs.Claims.{passes-exactly}
 use Rattle.silicon.specs.Silicon.{Silicon, takes, silicon-after}
 use Rattle.silicon.specs.Claims.{Names-back, Stands-as, Stands-together, Takes-the-accepted, Silicon-limited}
 use Rattle.silicon.proofs.Names.{names-read}
-use Rattle.silicon.proofs.Standing.{beside, Matched, Stands, neither, both}
-use Rattle.silicon.proofs.ActivationLine.{taken-prints, prints-taken}
+use Rattle.silicon.proofs.Standing.{beside, beside-stopped, Matched, Stands, neither, both, earlier}
+use Rattle.silicon.proofs.ActivationLine.{refusal-prints, taken-prints, prints-taken, stopped-takes}
 use Rattle.silicon.proofs.Alongside.{alike-after}
 
 pub names-back : Names-back
@@ -29,13 +29,17 @@ names-back e rows few narrow = names-read e few (narrow-by rows narrow)
 
 -- what stands on both sides
 together-by : {Own : Type 0} {t : Option Tracker} {x : Option Silicon} → Stands Own t x
-    → (t ≡ none → x ≡ none) × ((u : Tracker) → t ≡ some u → Stands-as u x)
-together-by neither = (λ e. refl, λ u e. missing e)
+    → (t ≡ none → (d : Silicon) → x ≡ some d → d .stands ≡ false) × ((u : Tracker) → t ≡ some u → Stands-as u x)
+together-by neither = (λ e d stood. missing stood, λ u e. missing e)
 together-by (both t did m) = (
-  λ e. missing (sym e),
+  λ e d stood. missing (sym e),
   λ u e.
       subst (λ (u : Tracker). Stands-as u (some (beside t did))) (Option·some-injective t u e)
-      (record { silicon = beside t did; stands = refl; same-settings = refl; same-remap = refl; same-units = refl }),
+      (record { silicon = beside t did; found = refl; stands = refl; same-settings = refl; same-remap = refl; same-units = refl }),
+)
+together-by (earlier t did m) = (
+  λ e d stood. sym (ap (λ (d : Silicon). d .stands) (Option·some-injective (beside-stopped t did) d stood)),
+  λ u e. missing e,
 )
 
 pub stands-together : Stands-together
@@ -45,7 +49,7 @@ stands-together trace given count = together-by (alike-after {Own = ⊥} trace g
 takes-by : {Own : Type 0} (number : ℕ) (loaded : List ℕ) {t : Option Tracker} {x : Option Silicon} (d : Silicon) → Stands Own t x → x ≡ some d → (row hold : ℕ)
     → (takes d row hold ≡ true → record-step number loaded t (Activate row hold) .prints ≡ []) ×
     (record-step number loaded t (Activate row hold) .prints ≡ [] → takes d row hold ≡ true)
-unfolding record-step-to
+unfolding record-step-to refused-step
 takes-by number loaded d neither e row hold = missing e
 takes-by number loaded d (both t did m) e row hold =
     subst
@@ -54,6 +58,10 @@ takes-by number loaded d (both t did m) e row hold =
     (record-step number loaded (some t) (Activate row hold) .prints ≡ [] → takes d row hold ≡ true))
     (Option·some-injective (beside t did) d e)
     (taken-prints t did m row hold number, prints-taken t did m row hold number)
+takes-by number loaded d (earlier t did m) e row hold =
+    let off : takes d row hold ≡ false =
+    subst (λ (d : Silicon). takes d row hold ≡ false) (Option·some-injective (beside-stopped t did) d e) (stopped-takes t did m row hold) in
+    (λ on. clash (sym on ∙ off), λ nothing. absurd (refusal-prints number 11 nothing))
 
 pub takes-the-accepted : Takes-the-accepted
 unfolding Takes-the-accepted silicon-after step-to line-step-to
@@ -79,6 +87,8 @@ limited-by : {t : Option Tracker} {x : Option Silicon} (d : Silicon) → Stands 
 limited-by d neither e = missing e
 limited-by d (both t did m) e =
     subst (λ (d : Silicon). (row : ℕ) → row < d .settings .rows → Limited (d .settings) (d .did) row) (Option·some-injective (beside t did) d e) (matched-limited t did m)
+limited-by d (earlier t did m) e =
+    subst (λ (d : Silicon). (row : ℕ) → row < d .settings .rows → Limited (d .settings) (d .did) row) (Option·some-injective (beside-stopped t did) d e) (matched-limited t did m)
 
 pub silicon-limited : Silicon-limited
 unfolding Silicon-limited Passes-exactly silicon-after

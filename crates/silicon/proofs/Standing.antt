@@ -21,7 +21,12 @@ use Rattle.silicon.specs.Silicon.{Silicon, takes, Walk}
 -- the silicon of a tracker that stands, with what it did
 abbrev pub beside : Tracker → List Happened → Silicon
 beside t did =
-    record { settings = t .settings; remap = t .remap; units = t .state .position .activations; did = did }
+    record { stands = true; settings = t .settings; remap = t .remap; units = t .state .position .activations; did = did }
+
+-- and of one that stood before an `S` was refused
+abbrev pub beside-stopped : Tracker → List Happened → Silicon
+beside-stopped t did =
+    record { stands = false; settings = t .settings; remap = t .remap; units = t .state .position .activations; did = did }
 
 -- a run of calls leads to the tracker's state, and if Own, that the `R` lines are the trace's own, the silicon did what the counter is told of it
 pub record Matched (Own : Type 0) (t : Tracker) (did : List Happened) : Type 0 where
@@ -30,10 +35,11 @@ pub record Matched (Own : Type 0) (t : Tracker) (did : List Happened) : Type 0 w
   pub run : Run-of (t .settings) (t .state) told
   pub same : Own → did ≡ told
 
--- a tracker and the silicon stand, or neither
+-- a tracker and the silicon stand, or neither, or no tracker stands and the silicon is that of an earlier one
 pub data Stands (Own : Type 0) : Option Tracker → Option Silicon → Type 0 where
   neither : Stands Own none none
   both : (t : Tracker) (did : List Happened) → Matched Own t did → Stands Own (some t) (some (beside t did))
+  earlier : (t : Tracker) (did : List Happened) → Matched Own t did → Stands Own none (some (beside-stopped t did))
 
 pub stands-by : {Own : Type 0} (t : Tracker) (did : List Happened) (d : Silicon) → beside t did ≡ d → Matched Own t did → Stands Own (some t) (some d)
 stands-by {Own} t did d same m = subst (λ (x : Silicon). Stands Own (some t) (some x)) same (both t did m)

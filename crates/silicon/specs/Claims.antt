@@ -1,7 +1,7 @@
 -- What is claimed of the silicon behind a listing. proofs/Claims.antt proves each under the same name.
 use Prim.Native.Nat.{ℕ, _*_, _≤_, _<_}
 use mathlib.Core.Path.{_≡_}
-use mathlib.Core.Bool.{true}
+use mathlib.Core.Bool.{true, false}
 use mathlib.Core.List.{List, []}
 use mathlib.Core.Option.{Option, none, some}
 use lib.ListN.{length, getD, take}
@@ -24,22 +24,23 @@ Names-back =
     (e : ℕ) (rows : List ℕ) → length rows < 1000000 → ((i : ℕ) → i < length rows → getD rows i 0 < 1000000) →
     rows-named (refresh-line e rows) ≡ rows
 
--- the silicon stands as a tracker does: with the same settings, the same remap and as many units since the last event
+-- the silicon stands as a tracker does: settings stand, the same ones, with the same remap and as many units since the last event
 pub record Stands-as (t : Tracker) (x : Option Silicon) : Type 0 where
   pub silicon : Silicon
-  pub stands : x ≡ some silicon
+  pub found : x ≡ some silicon
+  pub stands : silicon .stands ≡ true
   pub same-settings : silicon .settings ≡ t .settings
   pub same-remap : silicon .remap ≡ t .remap
   pub same-units : silicon .units ≡ t .state .position .activations
 
 -- after every line of the trace settings stand for the silicon exactly where the trace's own listing has a tracker standing, with the same settings,
--- remap and units, whatever listing it goes by
+-- remap and units, whatever listing it goes by; where none stands, the silicon of an earlier `S` is stopped
 unfoldable pub Stands-together : Type 0
 Stands-together =
     (trace given : List ℕ) (count : ℕ) →
     let tracker = passed start (take count (outcomes trace)) .tracker in
     let x = silicon-after count trace given in
-    (tracker ≡ none → x ≡ none) × ((t : Tracker) → tracker ≡ some t → Stands-as t x)
+    (tracker ≡ none → (d : Silicon) → x ≡ some d → d .stands ≡ false) × ((t : Tracker) → tracker ≡ some t → Stands-as t x)
 
 -- the activations that the silicon takes are the accepted ones, whatever the listing: those of which the trace's own listing says nothing
 unfoldable pub Takes-the-accepted : Type 0

@@ -1,7 +1,7 @@
 -- What the silicon did, from a trace and a listing alone: 'it took the accepted activations and no others and refreshed the rows it listed and the
 -- regular blocks, all in the trace's order'.
 use Prim.Native.Nat.{ℕ, _+_}
-use mathlib.Core.Bool.{Bool, true, _&&_, cond}
+use mathlib.Core.Bool.{Bool, true, false, _&&_, cond}
 use mathlib.Core.List.{List, [], _∷_, _++_}
 use mathlib.Core.Option.{Option, none, some}
 use lib.Dec.{eqb, leb, ltb}
@@ -19,27 +19,39 @@ use Rattle.trace.specs.Texts.{outcomes}
 use Rattle.listing.specs.Steps.{loaded-by}
 use Rattle.silicon.specs.EventLines.{event-lines, rows-named}
 
--- since the last accepted `S`: its settings, its remap, the units activated since the last event, and what was done
+-- since the last accepted `S`: whether settings stand, its settings, its remap, the units activated since the last event, and what was done
 pub record Silicon : Type 0 where
+  -- settings stand: no `S` was refused since
+  pub stands : Bool
   pub settings : Settings
   pub remap : List ℕ
   pub units : ℕ
   pub did : List Happened
 
--- an `S`: where its settings are accepted, all begins anew with the remap that is loaded; else there is nothing to refresh
-unfoldable pub set-up-by : List ℕ → Settings → Option Silicon
-set-up-by loaded s =
-    cond (eqb (first-failed (settings-tests s)) 0) (some (record { settings = s; remap = loaded; units = 0; did = [] })) none
+-- behind a refused `S` no settings stand; what the silicon did since the last accepted one stays, so its rows keep their disturbance
+unfoldable pub stopped : Option Silicon → Option Silicon
+stopped none = none
+stopped (some d) =
+    some (record { stands = false; settings = d .settings; remap = d .remap; units = d .units; did = d .did })
 
--- an activation is accepted: its row is below N, its hold one of 1 to 16 units, and with them no more than T units are activated since the last event
+-- an `S`: where its settings are accepted, all begins anew with the remap that is loaded; else the silicon is stopped
+unfoldable pub set-up-by : List ℕ → Option Silicon → Settings → Option Silicon
+set-up-by loaded x s =
+    cond (eqb (first-failed (settings-tests s)) 0)
+    (some (record { stands = true; settings = s; remap = loaded; units = 0; did = [] }))
+    (stopped x)
+
+-- an activation is accepted: settings stand, its row is below N, its hold one of 1 to 16 units, and with them no more than T units are activated since
+-- the last event
 unfoldable pub takes : Silicon → ℕ → ℕ → Bool
-takes d row hold = ltb row (d .settings .rows) && hold-allowed hold && leb (d .units + hold) (d .settings .interval)
+takes d row hold = d .stands && ltb row (d .settings .rows) && hold-allowed hold && leb (d .units + hold) (d .settings .interval)
 
 -- 'it took the accepted activations and no others'
 unfoldable pub activated-by : ℕ → ℕ → Silicon → Silicon
 activated-by row hold d =
     cond (takes d row hold)
     (record {
+      stands = d .stands;
       settings = d .settings;
       remap = d .remap;
       units = d .units + hold;
@@ -51,13 +63,15 @@ activated-by row hold d =
 unfoldable pub refreshed-by : List ℕ → Silicon → Silicon
 refreshed-by named d =
     record {
+      stands = d .stands;
       settings = d .settings;
       remap = d .remap;
       units = 0;
       did = d .did ++ refreshed true named ∷ [];
     }
 
--- where both texts were read to: what the silicon did, if settings stand; the remap for the next `S`; and the `R` lines that are left
+-- where both texts were read to: what the silicon did since the last accepted `S`, if there was one; the remap for the next `S`; and the `R` lines that
+-- are left
 pub record Walk : Type 0 where
   pub silicon : Option Silicon
   pub loaded : List ℕ
@@ -66,19 +80,21 @@ pub record Walk : Type 0 where
 unfoldable pub begin : List ℕ → Walk
 begin listing = record { silicon = none; loaded = own-remap; events = event-lines listing }
 
--- an event takes the next `R` line; where a listing has none left, no row is named
+-- an event while settings stand takes the next `R` line; where a listing has none left, no row is named
 unfoldable pub event-by : List ℕ → List (List ℕ) → Silicon → Walk
 event-by loaded [] d = record { silicon = some (refreshed-by [] d); loaded = loaded; events = [] }
 event-by loaded (l ∷ ls) d = record { silicon = some (refreshed-by (rows-named l) d); loaded = loaded; events = ls }
 
--- a record of the trace, by the remap that is loaded, the `R` lines that are left and what stands
+-- a record of the trace, by the remap that is loaded, the `R` lines that are left and what the silicon did; an event while no settings stand is refused and
+-- prints no `R` line: it takes none and refreshes nothing
 unfoldable pub record-by : List ℕ → List (List ℕ) → Option Silicon → Record → Walk
-record-by loaded events x (Set s) = record { silicon = set-up-by loaded s; loaded = loaded; events = events }
+record-by loaded events x (Set s) = record { silicon = set-up-by loaded x s; loaded = loaded; events = events }
 record-by loaded events x (Remap table) = record { silicon = x; loaded = loaded-by loaded (sixteen-of table); events = events }
 record-by loaded events none (Activate row hold) = record { silicon = none; loaded = loaded; events = events }
 record-by loaded events (some d) (Activate row hold) = record { silicon = some (activated-by row hold d); loaded = loaded; events = events }
 record-by loaded events none Refresh = record { silicon = none; loaded = loaded; events = events }
-record-by loaded events (some d) Refresh = event-by loaded events d
+record-by loaded events (some d) Refresh =
+    cond (d .stands) (event-by loaded events d) (record { silicon = some d; loaded = loaded; events = events })
 record-by loaded events x Blank = record { silicon = x; loaded = loaded; events = events }
 
 -- behind a line of the trace; one that is no record does nothing
@@ -90,6 +106,6 @@ unfoldable pub walked : Walk → List (Outcome Record) → Walk
 walked w [] = w
 walked w (o ∷ os) = walked (behind w o) os
 
--- behind so many lines of the trace: what the silicon did since the last accepted `S`, if settings stand
+-- behind so many lines of the trace: what the silicon did since the last accepted `S`, if there was one
 unfoldable pub silicon-after : ℕ → List ℕ → List ℕ → Option Silicon
 silicon-after count trace listing = walked (begin listing) (take count (outcomes trace)) .silicon
