@@ -5,10 +5,13 @@
 //! - `model listing`: the listing of the trace on standard input
 //! - `model rewrite`: the trace on standard input in its one spelling, as the program `tracefmt`
 //! - `model writer`: the answer to each request of the writer, as the program `test_writer`
+//! - `model check TRACE LISTING`: whether a supplier's listing passes, as the program `rowcheck`
+//! - `model checks`: the same for the files that each line of standard input names
 //! - `model limit SEED RUNS`: random runs on which the limit on disturbance and each row's closer
 //!   figure have to hold
 
 mod calls;
+mod check;
 mod limit;
 mod numbers;
 mod queries;
@@ -29,6 +32,8 @@ fn main() -> io::Result<()> {
         ["listing"] => print_listing(),
         ["rewrite"] => print_rewritten(),
         ["writer"] => answer_requests(),
+        ["check", names @ ..] => exit(check::check_files(names)),
+        ["checks"] => answer_lines(check::answer_pair),
         ["limit", seed, runs] => match (seed.parse(), runs.parse()) {
             (Ok(seed), Ok(runs)) => exit(limit::check(seed, runs)),
             _ => exit(usage()),
