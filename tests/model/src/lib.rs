@@ -17,6 +17,7 @@ pub mod remap;
 pub mod settings;
 pub mod silicon;
 pub mod summary;
+pub mod supplier;
 pub mod trace;
 pub mod tracker;
 pub mod victims;

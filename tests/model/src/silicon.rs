@@ -5,8 +5,7 @@
 //! Which lines of a trace are accepted follows from the trace. No tracker is kept here: the rows that
 //! an event refreshed besides its block are read from the columns of the listing.
 
-use std::cell::RefCell;
-use std::collections::HashMap;
+use std::cell::Cell;
 
 use crate::bound::bound_at;
 use crate::check::lines;
@@ -243,7 +242,7 @@ impl Report {
 pub fn limits_hold(trace: &[u8], listing: &[u8]) -> Result<Report, String> {
     let mut silicon = Silicon::new(trace, listing);
     let mut report = Report::default();
-    let mut bounds = RefCell::default();
+    let mut bounds = Vec::new();
     while let Some(step) = silicon.step() {
         let step = step?;
         report.lines += 1;
@@ -254,10 +253,10 @@ pub fn limits_hold(trace: &[u8], listing: &[u8]) -> Result<Report, String> {
             Step::Refused => report.refused += 1,
             Step::Nothing => {}
         }
-        if step == Step::SetUp {
-            bounds = RefCell::default();
-        }
         if let Some(bank) = &silicon.bank {
+            if step == Step::SetUp {
+                bounds = vec![Cell::new(None); bank.settings.window as usize + 1];
+            }
             let checked = check_bank(bank, step, &bounds, &mut report);
             checked.map_err(|what| format!("line {}: {what}", silicon.line_number))?;
         }
@@ -274,7 +273,7 @@ pub fn limits_hold(trace: &[u8], listing: &[u8]) -> Result<Report, String> {
 fn check_bank(
     bank: &Bank,
     step: Step,
-    bounds: &RefCell<HashMap<u32, u64>>,
+    bounds: &[Cell<Option<u64>>],
     report: &mut Report,
 ) -> Result<(), String> {
     let settings = &bank.settings;
@@ -291,19 +290,21 @@ fn check_bank(
     }
 }
 
-/// `bounds` keeps H(i) for the i that occurred.
+/// `bounds` keeps H(i), at place i, once it was needed.
 fn check_row(
     bank: &Bank,
     row: u32,
-    bounds: &RefCell<HashMap<u32, u64>>,
+    bounds: &[Cell<Option<u64>>],
     report: &mut Report,
 ) -> Result<(), String> {
     let settings = &bank.settings;
     let bound_at = |events| {
-        let mut bounds = bounds.borrow_mut();
-        *bounds
-            .entry(events)
-            .or_insert_with(|| bound_at(settings, events))
+        let kept = &bounds[events as usize];
+        kept.get().unwrap_or_else(|| {
+            let bound = bound_at(settings, events);
+            kept.set(Some(bound));
+            bound
+        })
     };
     let figures = Figures { settings, bound_at };
     let count = bank.disturbance.counts()[row as usize];
