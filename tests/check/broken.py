@@ -198,9 +198,9 @@ def check_broken(tally, command, folder):
     tally.begin("arguments, inputs and outputs that are wrong")
     trace, listing = write_texts(folder)
     missing, inside = f"{folder}/missing", f"{trace}/inside"
-    for names in ((), (trace,), (trace, listing, listing), (trace, listing, ""), (trace, listing) * 2, (missing,)):
+    for names in ((), (trace,), (missing,), (trace, listing, listing), (trace, listing, ""), (trace, listing) * 2):
         expect(tally, f"{len(names)} arguments", rowcheck(command, *names), wrong(USAGE))
-    for name in (missing, inside, "", f"{folder}/"[:-1] + "x/y"):
+    for name in (missing, inside, "", f"{missing}/inside"):
         for other in (trace, listing, "/dev/null", missing, folder):
             expect(tally, f"trace {name}", rowcheck(command, name, other), wrong(NO_TRACE))
         for other in (trace, "/dev/null"):
@@ -231,7 +231,8 @@ def check_unreadable(tally, command, folder):
     for name, names, errors in ((trace, (trace, listing), NO_TRACE), (listing, (trace, listing), NO_LISTING),
                                 (listing, ("/dev/null", listing), NO_LISTING)):
         os.chmod(name, 0)
-        expect(tally, f"{name} without the right to read it", rowcheck(command, *names, **as_nobody), wrong(errors))
+        answer = rowcheck(command, *names, **as_nobody)
+        expect(tally, f"{name} without the right to read it", answer, wrong(errors))
         os.chmod(name, 0o644)
 
 
@@ -260,7 +261,8 @@ def check_outputs(tally, command, folder):
         with open("/dev/full", "wb") as full:
             for answer in (run(stderr=full), without(run, 2)):
                 expect(tally, f"{names} with errors full or closed", answer._replace(errors=b""), wrong(b""))
-            expect(tally, f"{names} with output full", run(stdout=full)._replace(text=b"", errors=b""), wrong(b""))
+            answer = run(stdout=full)
+            expect(tally, f"{names} with output full", answer._replace(text=b"", errors=b""), wrong(b""))
 
 
 def without(run, descriptor):
@@ -325,7 +327,8 @@ class Memory:
     """In kilobytes: the most that was held, and the most room for addresses."""
 
     def __init__(self, status):
-        self.held, self.room = (int(re.search(rf"{name}:\s+(\d+) kB", status)[1]) for name in ("VmHWM", "VmPeak"))
+        self.held, self.room = (int(re.search(rf"{name}:\s+(\d+) kB", status)[1])
+                                for name in ("VmHWM", "VmPeak"))
 
     def __repr__(self):
         return f"{self.held} of {self.room}"
@@ -355,4 +358,5 @@ def check_room(tally, command, folder, room):
             ("a long listing", TRACE, LISTING + OWN * 200_000, 4),
             ("a long trace", TRACE + b"\n" * 12 * MEGABYTE + b"R", LISTING, 4)):
         names = write_texts(folder, trace, listing)
-        expect(tally, f"{title} in {room} bytes", rowcheck(command, *names, preexec_fn=limited), answered(known))
+        answer = rowcheck(command, *names, preexec_fn=limited)
+        expect(tally, f"{title} in {room} bytes", answer, answered(known))
