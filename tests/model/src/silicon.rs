@@ -26,7 +26,7 @@ const LINE_NUMBERS: u64 = 10_000_000_000;
 const ROWS_AT_EACH_LINE: u32 = 128;
 const ROWS_AT_EACH_EVENT: u32 = 4_096;
 
-/// The bank since the last accepted `S`.
+/// The bank since the last accepted `S`; a refused one leaves it as it is.
 pub struct Bank {
     pub settings: Settings,
     remap: Remap,
@@ -58,6 +58,8 @@ pub struct Silicon<'a> {
     pub listed: usize,
     loaded: Remap,
     pub bank: Option<Bank>,
+    /// Whether the bank takes activations and events: not behind a refused `S`.
+    is_set_up: bool,
 }
 
 impl<'a> Silicon<'a> {
@@ -70,6 +72,7 @@ impl<'a> Silicon<'a> {
             listed: 0,
             loaded: OUR_REMAP,
             bank: None,
+            is_set_up: false,
         }
     }
 
@@ -92,11 +95,12 @@ impl<'a> Silicon<'a> {
         match record {
             Record::Blank => Ok(Step::Nothing),
             Record::Settings(settings) => {
-                self.bank = None;
+                self.is_set_up = false;
                 if settings.check().is_err() {
                     return self.refused();
                 }
                 self.listed_line(b'B')?;
+                self.is_set_up = true;
                 self.bank = Some(Bank {
                     settings,
                     remap: self.loaded,
@@ -115,7 +119,8 @@ impl<'a> Silicon<'a> {
             }
             Record::Activation { logical_row, hold } => {
                 let accepting = self.bank.as_mut().filter(|bank| {
-                    logical_row < bank.settings.rows
+                    self.is_set_up
+                        && logical_row < bank.settings.rows
                         && check_hold(hold).is_ok()
                         && bank.activations + hold <= bank.settings.interval
                 });
@@ -127,7 +132,7 @@ impl<'a> Silicon<'a> {
                 Ok(Step::Activation)
             }
             Record::Refresh => {
-                if self.bank.is_none() {
+                if !self.is_set_up {
                     return self.refused();
                 }
                 let line = self.listed_line(b'R')?;
@@ -391,7 +396,7 @@ mod tests {
     }
 
     /// A hold counts its units, `F` holds from the next accepted `S` on, an activation that would
-    /// pass T is refused whole, and a refused `S` leaves no bank.
+    /// pass T is refused whole, and behind a refused `S` nothing is accepted.
     #[test]
     fn holds_remaps_and_refused_lines() {
         let identity: String = (0..16).map(|number| format!("{number:6}")).collect();
@@ -410,8 +415,8 @@ mod tests {
         assert_eq!(after_lines[5], [(1, 3), (3, 3)]);
         assert_eq!(after_lines[6], [(1, 3), (3, 3), (8, 1), (10, 1)]);
         assert_eq!(after_lines[7], after_lines[6]);
-        assert_eq!(after_lines[8], []);
-        assert_eq!(after_lines[9], []);
+        assert_eq!(after_lines[8], after_lines[6]);
+        assert_eq!(after_lines[9], after_lines[6]);
     }
 
     #[test]
