@@ -297,30 +297,35 @@ def reader_left(run):
 
 
 def check_memory(tally, command, folder):
-    """The most memory that the program held does not grow with the length of a text, nor of a line."""
+    """The most memory that the program holds does not grow with the length of a text, nor of a line."""
     tally.begin("memory")
-    count = 60_000
-    lines = [b"X%10d%6d\n" % (number, 11) for number in range(1, 12 * count + 1)]
-    _, listing = write_texts(folder, listing=b"".join(lines) + b"X%10d%6d\n" % (12 * count + 1, 11))
+    count = 700_000
+    lines = b"".join(b"X%10d%6d\n" % (number, 11) for number in range(1, count + 1))
+    _, listing = write_texts(folder, listing=OWN)
+    short, answer = memory_after(command, listing, [OWN])
+    expect(tally, "short trace and listing", answer, answered(None))
+    _, listing = write_texts(folder, listing=lines + b"X%10d%6d\n" % (count + 1, 11))
+    long, answer = memory_after(command, listing, [lines, b"A" * 12 * MEGABYTE])
+    expect(tally, "long trace and listing", answer, answered(None))
+    known = None not in short + long
+    tally.check(known, f"the program ended before its trace did: {short}, {long}")
+    if not known:
+        return
+    print(f"  {short[0]} kB; with 12 MB of lines {long[0]} kB, with a line of 12 MB behind them {long[1]} kB")
+    for memory in long:
+        tally.check(memory.held - short[0].held <= MOST_GROWTH, f"{short[0]} kB on short texts, then {memory}")
+    check_room(tally, command, folder, (short[0].room + MOST_GROWTH) * 1024)
+
+
+def memory_after(command, listing, texts):
+    """The most memory when the program has taken each part of the trace, None if it has ended; and its
+    answer."""
     process = subprocess.Popen([*command, "/dev/stdin", listing], stdin=subprocess.PIPE, stdout=subprocess.PIPE,
                                stderr=subprocess.PIPE, bufsize=0)
-    first, more, last = [most_memory_after(process, text) for text in (
-        b"".join(lines[:count]), b"".join(lines[count:]), b"A" * 12 * MEGABYTE)]
+    found = [most_memory_after(process, text) for text in texts]
     process.stdin.close()
     process.stdin = None
-    expect(tally, "long trace and listing", finish(process), answered(None))
-    print(f"  {first} kB; with 12 MB more of lines {more} kB, with a line of 12 MB {last} kB")
-    if not tally_known(tally, first, more, last):
-        return
-    tally.check(more.held - first.held <= MOST_GROWTH, f"12 MB more of lines: {first}, then {more}")
-    tally.check(last.held - first.held <= MOST_GROWTH, f"a line of 12 MB: {first}, then {last}")
-    check_room(tally, command, folder, (first.room + MOST_GROWTH) * 1024)
-
-
-def tally_known(tally, *found):
-    known = None not in found
-    tally.check(known, f"the program ended before its input did: {found}")
-    return known
+    return found, finish(process)
 
 
 class Memory:
