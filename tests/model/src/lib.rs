@@ -3,6 +3,7 @@
 //! product.
 
 pub mod bound;
+pub mod check;
 pub mod device;
 pub mod disturbance;
 pub mod figure;
@@ -14,7 +15,9 @@ pub mod random;
 pub mod refusal;
 pub mod remap;
 pub mod settings;
+pub mod silicon;
 pub mod summary;
+pub mod supplier;
 pub mod trace;
 pub mod tracker;
 pub mod victims;

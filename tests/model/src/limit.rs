@@ -279,14 +279,14 @@ impl Run {
 }
 
 /// The logical row of a physical one; a refused remap may have none, and then it is any row.
-fn logical_row(remap: &Remap, row: u32) -> u32 {
+pub fn logical_row(remap: &Remap, row: u32) -> u32 {
     match remap.iter().position(|number| *number == row % 16) {
         Some(remainder) => row / 16 * 16 + remainder as u32,
         None => row,
     }
 }
 
-fn random_remap(random: &mut Random) -> Remap {
+pub fn random_remap(random: &mut Random) -> Remap {
     let mut remap = OUR_REMAP;
     if random.once_in(8) {
         return remap;
@@ -298,7 +298,7 @@ fn random_remap(random: &mut Random) -> Remap {
 }
 
 /// Replaces a number by one above 15 or by another of the 16, so that the remap is refused.
-fn spoil(remap: &mut Remap, random: &mut Random) {
+pub fn spoil(remap: &mut Remap, random: &mut Random) {
     let place = random.between(0, 15) as usize;
     let other = remap[(place + random.between(1, 15) as usize) % 16];
     remap[place] = random.choose(&[other, other, 16, 16 + remap[place], u32::MAX]);

@@ -5,13 +5,20 @@
 //! - `model listing`: the listing of the trace on standard input
 //! - `model rewrite`: the trace on standard input in its one spelling, as the program `tracefmt`
 //! - `model writer`: the answer to each request of the writer, as the program `test_writer`
+//! - `model check TRACE LISTING`: whether a supplier's listing passes, as the program `rowcheck`
+//! - `model checks`: the same for the files that each line of standard input names
 //! - `model limit SEED RUNS`: random runs on which the limit on disturbance and each row's closer
 //!   figure have to hold
+//! - `model silicon SEED RUNS`: the same of the silicon behind the listings of random traces, from the
+//!   two texts alone
+//! - `model silicons`: the same for the traces that the lines of standard input name
 
 mod calls;
+mod check;
 mod limit;
 mod numbers;
 mod queries;
+mod silicon;
 mod writer;
 
 use std::io::{self, BufRead, Read, Write};
@@ -29,8 +36,12 @@ fn main() -> io::Result<()> {
         ["listing"] => print_listing(),
         ["rewrite"] => print_rewritten(),
         ["writer"] => answer_requests(),
-        ["limit", seed, runs] => match (seed.parse(), runs.parse()) {
-            (Ok(seed), Ok(runs)) => exit(limit::check(seed, runs)),
+        ["check", names @ ..] => exit(check::check_files(names)),
+        ["checks"] => answer_lines(check::answer_pair),
+        ["silicons"] => answer_lines(silicon::answer_trace),
+        ["limit" | "silicon", seed, runs] => match (seed.parse(), runs.parse()) {
+            (Ok(seed), Ok(runs)) if arguments[0] == "limit" => exit(limit::check(seed, runs)),
+            (Ok(seed), Ok(runs)) => exit(silicon::check(seed, runs)),
             _ => exit(usage()),
         },
         _ => exit(usage()),
@@ -38,7 +49,10 @@ fn main() -> io::Result<()> {
 }
 
 fn usage() -> i32 {
-    eprintln!("usage: model queries | calls | listing | rewrite | writer | limit SEED RUNS");
+    eprintln!(
+        "usage: model queries | calls | listing | rewrite | writer | check TRACE LISTING | checks | \
+         limit SEED RUNS | silicon SEED RUNS | silicons"
+    );
     2
 }
 
