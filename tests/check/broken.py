@@ -18,7 +18,7 @@ from comparison import FIXED_SEED
 from programs import random_pieces
 from rowcheck import (
     LISTING_UNREAD, NO_LISTING, NO_TRACE, RUN_LIMIT, TRACE_UNREAD, UNWRITTEN, USAGE, answered, finish,
-    rowcheck, wrong,
+    rowcheck, said, wrong,
 )
 
 LONGEST_NAME = 4095  # bytes of a path that Linux takes
@@ -213,8 +213,22 @@ def check_broken(tally, command, folder):
         for other in (trace, "/dev/null"):
             expect(tally, f"listing {name}", rowcheck(command, other, name), wrong(LISTING_UNREAD))
     expect(tally, "two folders", rowcheck(command, folder, folder), wrong(TRACE_UNREAD))
+    check_reasons(tally, command, folder)
     check_unreadable(tally, command, folder)
     check_outputs(tally, command, folder)
+
+
+def check_reasons(tally, command, folder):
+    """The whole line that says what is wrong, with the file's name where it cannot be opened."""
+    trace, listing = write_texts(folder)
+    missing = f"{folder}/missing"
+    for names, line in (((), USAGE), ((missing, listing), NO_TRACE + b" %s: No such file or directory" % missing.encode()),
+                        ((trace, missing), NO_LISTING + b" %s: No such file or directory" % missing.encode()),
+                        ((folder, listing), TRACE_UNREAD + b": Is a directory"),
+                        ((trace, folder), LISTING_UNREAD + b": Is a directory"),
+                        ((longer(trace, 5000), listing), NO_TRACE + b": File name too long")):
+        found = said(command, *names)
+        tally.check(found == line + b"\n", f"{names}: {found}, and ought to be {line}")
 
 
 def check_unreadable(tally, command, folder):
@@ -251,7 +265,7 @@ def check_outputs(tally, command, folder):
         os.close(out)
         os.close(into)
         answer = reader_left(run)
-        tally.check(answer.status in (2, -signal.SIGPIPE), f"nobody reads the output: {answer}")
+        tally.check(answer.status in (0, -signal.SIGPIPE), f"nobody reads the output: {answer}")
         with open(names[1], "rb") as read_only:
             expect(tally, "output only for reading", run(stdout=read_only)._replace(text=b""), wrong(UNWRITTEN))
         unchanged = [pathlib.Path(name).read_bytes() for name in names] == [TRACE, listing]

@@ -1,0 +1,22 @@
+-- `rowcheck::check_files` is safe: its tables track nothing at first.
+use mathlib.Core.Path.{refl}
+use borrow.Author.Needs.{needs}
+use Rattle.listing.proofs.Memory.Zeros.{zeros-marked}
+use Rattle.rowcheck.proofs.check_files.Statement.{statement}
+use Rattle.rowcheck.proofs.check_files.Tie as tie
+
+run-requires : tie.Need-run-requires
+run-requires c κs = (zeros-marked 262144 refl refl refl, search needs, search needs, search needs, search needs)
+
+pub check-files-spec : {M : Type 1} → statement M
+check-files-spec =
+    tie.close
+    (tie.spec
+    (λ c. search needs)
+    (λ c. search needs)
+    (λ c. search needs)
+    (λ c. search needs)
+    (λ c. search needs)
+    (λ c. search needs)
+    run-requires
+    (λ c. search needs))

@@ -1,0 +1,106 @@
+-- `rowcheck::run` is safe and ends, and the lines that it counts stay few. The invariant: the memory is a listing's, and the reads that are left pass over
+-- no more lines than a number of 64 bits holds.
+use mathlib.Core.Path.{_≡_, sym, _∙_}
+use mathlib.Core.List.{List}
+use Prim.Native.Nat.{ℕ, _+_, _*_, _≤_}
+use native.Mathlib.Omega.{arith}
+use borrow.Author.Needs.{needs}
+use lib.ListN.{length}
+use Rattle.listing.proofs.Memory.Progress.{represents-start}
+use Rattle.listing.proofs.Memory.Zeros.{banked-start}
+use Rattle.rowcheck.specs.declared.Step.{Step}
+use Rattle.rowcheck.specs.Contracts.{Carried}
+use Rattle.rowcheck.proofs.run.Statement.{statement}
+use Rattle.rowcheck.proofs.run.Tie as tie
+
+record Going (counts marks bounds text out given : List ℕ) (step : Step) (left : ℕ) : Type 0 where
+  carried : Carried step counts marks bounds text out
+  given-long : length given ≡ 339968
+  few : step .check .lines + left * 339968 ≤ 11961560610296037376
+
+abbrev Inv-loop : tie.InvT-loop
+Inv-loop trace listing counts₀ marks₀ bounds₀ text₀ out₀ given₀ step₀ left₀ counts marks bounds text out given step left =
+    Going counts marks bounds text out given step left
+
+abbrev μ-loop : tie.MeasureT-loop
+μ-loop trace listing counts₀ marks₀ bounds₀ text₀ out₀ given₀ step₀ left₀ counts marks bounds text out given step left = left
+
+loop-holds : tie.Need-loop-holds Inv-loop μ-loop
+loop-holds c =
+    let a = c .before .before .before .before .before .before .before in
+    rw (c .first-step .ensures)
+    (record {
+      carried = record {
+        ready = represents-start (a .args .counts .now) .ready;
+        banked = banked-start (a .pre .0) (a .pre .1);
+        text-long = a .pre .2;
+        out-long = a .pre .3;
+        kept-few = omega arith;
+        end-few = omega arith;
+      };
+      given-long = a .pre .4;
+      few = omega arith;
+    })
+
+next-step-requires : tie.Need-next-step-requires Inv-loop μ-loop
+next-step-requires c κs =
+    let l = c .before .before .before .before .before .before .before .before .before .loop .inv in
+    (l .carried, l .given-long, omega (arith, l .few, c .before .before .before .before .before .before .before .before .loop-test .taken))
+
+sub-left : tie.Need-sub-left Inv-loop μ-loop
+sub-left c = omega (arith, c .before .before .before .before .before .before .before .before .before .before .before .before .before .before .before .before .before .before .before .before .before .loop-test .taken)
+
+loop-less : tie.Need-loop-less Inv-loop μ-loop
+loop-less c = omega (arith, c .before .before .before .before .before .before .before .before .before .before .before .before .before .before .before .before .before .before .before .before .before .loop-test .taken)
+
+loop-again : tie.Need-loop-again Inv-loop μ-loop
+loop-again c =
+    let l = c .before .before .before .before .before .before .before .before .before .before .before .before .before .before .before .before .before .before .before .before .before .before .loop .inv in
+    let n = c .before .before .before .before .before .before .before .before .before .before .before .before .next-step in
+    record {
+      carried = n .ensures .0;
+      given-long = n .kept .1 .1 .1 .1 .1 .1 .1 .1 .0 ∙ l .given-long;
+      few = omega (arith, n .ensures .1, l .few, c .before .before .before .before .before .before .before .before .before .before .before .before .before .before .before .before .before .before .before .before .before .loop-test .taken);
+    }
+
+same-length : tie.Need-same-length Inv-loop μ-loop
+same-length c = c .before .before .loop .inv .carried .banked .marked .counts-long ∙ sym (c .before .before .before .before .before .before .before .before .before .before .pre .0 .counts-long)
+
+same-length-2 : tie.Need-same-length-2 Inv-loop μ-loop
+same-length-2 c = c .before .before .loop .inv .carried .banked .marked .marks-long ∙ sym (c .before .before .before .before .before .before .before .before .before .before .pre .0 .marks-long)
+
+same-length-3 : tie.Need-same-length-3 Inv-loop μ-loop
+same-length-3 c = c .before .before .loop .inv .carried .banked .bounds-long ∙ sym (c .before .before .before .before .before .before .before .before .before .before .pre .1)
+
+same-length-4 : tie.Need-same-length-4 Inv-loop μ-loop
+same-length-4 c = c .before .before .loop .inv .carried .text-long ∙ sym (c .before .before .before .before .before .before .before .before .before .before .pre .2)
+
+same-length-5 : tie.Need-same-length-5 Inv-loop μ-loop
+same-length-5 c = c .before .before .loop .inv .carried .out-long ∙ sym (c .before .before .before .before .before .before .before .before .before .before .pre .3)
+
+same-length-6 : tie.Need-same-length-6 Inv-loop μ-loop
+same-length-6 c = c .before .before .loop .inv .given-long ∙ sym (c .before .before .before .before .before .before .before .before .before .before .pre .4)
+
+returns : tie.Need-returns Inv-loop μ-loop
+returns c = omega (arith, c .before .before .loop .inv .few)
+
+pub run-spec : {M : Type 1} → statement M
+run-spec =
+    tie.close
+    (tie.spec
+    Inv-loop
+    μ-loop
+    (λ c κs. search needs)
+    loop-holds
+    (λ c κs. search needs)
+    next-step-requires
+    sub-left
+    loop-less
+    loop-again
+    same-length
+    same-length-2
+    same-length-3
+    same-length-4
+    same-length-5
+    same-length-6
+    returns)

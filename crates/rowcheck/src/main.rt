@@ -1,0 +1,314 @@
+// Checks a supplier's listing against a trace: two files, read through buffers of fixed size. The required listing is made part by part and compared as the
+// supplier's comes in.
+mod tell;
+
+use input::Input;
+use turns::Turn;
+ghost use mathlib.Core.Path.{_≡_};
+ghost use mathlib.Core.Bool.{true, _&&_};
+ghost use mathlib.Core.List.{[]};
+ghost use Prim.Native.Nat.{_+_, _≤_, _<_};
+ghost use lib.Dec.{leb};
+ghost use lib.ListN.{length};
+ghost use Rattle.aids.specs.Marks.{Marked};
+ghost use Rattle.aids.specs.Bounds.{all-bounds};
+ghost use Rattle.listing.specs.Memory.{start-place};
+ghost use Rattle.input.specs.declared.Input.the-variants.{End};
+ghost use Rattle.rowcheck.specs.declared.Answer.the-variants.{Open};
+ghost use Rattle.rowcheck.specs.Turns.{open-so-far, behind-trace, given-beside, behind-listing, Read-beside};
+ghost use Rattle.rowcheck.specs.Contracts.{Comparable, Carried-in};
+
+// The tracker's tables: a count for every row of the largest bank, a word of marks for each 64 of them and one for each 64 of these, and as many bounds.
+const ROWS: usize = 262_144;
+
+const MARKS: usize = 4_160;
+
+const BOUNDS: usize = 4_160;
+
+// The bytes of a read of the trace, and room for what they require and for what is given beside it.
+const TEXT: usize = 6_144;
+
+const OUT: usize = 339_968;
+
+// Reads enough for any files; each passes over no more lines than a buffer has bytes, so a line's number stays below 2 to the 64th.
+const TURNS: u64 = 35_184_372_088_832;
+
+// What a check has come to.
+pub enum Answer {
+    Open,
+    Passes,
+    Departs,
+    TraceFailed,
+    ListingFailed,
+}
+
+// How far the comparison is: the bytes compared of those that are required now, the lines that have ended among all that were the same, and the answer.
+pub struct Check {
+    pub at: usize,
+    pub lines: u64,
+    pub answer: Answer,
+}
+
+// How far a run is: what lies between two reads of the trace left, and how far the comparison is.
+pub struct Step {
+    pub turn: Turn,
+    pub check: Check,
+}
+
+// Behind a read of the trace: what it requires is to be compared from its start on.
+fn behind_trace(from: Check, input: Input) -> Check
+    ensures { λ r. ⌜ r ≡ behind-trace from input ⌝ }
+{
+    match input {
+        Input::Bytes(_) => Check {
+            at: 0,
+            lines: from.lines,
+            answer: Answer::Open,
+        },
+        Input::End => Check {
+            at: 0,
+            lines: from.lines,
+            answer: Answer::Open,
+        },
+        Input::Failed => Check {
+            at: 0,
+            lines: from.lines,
+            answer: Answer::TraceFailed,
+        },
+    }
+}
+
+// The same bytes compared and the same lines, with an answer.
+fn answered(k: Check, answer: Answer) -> Check
+    ensures { λ r. ⌜ r ≡ record { at = k .at; lines = k .lines; answer = answer } ⌝ }
+{
+    Check {
+        at: k.at,
+        lines: k.lines,
+        answer,
+    }
+}
+
+// Bytes of the listing, up to a place: compared with what is required there, or surplus where nothing is.
+fn given_beside(from: Check, required: &[u8], end: usize, given: &[u8], len: usize) -> Check
+    requires { ⌜ (from .at < end → (from .at < len) × (len ≤ end)) × (end ≤ length (now required)) × (end ≤ length (now given)) × (from .lines + length (now given) ≤ 18446744073709551615) ⌝ }
+    ensures { λ r. ⌜ r ≡ given-beside from (now (required .entry)) end (now (given .entry)) len ⌝ }
+{
+    let at = from.at;
+    if end <= at {
+        return answered(from, Answer::Departs);
+    }
+    let found = checker::compare(&required[at..len], &given[at..len], 0, from.lines);
+    if !found.all {
+        return Check {
+            at: len,
+            lines: found.lines,
+            answer: Answer::Departs,
+        };
+    }
+    Check {
+        at: len,
+        lines: found.lines,
+        answer: Answer::Open,
+    }
+}
+
+// The end of the listing: nothing is missing, or a line is.
+fn given_end(from: Check, end: usize) -> Check
+    ensures { λ r. ⌜ r ≡ behind-listing from [] end [] End ⌝ }
+{
+    if end <= from.at {
+        return answered(from, Answer::Passes);
+    }
+    answered(from, Answer::Departs)
+}
+
+// Behind a read of the listing, so many bytes being required.
+fn behind_listing(from: Check, required: &[u8], end: usize, given: &[u8], input: Input) -> Check
+    requires { ⌜ Comparable from end input (now required) (now given) ⌝ }
+    ensures { λ r. ⌜ r ≡ behind-listing from (now (required .entry)) end (now (given .entry)) input ⌝ }
+{
+    match input {
+        Input::Bytes(len) => given_beside(from, required, end, given, len),
+        Input::End => given_end(from, end),
+        Input::Failed => answered(from, Answer::ListingFailed),
+    }
+}
+
+// Reads the listing beside what is required and not yet compared, or, where nothing is, from the buffer's front on.
+fn read_listing(fd: i32, given: &mut [u8], at: usize, end: usize) -> Input
+    requires { ⌜ end ≤ length (now given) ⌝ }
+    ensures { λ r. ⌜ Read-beside r at end (now (given .entry)) (now (given .exit)) ⌝ }
+{
+    if at < end {
+        return input::read_from(fd, &mut given[0..end], at);
+    }
+    input::read_from(fd, given, 0)
+}
+
+// Before the first read.
+fn first_step() -> Step
+    ensures { λ r. ⌜ r ≡ record { turn = record { place = start-place; kept = 0; end = 0; more = true }; check = record { at = 0; lines = 0; answer = Open } } ⌝ }
+{
+    let turn = turns::first_turn();
+    Step {
+        turn,
+        check: Check {
+            at: 0,
+            lines: 0,
+            answer: Answer::Open,
+        },
+    }
+}
+
+// A read of the trace, and what lies behind it.
+fn trace_step(
+    from: Step,
+    fd: i32,
+    counts: &mut [u32],
+    marks: &mut [u64],
+    bounds: &mut [u32],
+    text: &mut [u8],
+    out: &mut [u8],
+) -> Step
+    requires { ⌜ Carried-in from counts marks bounds text out ⌝ }
+    ensures { λ r. ⌜ Carried-in r (counts .exit) (marks .exit) (bounds .exit) (text .exit) (out .exit) × (r .check .lines ≡ from .check .lines) ⌝ }
+{
+    let before = from.turn;
+    let so_far = from.check;
+    let input = input::read_from(fd, text, before.kept);
+    let turn = turns::between_reads(before, counts, marks, bounds, text, input, out);
+    Step {
+        turn,
+        check: behind_trace(so_far, input),
+    }
+}
+
+// A read of the listing, and what lies behind it.
+fn listing_step(from: Step, fd: i32, given: &mut [u8], out: &[u8]) -> Step
+    requires { ⌜ (from .turn .end ≤ length (now out)) × (from .turn .end ≤ length (now given)) × (from .check .lines + length (now given) ≤ 18446744073709551615) ⌝ }
+    ensures { λ r. ⌜ (r .turn ≡ from .turn) × (r .check .lines ≤ from .check .lines + length (now (given .entry))) ⌝ }
+{
+    let turn = from.turn;
+    let so_far = from.check;
+    let input = read_listing(fd, given, so_far.at, turn.end);
+    Step {
+        turn,
+        check: behind_listing(so_far, out, turn.end, given, input),
+    }
+}
+
+// Whether a run goes on.
+fn is_open(k: Check) -> bool
+    ensures { λ r. ⌜ r ≡ open-so-far (k .answer) ⌝ }
+{
+    let answer = k.answer;
+    match answer {
+        Answer::Open => true,
+        Answer::Passes => false,
+        Answer::Departs => false,
+        Answer::TraceFailed => false,
+        Answer::ListingFailed => false,
+    }
+}
+
+// Whether the trace is to be read next: it goes on, and all that it required so far is compared.
+fn wants_trace(more: bool, end: usize, at: usize) -> bool
+    ensures { λ r. ⌜ r ≡ more && leb end at ⌝ }
+{
+    more && end <= at
+}
+
+// A read of the file that is wanted next, and what lies behind it: the trace once all that it required is compared, else the listing.
+fn next_step(
+    from: Step,
+    trace: i32,
+    listing: i32,
+    counts: &mut [u32],
+    marks: &mut [u64],
+    bounds: &mut [u32],
+    text: &mut [u8],
+    out: &mut [u8],
+    given: &mut [u8],
+) -> Step
+    requires { ⌜ Carried-in from counts marks bounds text out × (length (now given) ≡ 339968) × (from .check .lines + 339968 ≤ 18446744073709551615) ⌝ }
+    ensures { λ r. ⌜ Carried-in r (counts .exit) (marks .exit) (bounds .exit) (text .exit) (out .exit) × (r .check .lines ≤ from .check .lines + 339968) ⌝ }
+{
+    let so_far = from.check;
+    let turn = from.turn;
+    if wants_trace(turn.more, turn.end, so_far.at) {
+        return trace_step(from, trace, counts, marks, bounds, text, out);
+    }
+    listing_step(from, listing, given, out)
+}
+
+// Reads both files until the answer is known, or a read fails.
+fn run(
+    trace: i32,
+    listing: i32,
+    counts: &mut [u32],
+    marks: &mut [u64],
+    bounds: &mut [u32],
+    text: &mut [u8],
+    out: &mut [u8],
+    given: &mut [u8],
+) -> Check
+    requires { ⌜ Marked (now counts) (now marks) × (length (now bounds) ≡ all-bounds) × (length (now text) ≡ 6144) × (length (now out) ≡ 339968) × (length (now given) ≡ 339968) ⌝ }
+    ensures { λ r. ⌜ r .lines ≤ 11961560610296037376 ⌝ }
+{
+    let mut step = first_step();
+    let mut left = TURNS;
+    while left > 0 && is_open(step.check) {
+        step = next_step(
+            step,
+            trace,
+            listing,
+            counts,
+            marks,
+            bounds,
+            text,
+            out,
+            given,
+        );
+        left -= 1;
+    }
+    step.check
+}
+
+// Checks one open file against another, with memory of its own.
+fn check_files(trace: i32, listing: i32) -> Check
+    ensures { λ r. ⌜ r .lines ≤ 11961560610296037376 ⌝ }
+{
+    let mut counts = [0u32; ROWS];
+    let mut marks = [0u64; MARKS];
+    let mut bounds = [0u32; BOUNDS];
+    let mut text = [0u8; TEXT];
+    let mut out = [0u8; OUT];
+    let mut given = [0u8; OUT];
+    run(
+        trace,
+        listing,
+        &mut counts,
+        &mut marks,
+        &mut bounds,
+        &mut text,
+        &mut out,
+        &mut given,
+    )
+}
+
+fn main() {
+    if os::arg_count() != 3 {
+        tell::usage();
+        return;
+    }
+    let trace = tell::open(1, b"rowcheck: cannot open the trace");
+    if trace < 0 {
+        return;
+    }
+    let listing = tell::open(2, b"rowcheck: cannot open the listing");
+    if listing < 0 {
+        return;
+    }
+    tell::answer(check_files(trace, listing));
+}
