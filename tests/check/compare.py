@@ -1,14 +1,15 @@
 #!/usr/bin/env python3
 """Compares the check of a supplier's listing by the program `rowcheck` with the plain model's.
 
-    rt check rowcheck && rt check rowlist
+    rt check rowcheck && rt check rowlist && rt check test_check
     python3 tests/check/compare.py [--seed N] [--program COMMAND] [--rowlist COMMAND]
 
 Builds the model and runs its unit tests, then compares what `rowcheck` prints and its exit status: on
 pairs of a trace and a listing written by hand (cases.py, and the listings of tests/listing), on each
 byte, cut and line of short listings, on random damages (damages.py) to the listings of random traces,
 at places where blocks of bytes end, and on long texts. Each answer is held against the model's and
-against the bytes that the listing has in common with what `rowlist` prints. One fixed and one fresh seed
+against the bytes that the listing has in common with what `rowlist` prints; pairs that are short enough
+are put to the library's call too (crates/test_check). One fixed and one fresh seed
 (--seed repeats a fresh one). What differs stays in target/check/. Then inputs and outputs that fail,
 inputs that are pipes, and memory. Of the model alone: the disturbance of the silicon behind passed
 listings (tests/model/src/silicon.rs, supplier.rs).
@@ -41,6 +42,8 @@ from traces import PLANS, across, exact_size, plain_trace
 
 OUT = "target/check"
 LISTINGS = "tests/listing"
+CALL = ("target/bin/test_check",)
+MOST_OF_A_CALL = 65_536  # bytes of both texts and the byte between them
 TEST_MODEL = ("cargo", "test", *BUILD_MODEL[2:], "--lib")
 
 SHARE = 5  # one in so many of the traces of tests/listing, for each seed
@@ -91,6 +94,9 @@ class Comparison:
             "the model": Answer(ask(self.model, f"{OUT}/trace {OUT}/listing"), b"", wanted.status),
             "the program": rowcheck(self.command, f"{OUT}/trace", f"{OUT}/listing"),
         }
+        if b"\0" not in self.trace and len(self.trace) + 1 + len(listing) <= MOST_OF_A_CALL:
+            text, errors, problem = through_pipe(CALL, self.trace + b"\0" + listing)
+            answers["the call"] = Answer(text, errors or problem or b"", wanted.status)
         for whose, answer in answers.items():
             if answer == wanted:
                 self.tally.check(True, "")
@@ -365,6 +371,7 @@ def main():
     command, rowlist_command = map(command_of, (arguments.program, arguments.rowlist))
 
     os.chdir(ROOT)
+    command_of(*CALL)
     build(OUT, BUILD_MODEL)
     for path in glob.glob(f"{OUT}/failed-*"):
         os.remove(path)
