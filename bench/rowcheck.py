@@ -34,7 +34,7 @@ def long_listings():
     events, refused = TRACES / "events.trace", TRACES / "refused.trace"
     rows = "".join(f"A{row:6}\n" for row in range(0, 48, 3))
     events.write_text("S 65536     2    16   677   166  8192     8\n" + (rows + "R\n" * 40) * 20_000)
-    refused.write_text("?\n" * 500_000)
+    refused.write_text("?\n" * 5_000_000)
     return ("events", events), ("refused lines", refused)
 
 

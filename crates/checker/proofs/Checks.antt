@@ -1,9 +1,9 @@
 -- How a check goes on: behind another part of the trace, and at both ends.
 use mathlib.Core.Path.{_≡_, refl, sym, _∙_, ap}
-use mathlib.Core.Bool.{true, false, cond}
+use mathlib.Core.Bool.{true, false}
 use mathlib.Core.List.{List, [], _++_, append-nil}
 use mathlib.Core.Option.{none, some}
-use Prim.Native.Nat.{ℕ, suc, _+_, _-_, _≤_, _<_}
+use Prim.Native.Nat.{ℕ, suc, _+_, _-_, _≤_}
 use native.Mathlib.Numerals.{add-one}
 use native.Mathlib.Omega.{arith}
 use borrow.Author.Tests.{ltb-true, ltb-false}
@@ -26,7 +26,7 @@ use Rattle.checker.specs.declared.Compared.{Compared}
 use Rattle.checker.specs.Departure.{departing, departure}
 use Rattle.checker.specs.Comparison.{compared}
 use Rattle.checker.specs.Contracts.{Reaches, Onward}
-use Rattle.checker.proofs.Comparison.{departing-compared, departing-surplus, departing-none, Few, few}
+use Rattle.checker.proofs.Comparison.{departing-compared, departing-surplus, departing-none, few}
 use Rattle.checker.proofs.Cuts.{Cut}
 
 -- what is required next was compared, with more behind it

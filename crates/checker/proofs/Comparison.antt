@@ -1,13 +1,17 @@
 -- A comparison byte by byte finds the first line that departs.
 use mathlib.Core.Path.{_≡_, refl, sym, _∙_, ap}
-use mathlib.Core.Bool.{true, false, cond}
+use mathlib.Core.Bool.{Bool, true, false, cond}
 use mathlib.Core.List.{List, [], _∷_, _++_}
-use mathlib.Core.Option.{Option, none, some}
-use Prim.Native.Nat.{ℕ, suc, _+_, _-_, _≤_}
+use mathlib.Core.Option.{none, some}
+use Prim.Native.Nat.{ℕ, suc, _+_, _≤_, _<_}
+use native.Mathlib.Nat.{add-zero}
+use native.Mathlib.Numerals.{add-one}
 use native.Mathlib.Omega.{arith}
 use borrow.Author.Tests.{eqb-true, eq-eqb}
 use lib.Dec.{eqb}
-use lib.ListN.{length, drop}
+use lib.ListN.{length, getD, take, drop}
+use lib.Seq.{drop-cons}
+use mir.Val.{boolByte}
 use Rattle.laws.proofs.Cases.{split, clash}
 use Rattle.trace.specs.Texts.{in-front, lines}
 use Rattle.checker.specs.Departure.{same, departure-from, departing}
@@ -103,3 +107,30 @@ few n (x ∷ xs) (y ∷ ys) =
       all-given = λ all. omega (arith, f .all-given (rw e at all));
     })
     (λ e. record { required-few = rw e (omega arith); given-few = rw e (omega arith); all-given = λ all. clash (sym (rw e at all)) })
+
+-- a line more where one ends
+pub one-more : (n : ℕ) (ends : Bool) → cond ends (suc n) n ≡ n + boolByte ends
+one-more n true = sym (add-one n)
+one-more n false = sym (add-zero n)
+
+pub one-most : (ends : Bool) → boolByte ends ≤ 1
+one-most true = omega arith
+one-most false = omega arith
+
+-- bytes that stand there are compared as they are with themselves
+cons-alike : {x y : ℕ} {xs ys : List ℕ} → x ∷ xs ≡ y ∷ ys → (x ≡ y) × (xs ≡ ys)
+cons-alike e = (cc, cc)
+
+pub same-compared : (n : ℕ) (required given : List ℕ) → length required ≤ length given → required ≡ take (length required) given → compared n required given ≡ compared n required required
+unfolding compared
+same-compared n [] given h e = refl
+same-compared n (x ∷ xs) [] h e = absurd (omega arith)
+same-compared n (x ∷ xs) (y ∷ ys) h e =
+    let alike = cons-alike e in
+    rw (eq-eqb x y (alike .0), eq-eqb x x refl) (same-compared (counted n x) xs ys (omega arith) (alike .1))
+
+-- one byte more of a text that is compared with itself
+pub itself-compared : (n : ℕ) (text : List ℕ) (i : ℕ) → i < length text → compared n (drop i text) (drop i text) ≡ compared (n + boolByte (eqb (getD text i 0) 10)) (drop (i + 1) text) (drop (i + 1) text)
+unfolding compared counted
+itself-compared n text i h =
+    rw (drop-cons text i 0 h, eq-eqb (getD text i 0) (getD text i 0) refl, one-more n (eqb (getD text i 0) 10), add-one i)

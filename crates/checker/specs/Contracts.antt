@@ -1,16 +1,22 @@
--- Inner relations, in which the functions of this crate promise each other how far a check has come.
+-- Inner relations, in which the functions of this crate promise each other what stands where, and how far a check has come.
 use Prim.Native.Nat.{ℕ, suc, _≤_, _<_}
 use mathlib.Core.Path.{_≡_}
 use mathlib.Core.Bool.{true, false, cond}
 use mathlib.Core.List.{List}
 use mathlib.Core.Option.{some}
-use lib.ListN.{length, drop}
+use lib.ListN.{length, take, drop}
 use Rattle.trace.specs.Lines.{ended}
 use Rattle.listing.specs.Steps.{Progress}
 use Rattle.listing.specs.Texts.{listing}
 use Rattle.listing.specs.Memory.{Memory, Represents}
 use Rattle.checker.specs.declared.Checking.{Checking}
 use Rattle.checker.specs.Departure.{departing, departure}
+
+-- required bytes stand at the front of those given, and are not too many to count
+pub record Stands-at (required given : List ℕ) : Type 0 where
+  pub few : length required ≤ 1000000000
+  pub enough : length required ≤ length given
+  pub same : required ≡ take (length required) given
 
 -- where a check is: what is still required is the listing of the rest of the trace, and what is still given is the rest of the listing
 pub record Reaches (trace given : List ℕ) (m : Memory) (k : Checking) : Type 0 where

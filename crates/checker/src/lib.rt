@@ -10,12 +10,15 @@ ghost use Rattle.listing.specs.Memory.{memory-of, start-place, Banked-in};
 ghost use Rattle.listing.specs.Chunks.{next-number, last-line};
 ghost use Rattle.checker.specs.Departure.{departing, departure};
 ghost use Rattle.checker.specs.Comparison.{compared, verdict-of};
-ghost use Rattle.checker.specs.Contracts.{Reaches, Onward};
+ghost use Rattle.checker.specs.Contracts.{Stands-at, Reaches, Onward};
 
 // The bytes that are required at a time, and room for the longest line that is printed.
 const PIECE: usize = 4_096;
 
 const ROOM: usize = 200;
+
+// Bytes whose line ends a number of 32 bits counts.
+const MOST: usize = 1_000_000_000;
 
 // The lent memory: a count for every row of the largest bank, a word of marks for each 64 of them and one for each 64 of these, and as many bounds.
 const ROWS: usize = 262_144;
@@ -47,8 +50,43 @@ struct Checking {
     more: bool,
 }
 
-// Compares bytes that are required with those given from a place on, behind so many lines.
-pub fn compare(required: &[u8], given: &[u8], from: usize, lines: u64) -> Compared
+// Whether all required bytes, if they are not too many to count, stand in a text from a place on. It does not leave at the first that does not, so that the
+// compiler compares several at once.
+fn stands_at(required: &[u8], given: &[u8], from: usize) -> bool
+    requires { ⌜ from ≤ length (now given) ⌝ }
+    ensures { λ r. ⌜ (r ≡ true → Stands-at (now (required .entry)) (drop from (now (given .entry)))) ⌝ }
+{
+    if required.len() > MOST {
+        return false;
+    }
+    if given.len() - from < required.len() {
+        return false;
+    }
+    let mut alike = true;
+    let mut i: usize = 0;
+    while i < required.len() {
+        alike = alike & (required[i] == given[from + i]);
+        i += 1;
+    }
+    alike
+}
+
+// The lines that have ended behind a text more.
+fn lines_ended(text: &[u8], lines: u64) -> u64
+    requires { ⌜ (length (now text) ≤ 1000000000) × (lines + length (now text) ≤ 18446744073709551615) ⌝ }
+    ensures { λ r. ⌜ record { all = true; lines = r } ≡ compared lines (now (text .entry)) (now (text .entry)) ⌝ }
+{
+    let mut ended: u32 = 0;
+    let mut i: usize = 0;
+    while i < text.len() {
+        ended += (text[i] == b'\n') as u32;
+        i += 1;
+    }
+    lines + ended as u64
+}
+
+// The same byte by byte, to the first that is not the same.
+fn compare_bytes(required: &[u8], given: &[u8], from: usize, lines: u64) -> Compared
     requires { ⌜ (from ≤ length (now given)) × (lines + (length (now given) - from) ≤ 18446744073709551615) ⌝ }
     ensures { λ r. ⌜ r ≡ compared lines (now (required .entry)) (drop from (now (given .entry))) ⌝ }
 {
@@ -69,9 +107,7 @@ pub fn compare(required: &[u8], given: &[u8], from: usize, lines: u64) -> Compar
                 lines: ended,
             };
         }
-        if b == b'\n' {
-            ended += 1;
-        }
+        ended += (b == b'\n') as u64;
         i += 1;
         at += 1;
     }
@@ -79,6 +115,20 @@ pub fn compare(required: &[u8], given: &[u8], from: usize, lines: u64) -> Compar
         all: true,
         lines: ended,
     }
+}
+
+// Compares bytes that are required with those given from a place on, behind so many lines.
+pub fn compare(required: &[u8], given: &[u8], from: usize, lines: u64) -> Compared
+    requires { ⌜ (from ≤ length (now given)) × (lines + (length (now given) - from) ≤ 18446744073709551615) ⌝ }
+    ensures { λ r. ⌜ r ≡ compared lines (now (required .entry)) (drop from (now (given .entry))) ⌝ }
+{
+    if stands_at(required, given, from) {
+        return Compared {
+            all: true,
+            lines: lines_ended(required, lines),
+        };
+    }
+    compare_bytes(required, given, from, lines)
 }
 
 // Before the first line.

@@ -13,7 +13,7 @@ use Rattle.limit.specs.Claims.{Demand-3, Row-limit}
 use Rattle.limit.proofs.Claims.{demand-3, row-limit}
 use Rattle.trace.specs.declared.Record.the-variants.{Activate}
 use Rattle.trace.proofs.Spelling.Numbers.{narrow-by}
-use Rattle.listing.specs.Steps.{Tracker, start, refused-step, record-step-to, record-step, line-step-to, step-to}
+use Rattle.listing.specs.Steps.{Tracker, refused-step, record-step-to, record-step, line-step-to, step-to}
 use Rattle.checker.specs.Claims.{Passes-exactly}
 use Rattle.checker.proofs.Claims.{passes-exactly}
 use Rattle.silicon.specs.Silicon.{Silicon, takes, silicon-after}

@@ -1,137 +1,24 @@
--- `checker::compare` meets its contract. The invariant: what comparing the rest comes to is what comparing all comes to.
-use mathlib.Core.Path.{_≡_, refl, sym, _∙_}
-use mathlib.Core.Logic.{⊎-elim}
-use mathlib.Core.Bool.{true, false}
-use mathlib.Core.List.{List, []}
-use Prim.Native.Nat.{ℕ, _+_, _-_, _≤_, _<_}
-use native.Mathlib.Numerals.{add-one}
+-- `checker::compare` meets its contract: all at once where all is the same, else byte by byte.
+use mathlib.Core.Path.{sym, _∙_}
 use native.Mathlib.Omega.{arith}
-use borrow.Author.Tests.{eq-eqb, ne-eqb}
-use lib.ListN.{length, getD, drop, drop-of-length-le}
-use lib.Seq.{drop-cons}
-use Rattle.checker.specs.declared.Compared.{Compared}
-use Rattle.checker.specs.Comparison.{counted, compared}
+use borrow.Author.Needs.{needs}
+use lib.ListN.{length-drop}
+use Rattle.checker.proofs.Comparison.{same-compared}
 use Rattle.checker.proofs.compare.Statement.{statement}
 use Rattle.checker.proofs.compare.Tie as tie
 
-record Left (required given : List ℕ) (from lines at i ended : ℕ) : Type 0 where
-  within : at ≤ length given
-  fits : ended + (length given - at) ≤ 18446744073709551615
-  same : compared ended (drop i required) (drop at given) ≡ compared lines required (drop from given)
+lines-ended-requires : tie.Need-lines-ended-requires
+lines-ended-requires c κs =
+    let a = c .before .before .before .before in
+    let s = c .before .stands-at .ensures (c .if1 .taken) in
+    (s .few, omega (arith, s .enough, length-drop (a .args .from) (a .args .given .now), a .pre .1, a .pre .0))
 
-module _ {required given : List ℕ} {from lines at i ended : ℕ} (l : Left required given from lines at i ended) where
-  whole : length required ≤ i → record { all = true; lines = ended } ≡ compared lines required (drop from given)
-  unfolding compared
-  whole h = rw (drop-of-length-le required {i = i} h) at (l .same)
-
-  module _ (h : i < length required) where
-    short : at ≡ length given → record { all = false; lines = ended } ≡ compared lines required (drop from given)
-    unfolding compared
-    short e = rw (drop-cons required i 0 h, drop-of-length-le given {i = at} (omega arith)) at (l .same)
-
-    before-end : (at ≡ length given → ⊥) → at < length given
-    before-end e = omega (arith, l .within)
-
-    module _ (inside : at < length given) where
-      differs : (getD required i 0 ≡ getD given at 0 → ⊥) → record { all = false; lines = ended } ≡ compared lines required (drop from given)
-      unfolding compared
-      differs e = rw (drop-cons required i 0 h, drop-cons given at 0 inside, ne-eqb (getD required i 0) (getD given at 0) e) at (l .same)
-
-      counted-fits : ended + 1 ≤ 18446744073709551615
-      counted-fits = omega (arith, l .fits)
-
-      further : getD required i 0 ≡ getD given at 0 → compared (counted ended (getD required i 0)) (drop (i + 1) required) (drop (at + 1) given) ≡ compared lines required (drop from given)
-      unfolding compared
-      further e =
-          rw (add-one i, add-one at) (rw (drop-cons required i 0 h, drop-cons given at 0 inside, eq-eqb (getD required i 0) (getD given at 0) e) at (l .same))
-
-      next-ended : getD required i 0 ≡ getD given at 0 → getD required i 0 ≡ 10 → Left required given from lines (at + 1) (i + 1) (ended + 1)
-      unfolding counted
-      next-ended e t =
-          record {
-            within = omega arith;
-            fits = omega (arith, l .fits);
-            same = rw (add-one ended) (rw (eq-eqb (getD required i 0) 10 t) at (further e));
-          }
-
-      next-inside : getD required i 0 ≡ getD given at 0 → (getD required i 0 ≡ 10 → ⊥) → Left required given from lines (at + 1) (i + 1) ended
-      unfolding counted
-      next-inside e t =
-          record {
-            within = omega arith;
-            fits = omega (arith, l .fits);
-            same = rw (ne-eqb (getD required i 0) 10 t) at (further e);
-          }
-
-abbrev Inv-loop : tie.InvT-loop
-Inv-loop required given from lines at₀ i₀ ended₀ at i ended = Left required given from lines at i ended
-
-abbrev μ-loop : tie.MeasureT-loop
-μ-loop required given from lines at₀ i₀ ended₀ at i ended = length required - i
-
-loop-holds : tie.Need-loop-holds Inv-loop μ-loop
-loop-holds c = record { within = c .pre .0; fits = c .pre .1; same = refl }
-
-returns : tie.Need-returns Inv-loop μ-loop
-returns c = short (c .before .before .loop .inv) (c .before .loop-test .taken) (c .if1 .taken)
-
-shared-slice-read-b : tie.Need-shared-slice-read-b Inv-loop μ-loop
-shared-slice-read-b c = omega arith
-
-shared-slice-read-if2 : tie.Need-shared-slice-read-if2 Inv-loop μ-loop
-shared-slice-read-if2 c = before-end (c .before .before .before .before .loop .inv) (c .before .before .before .loop-test .taken) (c .before .before .if1 .left)
-
-returns-2 : tie.Need-returns-2 Inv-loop μ-loop
-returns-2 c =
-    let l = c .before .before .before .before .before .loop .inv in
-    let h = c .before .before .before .before .loop-test .taken in
-    differs l h (before-end l h (c .before .before .before .if1 .left)) (c .if2 .taken)
-
-add-ended : tie.Need-add-ended Inv-loop μ-loop
-add-ended c =
-    let l = c .before .before .before .before .before .before .loop .inv in
-    let h = c .before .before .before .before .before .loop-test .taken in
-    record { fits = omega (arith, counted-fits l h (before-end l h (c .before .before .before .before .if1 .left))) }
-
-add-i : tie.Need-add-i Inv-loop μ-loop
-add-i c = omega arith
-
-add-at : tie.Need-add-at Inv-loop μ-loop
-add-at c =
-    let l = c .before .before .before .before .before .before .loop .inv in
-    let h = c .before .before .before .before .before .loop-test .taken in
-    record { fits = omega (arith, before-end l h (c .before .before .before .before .if1 .left), c .before .before .before .before .before .before .before .good .1 .0 .0) }
-
-loop-less : tie.Need-loop-less Inv-loop μ-loop
-loop-less c = omega arith
-
-loop-again : tie.Need-loop-again Inv-loop μ-loop
-loop-again c =
-    let l = c .before .before .before .before .before .before .loop .inv in
-    let h = c .before .before .before .before .before .loop-test .taken in
-    let inside = before-end l h (c .before .before .before .before .if1 .left) in
-    ⊎-elim
-    (λ w. rw (w .1) (next-ended l h inside (c .before .if2 .left) (w .0 .taken)))
-    (λ w. rw (w .1) (next-inside l h inside (c .before .if2 .left) (w .0 .left)))
-    (c .if3 .came)
-
-returns-3 : tie.Need-returns-3 Inv-loop μ-loop
-returns-3 c = whole (c .before .loop .inv) (c .loop-test .left)
+returns : tie.Need-returns
+returns c =
+    let s = c .before .before .stands-at .ensures (c .before .if1 .taken) in
+    c .lines-ended .ensures ∙ sym (same-compared _ _ _ (s .enough) (s .same))
 
 pub compare-spec : {M : Type 1} → statement M
 compare-spec =
     tie.close
-    (tie.spec
-    Inv-loop
-    μ-loop
-    loop-holds
-    returns
-    shared-slice-read-b
-    shared-slice-read-if2
-    returns-2
-    add-ended
-    add-i
-    add-at
-    loop-less
-    loop-again
-    returns-3)
+    (tie.spec (λ c κs. search needs) lines-ended-requires returns (λ c κs. search needs) (λ c. search needs))

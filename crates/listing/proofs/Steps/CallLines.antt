@@ -34,7 +34,7 @@ use Rattle.trace.specs.declared.Record.the-variants.{Activate, Refresh}
 use Rattle.trace.specs.Output.{refusal-line}
 use Rattle.listing.specs.declared.Place.{Place}
 use Rattle.listing.specs.Output.{refresh-line}
-use Rattle.listing.specs.Steps.{Tracker, refused-step, answered, activation-step, refresh-step, record-step-to, record-step}
+use Rattle.listing.specs.Steps.{refused-step, answered, activation-step, refresh-step, record-step-to, record-step}
 use Rattle.listing.specs.Memory.{memory, state-in, tracker-in, Ready, Banked}
 use Rattle.listing.specs.Contracts.{moved, activation-refusal}
 use Rattle.listing.proofs.Memory.Tracker.{tracker-active, tracker-inactive, reached-active}
