@@ -4,7 +4,7 @@
     rt check rowcheck && rt check rowlist && rt check test_check
     python3 tests/check/compare.py [--seed N] [--program COMMAND] [--rowlist COMMAND]
 
-Builds the model and runs its unit tests, then compares what `rowcheck` prints and its exit status: on
+Builds the model and runs its unit tests, then compares what `rowcheck` prints: on
 pairs of a trace and a listing written by hand (cases.py, and the listings of tests/listing), on each
 byte, cut and line of short listings, on random damages (damages.py) to the listings of random traces,
 at places where blocks of bytes end, and on long texts. Each answer is held against the model's and
@@ -42,6 +42,7 @@ from traces import PLANS, across, exact_size, plain_trace
 
 OUT = "target/check"
 LISTINGS = "tests/listing"
+EXAMPLE = "tests/listing/example.trace", "tests/check/example.listing", "tests/check/example.answer"
 CALL = ("target/bin/test_check",)
 MOST_OF_A_CALL = 65_536  # bytes of both texts and the byte between them
 TEST_MODEL = ("cargo", "test", *BUILD_MODEL[2:], "--lib")
@@ -148,6 +149,11 @@ def check_written(compare):
         compare.begin_trace(name, trace)
         compare.check("written by hand", name, listing)
         compare.check_silicon(name)
+    trace, listing, answer = (pathlib.Path(name).read_bytes() for name in EXAMPLE)
+    compare.begin_trace("the README's", trace)
+    compare.check("written by hand", "the README's", listing)
+    shown = rowcheck(compare.command, *EXAMPLE[:2])
+    compare.tally.check(shown.text == answer, f"the README's example: {shown}, and ought to be {answer}")
 
 
 def check_every(compare):

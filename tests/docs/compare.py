@@ -30,6 +30,7 @@ SHOWN = (
     "tests/listing/loaded.trace", "tests/listing/loaded.listing",
     "tests/listing/holds.trace", "tests/listing/holds.listing",
     "tests/writer/example.trace", "tests/writer/example.spelling", "tests/writer/example.fault",
+    "tests/check/example.listing", "tests/check/example.answer",
     "tests/c_interface/row_limit.example",
 )
 SUBARRAYS = ("tests/listing/subarrays.trace", "tests/listing/subarrays.listing")
