@@ -77,6 +77,7 @@ pub record Walk : Type 0 where
   pub loaded : List ℕ
   pub events : List (List ℕ)
 
+-- before the first line of the trace, with all `R` lines of the listing
 unfoldable pub begin : List ℕ → Walk
 begin listing = record { silicon = none; loaded = own-remap; events = event-lines listing }
 
@@ -102,6 +103,7 @@ unfoldable pub behind : Walk → Outcome Record → Walk
 behind w (accepted r) = record-by (w .loaded) (w .events) (w .silicon) r
 behind w (refused k) = w
 
+-- behind lines of the trace, 'all in the trace's order'
 unfoldable pub walked : Walk → List (Outcome Record) → Walk
 walked w [] = w
 walked w (o ∷ os) = walked (behind w o) os
