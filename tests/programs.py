@@ -1,8 +1,9 @@
-"""Runs a program on a text: from a file, through a pipe, or in small pieces through a pipe."""
+"""A program's command, and runs of it on a text: from a file, through a pipe, or in small pieces through a pipe."""
 
 import collections
 import fcntl
 import os
+import shlex
 import struct
 import subprocess
 import sys
@@ -10,11 +11,29 @@ import tempfile
 import termios
 import time
 
+from comparison import ROOT, give_up
+
 RUN_LIMIT = 20  # seconds for one run of the program
 TAKEN_LIMIT = 5  # seconds in which the program has to take a piece from the pipe
 
 # Both outputs of a program, and what went wrong, if anything.
 Output = collections.namedtuple("Output", "text errors problem")
+
+
+def add_programs(parser, **programs):
+    """An option for each of these, with the command that runs another program in its place."""
+    for option, program in programs.items():
+        parser.add_argument(f"--{option}", default=shlex.quote(str(ROOT / "target/bin" / program)),
+                            help=f"command in place of target/bin/{program}")
+
+
+def command_of(text):
+    """The words of a command, whose program has to be there."""
+    command = shlex.split(text)
+    command[0] = os.path.abspath(command[0])
+    if not os.path.exists(command[0]):
+        give_up(f"{command[0]} is missing")
+    return command
 
 
 def output(text, errors, status):

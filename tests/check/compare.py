@@ -2,7 +2,7 @@
 """Compares the check of a supplier's listing by the program `rowcheck` with the plain model's.
 
     rt check rowcheck && rt check rowlist && rt check test_check
-    python3 tests/check/compare.py [--seed N] [--program COMMAND] [--rowlist COMMAND]
+    python3 tests/check/compare.py [--seed N] [--program COMMAND] [--caller COMMAND] [--rowlist COMMAND]
 
 Builds the model and runs its unit tests, then compares what `rowcheck` prints: on
 pairs of a trace and a listing written by hand (cases.py, and the listings of tests/listing), on each
@@ -23,7 +23,6 @@ import os
 import pathlib
 import random
 import re
-import shlex
 import subprocess
 import sys
 
@@ -36,14 +35,13 @@ from comparison import (
     BUILD_MODEL, FIXED_SEED, MODEL, ROOT, SHOWN, TIME_LIMIT, Tally, arguments_with_seeds, build, give_up,
 )
 from damages import DAMAGES, EVERY, departure
-from programs import through_pipe
+from programs import add_programs, command_of, through_pipe
 from rowcheck import Answer, answered, rowcheck
 from traces import PLANS, across, exact_size, plain_trace
 
 OUT = "target/check"
 LISTINGS = "tests/listing"
 EXAMPLE = "tests/listing/example.trace", "tests/check/example.listing", "tests/check/example.answer"
-CALL = ("target/bin/test_check",)
 MOST_OF_A_CALL = 65_536  # bytes of both texts and the byte between them
 TEST_MODEL = ("cargo", "test", *BUILD_MODEL[2:], "--lib")
 
@@ -60,10 +58,11 @@ LONG_LINES = 600_000  # of long texts
 class Comparison:
     """The three opinions on a pair, each asked by the names of its files."""
 
-    def __init__(self, tally, command, rowlist_command):
+    def __init__(self, tally, command, caller, rowlist):
         self.tally = tally
         self.command = command
-        self.rowlist_command = rowlist_command
+        self.caller = caller
+        self.rowlist = rowlist
         self.kinds = collections.Counter()
         self.model, self.silicon = (
             subprocess.Popen([MODEL, query], stdin=subprocess.PIPE, stdout=subprocess.PIPE)
@@ -80,7 +79,7 @@ class Comparison:
         """What `rowlist` prints for it has to pass."""
         self.trace = trace
         write(f"{OUT}/trace", trace)
-        self.required, _, problem = through_pipe(self.rowlist_command, trace)
+        self.required, _, problem = through_pipe(self.rowlist, trace)
         if problem:
             self.tally.check(False, f"{name}: rowlist: {problem}")
         self.check("what rowlist prints", name, self.required)
@@ -96,7 +95,7 @@ class Comparison:
             "the program": rowcheck(self.command, f"{OUT}/trace", f"{OUT}/listing"),
         }
         if b"\0" not in self.trace and len(self.trace) + 1 + len(listing) <= MOST_OF_A_CALL:
-            text, errors, problem = through_pipe(CALL, self.trace + b"\0" + listing)
+            text, errors, problem = through_pipe(self.caller, self.trace + b"\0" + listing)
             answers["the call"] = Answer(text, errors or problem or b"", wanted.status)
         for whose, answer in answers.items():
             if answer == wanted:
@@ -360,30 +359,19 @@ EXPECTED_KINDS = (
 )
 
 
-def command_of(text):
-    command = shlex.split(text)
-    command[0] = os.path.abspath(command[0])
-    if not os.path.exists(command[0]):
-        give_up(f"{command[0]} is missing")
-    return command
-
-
 def main():
     parser = argparse.ArgumentParser(description="Compares the check of a listing with the model's.")
-    for option, program in (("--program", "rowcheck"), ("--rowlist", "rowlist")):
-        parser.add_argument(option, default=shlex.quote(str(ROOT / "target/bin" / program)),
-                            help=f"command in place of target/bin/{program}")
+    add_programs(parser, program="rowcheck", caller="test_check", rowlist="rowlist")
     arguments, fresh_seed = arguments_with_seeds(parser)
-    command, rowlist_command = map(command_of, (arguments.program, arguments.rowlist))
+    command, caller, rowlist = map(command_of, (arguments.program, arguments.caller, arguments.rowlist))
 
     os.chdir(ROOT)
-    command_of(*CALL)
     build(OUT, BUILD_MODEL)
     for path in glob.glob(f"{OUT}/failed-*"):
         os.remove(path)
     tally = Tally()
     test_model(tally)
-    compare = Comparison(tally, command, rowlist_command)
+    compare = Comparison(tally, command, caller, rowlist)
     check_written(compare)
     check_every(compare)
     check_same_file(tally, command)

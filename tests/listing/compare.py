@@ -19,7 +19,6 @@ import itertools
 import os
 import pathlib
 import random
-import shlex
 import sys
 
 sys.dont_write_bytecode = True
@@ -31,7 +30,7 @@ from comparison import (
 from failures import (
     check_failures, input_fails_after_lines, input_unreadable, output_fills, output_full, reader_leaves,
 )
-from programs import difference, from_file, in_pieces, random_pieces, through_pipe
+from programs import add_programs, command_of, difference, from_file, in_pieces, random_pieces, through_pipe
 from remaps import REVERSE
 from traces import (
     KINDS, held_rows, loaded_remaps, long_holds, long_lines, long_trace, plain_trace, random_traces,
@@ -203,13 +202,9 @@ def check_broken(tally, command):
 
 def main():
     parser = argparse.ArgumentParser(description="Compares the program's listings with the model's.")
-    parser.add_argument("--program", default=shlex.quote(str(ROOT / "target/bin/rowlist")),
-                        help="command in place of target/bin/rowlist")
+    add_programs(parser, program="rowlist")
     arguments, fresh_seed = arguments_with_seeds(parser)
-    command = shlex.split(arguments.program)
-    command[0] = os.path.abspath(command[0])
-    if not os.path.exists(command[0]):
-        give_up(f"{command[0]} is missing")
+    command = command_of(arguments.program)
 
     os.chdir(ROOT)
     build(OUT, BUILD_MODEL)

@@ -19,7 +19,6 @@ import os
 import pathlib
 import random
 import re
-import shlex
 import subprocess
 import sys
 
@@ -35,7 +34,9 @@ from failures import (
     check_failures, errors_closed, errors_full, input_closed, input_fails_later, input_unreadable,
     output_closed, output_fills, output_full, reader_leaves,
 )
-from programs import difference, from_file, in_pieces, left_open, random_pieces, through_pipe, wait_until_taken
+from programs import (
+    add_programs, command_of, difference, from_file, in_pieces, left_open, random_pieces, through_pipe, wait_until_taken,
+)
 from records import (
     Case, FAULTS, faulty_case, good_records, one_record_changed, random_cases, respelled, spelled,
     unfinished,
@@ -300,19 +301,9 @@ EXPECTED_KINDS = (
 )
 
 
-def command_of(text):
-    command = shlex.split(text)
-    command[0] = os.path.abspath(command[0])
-    if not os.path.exists(command[0]):
-        give_up(f"{command[0]} is missing")
-    return command
-
-
 def main():
     parser = argparse.ArgumentParser(description="Compares the trace writer with the model.")
-    for option, program in (("--program", "tracefmt"), ("--caller", "test_writer"), ("--rowlist", "rowlist")):
-        parser.add_argument(option, default=shlex.quote(str(ROOT / "target/bin" / program)),
-                            help=f"command in place of target/bin/{program}")
+    add_programs(parser, program="tracefmt", caller="test_writer", rowlist="rowlist")
     arguments, fresh_seed = arguments_with_seeds(parser)
     command, caller, rowlist = map(command_of, (arguments.program, arguments.caller, arguments.rowlist))
 
