@@ -4,6 +4,7 @@ A script sets its own folder of results under target/ and ends with `NAME: N pas
 Exit status: 0 all equal; 1 a difference; 2 something is missing or cannot be built.
 """
 
+import glob
 import os
 import pathlib
 import random
@@ -106,8 +107,10 @@ BUILD_MODEL = (
 
 
 def build(out, *commands):
-    """Makes the folder of results and runs the commands that build something."""
+    """Makes the folder of results, without what failed in an earlier run, and runs the commands that build something."""
     os.makedirs(out, exist_ok=True)
+    for path in glob.glob(f"{out}/failed-*"):
+        os.remove(path)
     for command in commands:
         if subprocess.run(command).returncode != 0:
             give_up(f"this failed: {' '.join(command)}")

@@ -367,8 +367,6 @@ def main():
 
     os.chdir(ROOT)
     build(OUT, BUILD_MODEL)
-    for path in glob.glob(f"{OUT}/failed-*"):
-        os.remove(path)
     tally = Tally()
     test_model(tally)
     compare = Comparison(tally, command, caller, rowlist)

@@ -14,7 +14,6 @@ Exit status: 0 all equal; 1 a difference; 2 something is missing or cannot be bu
 
 import argparse
 import collections
-import glob
 import os
 import pathlib
 import random
@@ -309,8 +308,6 @@ def main():
 
     os.chdir(ROOT)
     build(OUT, BUILD_MODEL)
-    for path in glob.glob(f"{OUT}/failed-*"):
-        os.remove(path)
     tally = Tally()
     kinds = collections.Counter()
     check_written(tally, command, caller)

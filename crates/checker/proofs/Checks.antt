@@ -31,26 +31,26 @@ use Rattle.checker.proofs.Cuts.{Cut}
 
 -- what is required next was compared, with more behind it
 module _ (n : ℕ) (required more given : List ℕ) where
-  pub compared-on : compared n required given .all ≡ true → departing n (required ++ more) given ≡ departing (compared n required given .lines) more (drop (length required) given)
+  compared-on : compared n required given .all ≡ true → departing n (required ++ more) given ≡ departing (compared n required given .lines) more (drop (length required) given)
   compared-on all = departing-compared n required more given ∙ rw all
 
-  pub compared-off : compared n required given .all ≡ false → departing n (required ++ more) given ≡ some (suc (compared n required given .lines))
+  compared-off : compared n required given .all ≡ false → departing n (required ++ more) given ≡ some (suc (compared n required given .lines))
   compared-off all = departing-compared n required more given ∙ rw all
 
 -- and with nothing behind it
 module _ (n : ℕ) (required given : List ℕ) where
-  pub whole-passes : compared n required given .all ≡ true → length required ≡ length given → departing n required given ≡ none
+  whole-passes : compared n required given .all ≡ true → length required ≡ length given → departing n required given ≡ none
   whole-passes all long =
       ap (λ (text : List ℕ). departing n text given) (sym (append-nil required)) ∙ compared-on n required [] given all ∙
       rw (drop-of-length-le given {i = length required} (omega arith)) (departing-none (compared n required given .lines))
 
-  pub whole-surplus : compared n required given .all ≡ true → (length required ≡ length given → ⊥) → departing n required given ≡ some (suc (compared n required given .lines))
+  whole-surplus : compared n required given .all ≡ true → (length required ≡ length given → ⊥) → departing n required given ≡ some (suc (compared n required given .lines))
   whole-surplus all long =
       let fits = few n required given .all-given all in
       ap (λ (text : List ℕ). departing n text given) (sym (append-nil required)) ∙ compared-on n required [] given all ∙
       rw (drop-cons given (length required) 0 (omega arith)) (departing-surplus (compared n required given .lines) (getD given (length required) 0) (drop (suc (length required)) given))
 
-  pub whole-off : compared n required given .all ≡ false → departing n required given ≡ some (suc (compared n required given .lines))
+  whole-off : compared n required given .all ≡ false → departing n required given ≡ some (suc (compared n required given .lines))
   whole-off all = ap (λ (text : List ℕ). departing n text given) (sym (append-nil required)) ∙ compared-off n required [] given all
 
 -- behind another part of the trace

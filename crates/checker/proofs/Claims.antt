@@ -15,7 +15,7 @@ use Rattle.listing.specs.Texts.{listing}
 use Rattle.listing.proofs.Steps.LineEnds.{listing-whole}
 use Rattle.checker.specs.Departure.{same, departure-from, departing, departure}
 use Rattle.checker.specs.Claims.{Passes-exactly, First-departing, Unended-departs}
-use Rattle.checker.proofs.Comparison.{departing-alike, departing-other, departing-missing, departing-surplus, departing-none}
+use Rattle.checker.proofs.Comparison.{cons-alike, departing-alike, departing-other, departing-missing, departing-surplus, departing-none}
 
 -- texts without a line that departs are the same
 none-departs : (n : ℕ) (required given : List ℕ) → departing n required given ≡ none → given ≡ required
@@ -67,12 +67,6 @@ record First (ls ms : List (List ℕ)) (from number : ℕ) : Type 0 where
   before : take (number - from) ls ≡ take (number - from) ms
   here : take (suc (number - from)) ls ≡ take (suc (number - from)) ms → ⊥
 
-first-alike : {l m : List ℕ} {ls ms : List (List ℕ)} → l ∷ ls ≡ m ∷ ms → l ≡ m
-first-alike e = cc
-
-others-alike : {l m : List ℕ} {ls ms : List (List ℕ)} → l ∷ ls ≡ m ∷ ms → ls ≡ ms
-others-alike e = cc
-
 first-here : (ls ms : List (List ℕ)) (from number : ℕ) → from ≡ number → (take 1 ls ≡ take 1 ms → ⊥) → First ls ms from number
 first-here ls ms from number e other =
     let none-before : number - from ≡ 0 = omega arith in
@@ -84,7 +78,7 @@ first-on l m ls ms from number e f =
     record {
       onward = omega (arith, f .onward);
       before = rw (further, e, f .before);
-      here = λ alike. f .here (others-alike (rw further at alike));
+      here = λ alike. f .here (cons-alike (rw further at alike) .1);
     }
 
 first-departs : (from : ℕ) (ls ms : List (List ℕ)) (number : ℕ) → departure-from from ls ms ≡ some number → First ls ms from number
@@ -95,7 +89,7 @@ first-departs from (l ∷ ls) [] number e = first-here (l ∷ ls) [] from number
 first-departs from (l ∷ ls) (m ∷ ms) number e =
     split (same l m)
     (λ on. first-on l m ls ms from number (same-alike l m on) (first-departs (suc from) ls ms number (rw on at e)))
-    (λ off. first-here (l ∷ ls) (m ∷ ms) from number (Option·some-injective from number (rw off at e)) (λ alike. other-lines l m off (first-alike alike)))
+    (λ off. first-here (l ∷ ls) (m ∷ ms) from number (Option·some-injective from number (rw off at e)) (λ alike. other-lines l m off (cons-alike alike .0)))
 
 pub first-departing : First-departing
 unfolding First-departing departure departing

@@ -117,10 +117,11 @@ pub one-most : (ends : Bool) → boolByte ends ≤ 1
 one-most true = omega arith
 one-most false = omega arith
 
--- bytes that stand there are compared as they are with themselves
-cons-alike : {x y : ℕ} {xs ys : List ℕ} → x ∷ xs ≡ y ∷ ys → (x ≡ y) × (xs ≡ ys)
+-- equal lists have the same first element and the same others
+pub cons-alike : {A : Type 0} {x y : A} {xs ys : List A} → x ∷ xs ≡ y ∷ ys → (x ≡ y) × (xs ≡ ys)
 cons-alike e = (cc, cc)
 
+-- bytes that stand there are compared as they are with themselves
 pub same-compared : (n : ℕ) (required given : List ℕ) → length required ≤ length given → required ≡ take (length required) given → compared n required given ≡ compared n required required
 unfolding compared
 same-compared n [] given h e = refl

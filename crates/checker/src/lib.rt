@@ -51,7 +51,7 @@ struct Checking {
 }
 
 // Whether all required bytes, if they are not too many to count, stand in a text from a place on. It does not leave at the first that does not, so that the
-// compiler compares several at once.
+// compiler compares several at once. Where it says no, nothing is promised: they are compared byte by byte then.
 fn stands_at(required: &[u8], given: &[u8], from: usize) -> bool
     requires { ⌜ from ≤ length (now given) ⌝ }
     ensures { λ r. ⌜ (r ≡ true → Stands-at (now (required .entry)) (drop from (now (given .entry)))) ⌝ }
@@ -85,7 +85,7 @@ fn lines_ended(text: &[u8], lines: u64) -> u64
     lines + ended as u64
 }
 
-// The same byte by byte, to the first that is not the same.
+// Compares byte by byte, up to the first that is not the same.
 fn compare_bytes(required: &[u8], given: &[u8], from: usize, lines: u64) -> Compared
     requires { ⌜ (from ≤ length (now given)) × (lines + (length (now given) - from) ≤ 18446744073709551615) ⌝ }
     ensures { λ r. ⌜ r ≡ compared lines (now (required .entry)) (drop from (now (given .entry))) ⌝ }

@@ -16,7 +16,7 @@ ghost use Rattle.listing.specs.Memory.{start-place};
 ghost use Rattle.input.specs.declared.Input.the-variants.{End};
 ghost use Rattle.rowcheck.specs.declared.Answer.the-variants.{Open};
 ghost use Rattle.rowcheck.specs.Turns.{open-so-far, behind-trace, given-beside, behind-listing, Read-beside};
-ghost use Rattle.rowcheck.specs.Contracts.{Comparable, Carried-in};
+ghost use Rattle.rowcheck.specs.Contracts.{Comparable, Carried-in, most-lines, Trace-stepped-in, Listing-checked, Stepped-in};
 
 // The tracker's tables: a count for every row of the largest bank, a word of marks for each 64 of them and one for each 64 of these, and as many bounds.
 const ROWS: usize = 262_144;
@@ -173,6 +173,7 @@ fn trace_step(
 ) -> Step
     requires { ⌜ Carried-in from counts marks bounds text out ⌝ }
     ensures { λ r. ⌜ Carried-in r (counts .exit) (marks .exit) (bounds .exit) (text .exit) (out .exit) × (r .check .lines ≡ from .check .lines) ⌝ }
+    ensures { λ r. ⌜ Trace-stepped-in from r counts text out ⌝ }
 {
     let before = from.turn;
     let so_far = from.check;
@@ -188,6 +189,7 @@ fn trace_step(
 fn listing_step(from: Step, fd: i32, given: &mut [u8], out: &[u8]) -> Step
     requires { ⌜ (from .turn .end ≤ length (now out)) × (from .turn .end ≤ length (now given)) × (from .check .lines + length (now given) ≤ 18446744073709551615) ⌝ }
     ensures { λ r. ⌜ (r .turn ≡ from .turn) × (r .check .lines ≤ from .check .lines + length (now (given .entry))) ⌝ }
+    ensures { λ r. ⌜ Listing-checked (from .check) (r .check) (now (out .entry)) (from .turn .end) (now (given .entry)) (now (given .exit)) ⌝ }
 {
     let turn = from.turn;
     let so_far = from.check;
@@ -233,6 +235,7 @@ fn next_step(
 ) -> Step
     requires { ⌜ Carried-in from counts marks bounds text out × (length (now given) ≡ 339968) × (from .check .lines + 339968 ≤ 18446744073709551615) ⌝ }
     ensures { λ r. ⌜ Carried-in r (counts .exit) (marks .exit) (bounds .exit) (text .exit) (out .exit) × (r .check .lines ≤ from .check .lines + 339968) ⌝ }
+    ensures { λ r. ⌜ Stepped-in from r counts text out given ⌝ }
 {
     let so_far = from.check;
     let turn = from.turn;
@@ -254,7 +257,7 @@ fn run(
     given: &mut [u8],
 ) -> Check
     requires { ⌜ Marked (now counts) (now marks) × (length (now bounds) ≡ all-bounds) × (length (now text) ≡ 6144) × (length (now out) ≡ 339968) × (length (now given) ≡ 339968) ⌝ }
-    ensures { λ r. ⌜ r .lines ≤ 11961560610296037376 ⌝ }
+    ensures { λ r. ⌜ r .lines ≤ most-lines ⌝ }
 {
     let mut step = first_step();
     let mut left = TURNS;
@@ -277,7 +280,7 @@ fn run(
 
 // Checks one open file against another, with memory of its own.
 fn check_files(trace: i32, listing: i32) -> Check
-    ensures { λ r. ⌜ r .lines ≤ 11961560610296037376 ⌝ }
+    ensures { λ r. ⌜ r .lines ≤ most-lines ⌝ }
 {
     let mut counts = [0u32; ROWS];
     let mut marks = [0u64; MARKS];

@@ -5,6 +5,7 @@ use libc::STDERR_FILENO;
 use libc::STDOUT_FILENO;
 ghost use mathlib.Core.Path.{_≡_};
 ghost use Prim.Native.Nat.{_+_, _≤_};
+ghost use Rattle.rowcheck.specs.Contracts.{most-lines};
 
 // How to call it.
 pub fn usage() {
@@ -33,7 +34,7 @@ pub fn open(argument: usize, failed: &[u8]) -> i32 {
 
 // The number of the line behind those that were the same, from 1.
 fn departing_line(k: Check) -> u64
-    requires { ⌜ k .lines ≤ 11961560610296037376 ⌝ }
+    requires { ⌜ k .lines ≤ most-lines ⌝ }
     ensures { λ r. ⌜ r ≡ k .lines + 1 ⌝ }
 {
     k.lines + 1
@@ -59,7 +60,7 @@ fn unless_written(written: bool) {
 
 // What a check has come to.
 pub fn answer(k: Check)
-    requires { ⌜ k .lines ≤ 11961560610296037376 ⌝ }
+    requires { ⌜ k .lines ≤ most-lines ⌝ }
 {
     let came = k.answer;
     match came {

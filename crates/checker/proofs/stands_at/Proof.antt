@@ -1,6 +1,6 @@
 -- `checker::stands_at` meets its contract. The invariant: so far the bytes are the same, if alike says so.
 use mathlib.Core.Path.{_≡_, refl, sym, _∙_}
-use mathlib.Core.Bool.{Bool, true, false, _&&_}
+use mathlib.Core.Bool.{Bool, true, _&&_}
 use mathlib.Core.List.{List}
 use Prim.Native.Nat.{ℕ, _+_, _-_, _≤_, _<_}
 use native.Mathlib.Numerals.{add-one}
@@ -9,7 +9,7 @@ use borrow.Author.Tests.{eqb-true}
 use lib.Dec.{eqb}
 use lib.ListN.{length, getD, take, drop, length-drop}
 use lib.Seq.{take-suc, take-all, getD-drop}
-use Rattle.laws.proofs.Cases.{clash}
+use Rattle.laws.proofs.Cases.{clash, and-both}
 use Rattle.checker.specs.Contracts.{Stands-at}
 use Rattle.checker.proofs.stands_at.Statement.{statement}
 use Rattle.checker.proofs.stands_at.Tie as tie
@@ -18,16 +18,12 @@ record So-far (required given : List ℕ) (from : ℕ) (alike : Bool) (i : ℕ) 
   within : i ≤ length required
   same : alike ≡ true → take i required ≡ take i (drop from given)
 
-both-true : (a b : Bool) → (a && b) ≡ true → (a ≡ true) × (b ≡ true)
-both-true true b e = (refl, e)
-both-true false b e = clash (sym e)
-
 so-far-next : {required given : List ℕ} {from : ℕ} {alike : Bool} {i : ℕ} → So-far required given from alike i → i < length required → from + i < length given → So-far required given from (alike && eqb (getD required i 0) (getD given (from + i) 0)) (i + 1)
 so-far-next {required} {given} {from} {alike} {i} s h inside =
     record {
       within = omega arith;
       same = λ on.
-          let both = both-true alike (eqb (getD required i 0) (getD given (from + i) 0)) on in
+          let both = and-both alike (eqb (getD required i 0) (getD given (from + i) 0)) on in
           let byte : getD required i 0 ≡ getD (drop from given) i 0 = eqb-true (getD required i 0) (getD given (from + i) 0) (both .1) ∙ sym (getD-drop from given i 0) in
           rw (add-one i) (take-suc required i 0 h ∙ rw (s .same (both .0), byte) (sym (take-suc (drop from given) i 0 (omega (arith, length-drop from given)))));
     }

@@ -28,7 +28,7 @@ returns c =
       given-long = omega (arith, r .kept .1 .0, a .pre .1);
       few = omega (arith, r .kept .1 .0, a .pre .2);
     } in
-    (refl, rw (c .behind-listing .ensures) (omega (arith, lines-behind (a .args .from .check) (a .args .out .now) (r .last .1 .0) (a .args .from .turn .end) (r .result) comparable, r .kept .1 .0)))
+    ((refl, rw (c .behind-listing .ensures) (omega (arith, lines-behind (a .args .from .check) (a .args .out .now) (r .last .1 .0) (a .args .from .turn .end) (r .result) comparable, r .kept .1 .0))), record { input = r .result; came = r .ensures; same = c .behind-listing .ensures })
 
 pub listing-step-spec : {M : Type 1} → statement M
 listing-step-spec = tie.close (tie.spec (λ c κs. search needs) behind-listing-requires (λ c. search needs) returns)

@@ -9,14 +9,14 @@ use lib.ListN.{length}
 use Rattle.listing.proofs.Memory.Progress.{represents-start}
 use Rattle.listing.proofs.Memory.Zeros.{banked-start}
 use Rattle.rowcheck.specs.declared.Step.{Step}
-use Rattle.rowcheck.specs.Contracts.{Carried}
+use Rattle.rowcheck.specs.Contracts.{Carried, most-lines}
 use Rattle.rowcheck.proofs.run.Statement.{statement}
 use Rattle.rowcheck.proofs.run.Tie as tie
 
 record Going (counts marks bounds text out given : List ℕ) (step : Step) (left : ℕ) : Type 0 where
   carried : Carried step counts marks bounds text out
   given-long : length given ≡ 339968
-  few : step .check .lines + left * 339968 ≤ 11961560610296037376
+  few : step .check .lines + left * 339968 ≤ most-lines
 
 abbrev Inv-loop : tie.InvT-loop
 Inv-loop trace listing counts₀ marks₀ bounds₀ text₀ out₀ given₀ step₀ left₀ counts marks bounds text out given step left =
@@ -58,9 +58,9 @@ loop-again c =
     let l = c .before .before .before .before .before .before .before .before .before .before .before .before .before .before .before .before .before .before .before .before .before .before .loop .inv in
     let n = c .before .before .before .before .before .before .before .before .before .before .before .before .next-step in
     record {
-      carried = n .ensures .0;
+      carried = n .ensures .0 .0;
       given-long = n .kept .1 .1 .1 .1 .1 .1 .1 .1 .0 ∙ l .given-long;
-      few = omega (arith, n .ensures .1, l .few, c .before .before .before .before .before .before .before .before .before .before .before .before .before .before .before .before .before .before .before .before .before .loop-test .taken);
+      few = omega (arith, n .ensures .0 .1, l .few, c .before .before .before .before .before .before .before .before .before .before .before .before .before .before .before .before .before .before .before .before .before .loop-test .taken);
     }
 
 same-length : tie.Need-same-length Inv-loop μ-loop

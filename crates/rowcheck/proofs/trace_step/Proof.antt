@@ -5,7 +5,7 @@ use native.Mathlib.Omega.{arith}
 use borrow.Author.Needs.{needs}
 use lib.ListN.{length}
 use Rattle.turns.proofs.Turns.{steady-turn-left}
-use Rattle.rowcheck.proofs.Steps.{trace-lines}
+use Rattle.rowcheck.proofs.Steps.{trace-lines, trace-stepped}
 use Rattle.rowcheck.proofs.trace_step.Statement.{statement}
 use Rattle.rowcheck.proofs.trace_step.Tie as tie
 
@@ -29,15 +29,18 @@ returns c =
     let b = c .before .before .before .before .before .before .before .before .before .before .before .between-reads in
     let few : a .args .from .turn .kept ≤ length (r .last .1 .0) = omega (arith, r .kept .1 .0, a .pre .text-long, a .pre .kept-few) in
     let left = steady-turn-left _ _ _ _ _ _ (b .ensures .0) (a .pre .ready) few (r .ensures .within) in (
-      record {
-        ready = left .ready;
-        banked = b .ensures .1;
-        text-long = b .kept .1 .1 .1 .1 .0 ∙ r .kept .1 .0 ∙ a .pre .text-long;
-        out-long = b .kept .1 .1 .1 .1 .1 .1 .0 ∙ a .pre .out-long;
-        kept-few = omega (arith, left .few, r .kept .1 .0, a .pre .text-long);
-        end-few = omega (arith, left .fits, a .pre .out-long);
-      },
-      rw (c .behind-trace .ensures) (trace-lines (a .args .from .check) (r .result)),
+      (
+        record {
+          ready = left .ready;
+          banked = b .ensures .1;
+          text-long = b .kept .1 .1 .1 .1 .0 ∙ r .kept .1 .0 ∙ a .pre .text-long;
+          out-long = b .kept .1 .1 .1 .1 .1 .1 .0 ∙ a .pre .out-long;
+          kept-few = omega (arith, left .few, r .kept .1 .0, a .pre .text-long);
+          end-few = omega (arith, left .fits, a .pre .out-long);
+        },
+        rw (c .behind-trace .ensures) (trace-lines (a .args .from .check) (r .result)),
+      ),
+      trace-stepped (r .ensures) (b .ensures .0) (c .behind-trace .ensures),
     )
 
 pub trace-step-spec : {M : Type 1} → statement M
