@@ -1,19 +1,21 @@
 -- The claims of specs/Claims.antt, each under its own name.
 use mathlib.Core.Path.{_≡_, refl, sym, _∙_, ap, subst}
-use mathlib.Core.Bool.{true, false}
+use mathlib.Core.Bool.{false}
 use mathlib.Core.List.{List, [], _∷_}
 use mathlib.Core.Option.{none, some, Option·some-injective}
 use Prim.Native.Nat.{ℕ, suc, _-_, _≤_}
 use native.Mathlib.Omega.{arith}
-use borrow.Author.Tests.{eqb-true, eq-eqb}
+use borrow.Author.Tests.{eqb-true}
 use lib.Dec.{eqb}
 use lib.ListN.{take}
+use Rattle.laws.specs.Same.{same}
 use Rattle.laws.proofs.Cases.{split, clash, zero-one, missing}
+use Rattle.laws.proofs.Same.{same-alike, alike-same}
 use Rattle.trace.specs.Texts.{lines, whole}
 use Rattle.listing.specs.Steps.{start}
 use Rattle.listing.specs.Texts.{listing}
 use Rattle.listing.proofs.Steps.LineEnds.{listing-whole}
-use Rattle.checker.specs.Departure.{same, departure-from, departing, departure}
+use Rattle.checker.specs.Departure.{departure-from, departing, departure}
 use Rattle.checker.specs.Claims.{Passes-exactly, First-departing, Unended-departs}
 use Rattle.checker.proofs.Comparison.{cons-alike, departing-alike, departing-other, departing-missing, departing-surplus, departing-none}
 
@@ -38,25 +40,6 @@ pub passes-exactly : Passes-exactly
 unfolding Passes-exactly departure
 passes-exactly trace given =
     (none-departs 0 (listing start trace) given, λ e. ap (departing 0 (listing start trace)) e ∙ alike-passes 0 (listing start trace))
-
--- lines are the same exactly when their bytes are
-same-alike : (l m : List ℕ) → same l m ≡ true → l ≡ m
-unfolding same
-same-alike [] [] e = refl
-same-alike [] (y ∷ ys) e = clash (sym e)
-same-alike (x ∷ xs) [] e = clash (sym e)
-same-alike (x ∷ xs) (y ∷ ys) e =
-    split (eqb x y)
-    (λ on.
-    let alike : x ≡ y = eqb-true x y on in
-    let rest : xs ≡ ys = same-alike xs ys (rw on at e) in
-    rw (alike, rest))
-    (λ off. clash (sym (rw off at e)))
-
-alike-same : (l : List ℕ) → same l l ≡ true
-unfolding same
-alike-same [] = refl
-alike-same (x ∷ xs) = rw (eq-eqb x x refl, alike-same xs)
 
 other-lines : (l m : List ℕ) → same l m ≡ false → l ≡ m → ⊥
 other-lines l m off e = clash (sym (alike-same l) ∙ ap (same l) e ∙ off)

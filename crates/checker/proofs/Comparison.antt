@@ -12,9 +12,10 @@ use lib.Dec.{eqb}
 use lib.ListN.{length, getD, take, drop}
 use lib.Seq.{drop-cons}
 use mir.Val.{boolByte}
+use Rattle.laws.specs.Same.{same}
 use Rattle.laws.proofs.Cases.{split, clash}
 use Rattle.trace.specs.Texts.{in-front, lines}
-use Rattle.checker.specs.Departure.{same, departure-from, departing}
+use Rattle.checker.specs.Departure.{departure-from, departing}
 use Rattle.checker.specs.Comparison.{counted, compared}
 
 -- the first line of a text begins with its first byte

@@ -1,19 +1,12 @@
 -- 'The number of the first listing line that departs' from what a trace requires.
 use Prim.Native.Nat.{ℕ, suc}
-use mathlib.Core.Bool.{Bool, true, false, _&&_, cond}
+use mathlib.Core.Bool.{cond}
 use mathlib.Core.List.{List, [], _∷_}
 use mathlib.Core.Option.{Option, none, some}
-use lib.Dec.{eqb}
+use Rattle.laws.specs.Same.{same}
 use Rattle.trace.specs.Texts.{lines}
 use Rattle.listing.specs.Steps.{start}
 use Rattle.listing.specs.Texts.{listing}
-
--- two lines have the same bytes
-unfoldable pub same : List ℕ → List ℕ → Bool
-same [] [] = true
-same [] (y ∷ ys) = false
-same (x ∷ xs) [] = false
-same (x ∷ xs) (y ∷ ys) = eqb x y && same xs ys
 
 -- required lines and given ones, from a number on: none where they are the same, else the number of the first given line that departs; 'a missing line
 -- departs at its number, and so does a surplus one'

@@ -56,6 +56,11 @@ unfolding or-later
 or-later-le zero h later = later
 or-later-le (suc k) h later = h
 
+pub or-later-assoc : (k l later : ℕ) → or-later k (or-later l later) ≡ or-later (or-later k l) later
+unfolding or-later
+or-later-assoc zero l later = refl
+or-later-assoc (suc k) l later = refl
+
 pub later-refuse : (failed : Bool) (k l later : ℕ) → or-later (refuse failed (suc k) l) later ≡ refuse failed (suc k) (or-later l later)
 unfolding refuse or-later
 later-refuse true k l later = refl

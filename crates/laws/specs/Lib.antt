@@ -1,2 +1,3 @@
--- What contracts say of lent slices.
+-- What contracts say of lent slices, and lists compared.
 pub mod Lent
+pub mod Same

@@ -4,5 +4,4 @@ pub mod SoundTests
 pub mod Ready
 pub mod Outcomes
 pub mod Holds
-pub mod SameEstimates
 pub mod VictimsIn

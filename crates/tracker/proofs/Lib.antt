@@ -1,6 +1,5 @@
 -- Laws of the tracker's state and calls.
 pub mod States
 pub mod Calls
-pub mod Contracts
 pub mod Steps
 pub mod Claims

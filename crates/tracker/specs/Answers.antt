@@ -16,8 +16,6 @@ use Rattle.tracker.specs.declared.Activation.the-variants.{Accepted as A
 use Rattle.tracker.specs.declared.Refreshed.{Refreshed}
 use Rattle.tracker.specs.declared.Refreshed.the-variants.{Accepted as Refresh-accepted, Refused as Refresh-refused}
 use Rattle.tracker.specs.declared.AfterEvent.{AfterEvent}
-use Rattle.tracker.specs.declared.Agreement.{Agreement}
-use Rattle.tracker.specs.declared.Agreement.the-variants.{Same, Refused as Agreement-refused}
 
 -- setting up: the position to begin with; 'a refused setting up has no position to hand back'
 unfoldable pub set-up-outcome : SetUp → Outcome Position
@@ -58,11 +56,6 @@ refresh-count (Refresh-refused k p) = 0
 unfoldable pub refresh-position : Refreshed → Position
 refresh-position (Refresh-accepted v p) = p
 refresh-position (Refresh-refused k p) = p
-
--- whether 'two summaries agree', or the refusal
-unfoldable pub agreement-outcome : Agreement → Outcome Bool
-agreement-outcome (Same b) = accepted b
-agreement-outcome (Agreement-refused k) = refused k
 
 -- 'the caller lends two number tables': the state that they make with a position
 unfoldable pub given : List ℕ → List ℕ → Position → State

@@ -1,6 +1,6 @@
 -- The calls on raw state: the refusals in document 01's order, and what each call leaves, refused or not.
 use Prim.Native.Nat.{ℕ, zero, suc, _+_, _-_, _*_, min}
-use mathlib.Core.Bool.{Bool, true, _&&_, cond}
+use mathlib.Core.Bool.{Bool, _&&_, cond}
 use mathlib.Core.List.{List, [], _∷_, _++_}
 use lib.Dec.{leb, ltb, eqb}
 use lib.ListN.{length, drop}
@@ -10,7 +10,7 @@ use Rattle.device.specs.Acceptance.{most-rows, settings-tests-to}
 use Rattle.device.specs.Remap.{remap-allowed, physical}
 use Rattle.device.specs.Hold.{hold-allowed, repeated}
 use Rattle.device.specs.Victims.{rows-between, victims}
-use Rattle.summary.specs.Steps.{Summary, empty, estimate, picked, activation, event}
+use Rattle.summary.specs.Steps.{empty, picked, activation, event}
 use Rattle.tracker.specs.declared.Position.{Position}
 use Rattle.tracker.specs.State.{State, summary-of, state-of, valid}
 
@@ -58,13 +58,6 @@ refresh-tests-to most s st picks =
     unless (tables-long s (st .rows) (st .counts)) 8 ∷
     unless (leb (s .volume) (length picks)) 10 ∷
     unless (valid s st) 21 ∷ []
-
-unfoldable pub agreement-tests-to : ℕ → Settings → State → Settings → State → List Test
-agreement-tests-to most s st s′ st′ =
-    settings-tests-to most s ++
-    settings-tests-to most s′ ++
-    unless (tables-long s (st .rows) (st .counts) && tables-long s′ (st′ .rows) (st′ .counts)) 8 ∷
-    unless (valid s st && valid s′ st′) 21 ∷ []
 
 -- what came where a call is refused, else what it makes
 unfoldable pub kept-unless : {A : Type 0} → ℕ → A → A → A
@@ -130,17 +123,6 @@ refresh-to most s st picks =
       picks = kept-unless k picks (named ++ drop (length named) picks);
     }
 
--- rows 0 to high, without high, all have the same estimate
-unfoldable pub same-estimates : ℕ → Summary → Summary → Bool
-same-estimates zero a b = true
-same-estimates (suc row) a b = eqb (estimate a row) (estimate b row) && same-estimates row a b
-
--- 'two summaries agree when N is the same and every row has the same estimate in both'
-unfoldable pub agreement-to : ℕ → Settings → State → Settings → State → Outcome Bool
-agreement-to most s st s′ st′ =
-    tested (first-failed (agreement-tests-to most s st s′ st′))
-    (accepted (eqb (s .rows) (s′ .rows) && same-estimates (s .rows) (summary-of st) (summary-of st′)))
-
 -- the tests and the calls with N up to `most-rows`
 abbrev pub set-up-tests : Settings → List ℕ → List ℕ → List ℕ → List Test
 set-up-tests s remap rows counts = set-up-tests-to most-rows s remap rows counts
@@ -151,9 +133,6 @@ activation-tests s remap st row hold = activation-tests-to most-rows s remap st 
 abbrev pub refresh-tests : Settings → State → List ℕ → List Test
 refresh-tests s st picks = refresh-tests-to most-rows s st picks
 
-abbrev pub agreement-tests : Settings → State → Settings → State → List Test
-agreement-tests s st s′ st′ = agreement-tests-to most-rows s st s′ st′
-
 abbrev pub set-up : Settings → List ℕ → List ℕ → List ℕ → SetUp-call
 set-up s remap rows counts = set-up-to most-rows s remap rows counts
 
@@ -162,6 +141,3 @@ activation-on s remap st row hold = activation-to most-rows s remap st row hold
 
 abbrev pub refresh-on : Settings → State → List ℕ → Refresh-call
 refresh-on s st picks = refresh-to most-rows s st picks
-
-abbrev pub agreement-of : Settings → State → Settings → State → Outcome Bool
-agreement-of s st s′ st′ = agreement-to most-rows s st s′ st′

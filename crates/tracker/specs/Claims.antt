@@ -13,21 +13,19 @@ use Rattle.device.specs.Claims.{Alike}
 use Rattle.summary.specs.Steps.{activation}
 use Rattle.summary.specs.Rules.{Room}
 use Rattle.tracker.specs.State.{State, summary-of, state-of, valid, most-count}
-use Rattle.tracker.specs.Calls.{victims-in, tables-long, kept-unless, Activation-call, set-up-to, activation-to, refresh-to, agreement-to, set-up, activation-on, refresh-on, agreement-of}
+use Rattle.tracker.specs.Calls.{victims-in, tables-long, kept-unless, Activation-call, set-up-to, activation-to, refresh-to, set-up, activation-on, refresh-on}
 
 -- every call answers and leaves what it would where N may be up to another most
 pub record Same-calls (most : ℕ) (s : Settings) : Type 0 where
   pub same-set-up : (remap rows counts : List ℕ) → set-up-to most s remap rows counts ≡ set-up s remap rows counts
   pub same-activation : (remap : List ℕ) (st : State) (row hold : ℕ) → activation-to most s remap st row hold ≡ activation-on s remap st row hold
   pub same-refresh : (st : State) (picks : List ℕ) → refresh-to most s st picks ≡ refresh-on s st picks
-  pub same-agreement : (st : State) (s′ : Settings) (st′ : State) → Alike most s′ → agreement-to most s st s′ st′ ≡ agreement-of s st s′ st′
 
 -- every call is refused with 1, and leaves what it was lent
 pub record Refused-calls (most : ℕ) (s : Settings) : Type 0 where
   pub refused-set-up : (remap rows counts : List ℕ) → set-up-to most s remap rows counts ≡ record { answer = refused 1; rows = rows; counts = counts }
   pub refused-activation : (remap : List ℕ) (st : State) (row hold : ℕ) → activation-to most s remap st row hold ≡ record { accepts = false; refusal = 1; state = st }
   pub refused-refresh : (st : State) (picks : List ℕ) → refresh-to most s st picks ≡ record { accepts = false; refusal = 1; count = 0; state = st; picks = picks }
-  pub refused-agreement : (st : State) (s′ : Settings) (st′ : State) → agreement-to most s st s′ st′ ≡ refused 1
 
 -- the calls where N may be up to another most: as they are on settings whose N is judged alike, so on all 'that were valid' (`Settings-stay`), and
 -- refused where N is above it

@@ -1,17 +1,9 @@
--- What only inner contracts say, and no call's promise: room for more disturbances, ranges of an event's numbers, tables of a bank, and what
--- a walk over a summary's two tables, in the order of rows, finds at a place i of them.
+-- What only inner contracts say, and no call's promise: the tests that calls on lent tables begin with, and ranges of an event's numbers.
 use Prim.Native.Nat.{ℕ, _+_, _≤_}
-use mathlib.Core.Bool.{Bool, _&&_, cond}
 use mathlib.Core.List.{List, [], _∷_, _++_}
-use denote.Ref.{now}
-use lib.Dec.{ltb, eqb}
-use lib.ListN.{length, getD}
-use Rattle.laws.specs.Lent.{Slice}
 use Rattle.device.specs.Acceptance.{most-rows, settings-tests}
 use Rattle.device.specs.Refusal.{Test, unless}
 use Rattle.device.specs.declared.Settings.{Settings}
-use Rattle.summary.specs.Contracts.{Holds, summary}
-use Rattle.summary.specs.declared.Tally.{Tally}
 use Rattle.tracker.specs.Calls.{tables-long}
 
 -- the tests that calls on lent tables begin with: the settings', then 8
@@ -22,24 +14,3 @@ tables-tests s rows counts = settings-tests s ++ unless (tables-long s rows coun
 abbrev pub Ranges : Settings → ℕ → ℕ → Type 0
 Ranges s e places =
     (s .«blast_diameter» ≤ 4) × (s .rows ≤ most-rows) × (s .volume ≤ 16) × (s .block ≤ 64) × (1 ≤ s .window) × (e ≤ 8192) × (s .volume ≤ places)
-
--- two lent tables and their tally hold a summary of rows below high
-abbrev pub Tracks-below : ℕ → Slice → Slice → Tally → Type 0
-Tracks-below high rows counts t =
-    Holds (length (now rows)) high (summary rows counts t) (now rows) (now counts) (t .tracked) (t .spillover)
-
--- the row at the place, or the bank's end behind the last
-unfoldable pub next-row : List ℕ → ℕ → ℕ → ℕ → ℕ
-next-row rows tracked high i = cond (ltb i tracked) (getD rows i 0) high
-
--- whether a row is the one at the place
-unfoldable pub at-row : List ℕ → ℕ → ℕ → ℕ → Bool
-at-row rows tracked row i = ltb i tracked && eqb (getD rows i 0) row
-
--- a row's estimate, where the place is the first whose row is not below it
-unfoldable pub estimate-at : List ℕ → List ℕ → ℕ → ℕ → ℕ → ℕ → ℕ
-estimate-at rows counts tracked spillover row i = cond (at-row rows tracked row i) (getD counts i 0) spillover
-
--- the place behind that row
-unfoldable pub place-after : List ℕ → ℕ → ℕ → ℕ → ℕ
-place-after rows tracked row i = cond (at-row rows tracked row i) (i + 1) i

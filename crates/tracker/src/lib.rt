@@ -1,6 +1,5 @@
-// The tracker: set up, activation, refresh event and agreement, on tables and a position that the caller lends.
+// The tracker: set up, activation and refresh event, on tables and a position that the caller lends.
 // Every call refuses what document 01 refuses, in its order, and then leaves everything as it came.
-mod estimates;
 mod event;
 mod state;
 mod victims;
@@ -12,9 +11,10 @@ ghost use mathlib.Core.Path.{_≡_};
 ghost use mathlib.Core.Bool.{_&&_};
 ghost use Prim.Native.Nat.{_≤_};
 ghost use Rattle.device.specs.Refusal.{first-failed};
-ghost use Rattle.tracker.specs.Calls.{next-event, tables-long, set-up-tests, activation-tests, refresh-tests, agreement-tests, set-up, activation-on, refresh-on, agreement-of};
+ghost use Rattle.tracker.specs.State.{valid};
+ghost use Rattle.tracker.specs.Calls.{next-event, tables-long, set-up-tests, activation-tests, refresh-tests, set-up, activation-on, refresh-on};
 ghost use Rattle.tracker.specs.Contracts.{tables-tests};
-ghost use Rattle.tracker.specs.Answers.{lent, set-up-left, activation-left, refresh-left, event-left, agreement-outcome};
+ghost use Rattle.tracker.specs.Answers.{lent, set-up-left, activation-left, refresh-left, event-left};
 
 // Where a tracker stands: events so far in this window, activations since the last event, counted by their units, tracked rows, spillover.
 pub struct Position {
@@ -48,17 +48,18 @@ struct AfterEvent {
     position: Position,
 }
 
-// What agreement answers: yes or no, or the refusal.
-pub enum Agreement {
-    Same(bool),
-    Refused(u32),
-}
-
 // Whether both tables are as long as there are counters.
-fn are_long(s: Settings, rows: &[u32], counts: &[u32]) -> bool
+pub fn are_long(s: Settings, rows: &[u32], counts: &[u32]) -> bool
     ensures { λ r. ⌜ r ≡ tables-long s (now (rows .entry)) (now (counts .entry)) ⌝ }
 {
     rows.len() == s.counters as usize && counts.len() == s.counters as usize
+}
+
+// Whether tables and position may be a tracker's: both tables as long as there are counters, and no rule broken.
+pub fn valid_memory(s: Settings, rows: &[u32], counts: &[u32], p: Position) -> bool
+    ensures { λ r. ⌜ r ≡ (tables-long s (now (rows .entry)) (now (counts .entry)) && valid s (lent (rows .entry) (counts .entry) p)) ⌝ }
+{
+    are_long(s, rows, counts) && state::valid_state(s, rows, counts, p)
 }
 
 // The refusal of settings and lent tables, or 0.
@@ -245,68 +246,4 @@ pub fn refresh(
     let after = refresh_accepted(s, rows, counts, p, picks);
     let position = after.position;
     Refreshed::Accepted(after.count, position)
-}
-
-// The refusal of agreement, or 0.
-fn agreement_refusal(
-    s: Settings,
-    rows: &[u32],
-    counts: &[u32],
-    p: Position,
-    s2: Settings,
-    rows2: &[u32],
-    counts2: &[u32],
-    p2: Position,
-) -> u32
-    ensures { λ r. ⌜ r ≡ first-failed (agreement-tests s (lent (rows .entry) (counts .entry) p) s2 (lent (rows2 .entry) (counts2 .entry) p2)) ⌝ }
-{
-    let k = device::settings_refusal(s);
-    if k != 0 {
-        return k;
-    }
-    let k2 = device::settings_refusal(s2);
-    if k2 != 0 {
-        return k2;
-    }
-    if !are_long(s, rows, counts) {
-        return 8;
-    }
-    if !are_long(s2, rows2, counts2) {
-        return 8;
-    }
-    if !state::valid_state(s, rows, counts, p) {
-        return 21;
-    }
-    device::refuse_unless(state::valid_state(s2, rows2, counts2, p2), 21, 0)
-}
-
-// Whether two summaries agree: as many rows, and every row with the same estimate.
-pub fn agree(
-    s: Settings,
-    rows: &[u32],
-    counts: &[u32],
-    p: Position,
-    s2: Settings,
-    rows2: &[u32],
-    counts2: &[u32],
-    p2: Position,
-) -> Agreement
-    ensures { λ r. ⌜ agreement-outcome r ≡ agreement-of s (lent (rows .entry) (counts .entry) p) s2 (lent (rows2 .entry) (counts2 .entry) p2) ⌝ }
-{
-    let k = agreement_refusal(s, rows, counts, p, s2, rows2, counts2, p2);
-    if k != 0 {
-        return Agreement::Refused(k);
-    }
-    if s.rows != s2.rows {
-        return Agreement::Same(false);
-    }
-    let t = Tally {
-        tracked: p.tracked as usize,
-        spillover: p.spillover,
-    };
-    let t2 = Tally {
-        tracked: p2.tracked as usize,
-        spillover: p2.spillover,
-    };
-    Agreement::Same(estimates::same_estimates(rows, counts, t, rows2, counts2, t2, s.rows))
 }

@@ -1,23 +1,22 @@
--- Each call by its cases: what `set-up`, `activation-on`, `refresh-on` and `agreement-of` are where a test refuses, and where none does.
+-- Each call by its cases: what `set-up`, `activation-on` and `refresh-on` are where a test refuses, and where none does.
 use mathlib.Core.Path.{_≡_, refl, sym}
-use mathlib.Core.Bool.{Bool, true, false, _&&_}
+use mathlib.Core.Bool.{true, false}
 use mathlib.Core.List.{List}
 use Prim.Native.Nat.{ℕ, zero, suc, _+_}
 use native.Mathlib.Nat.{sub-zero}
-use borrow.Author.Tests.{ne-eqb, eq-eqb}
+use borrow.Author.Tests.{ne-eqb}
 use lib.Dec.{eqb}
 use lib.ListN.{length, replicate}
 use Rattle.device.specs.declared.Settings.{Settings}
 use Rattle.device.specs.Refusal.{first-failed, refused, accepted as accepted-with, tested}
 use Rattle.device.specs.Remap.{physical}
 use Rattle.device.specs.Hold.{repeated}
-use Rattle.device.proofs.Refusal.{tested-failed}
 use Rattle.summary.specs.Entries.{rows-of, counts-of}
 use Rattle.summary.specs.Steps.{empty, activation, picked, event}
 use Rattle.summary.specs.Tables.{table}
 use Rattle.summary.specs.Contracts.{Holds, PickedFrom}
 use Rattle.tracker.specs.State.{State, summary-of, state-of}
-use Rattle.tracker.specs.Calls.{set-up-tests, activation-tests, refresh-tests, kept-unless, set-up-to, set-up, activation-to, activation-on, refresh-to, refresh-on, victims-in, block-rows, ends-window, next-event, agreement-tests, agreement-to, agreement-of, same-estimates}
+use Rattle.tracker.specs.Calls.{set-up-tests, activation-tests, refresh-tests, kept-unless, set-up-to, set-up, activation-to, activation-on, refresh-to, refresh-on, victims-in, block-rows, ends-window, next-event}
 use Rattle.tracker.specs.Answers.{given}
 use Rattle.tracker.proofs.States.StateOf.{state-of-holds}
 use Rattle.tracker.proofs.Calls.Ready.{set-up-ready, refresh-ready}
@@ -59,20 +58,3 @@ refresh-done s st list₀ none x h ee =
     let r = refresh-ready s st list₀ none in
     let made = state-of-holds s (next-event s (st .position .events)) 0 (rw (r .0 .fitting .rows-long) at h) in
     rw (none, ee, made, x .counted, x .named)
-
--- the three answers
-module _ (s : Settings) (st : State) (s′ : Settings) (st′ : State) where
-  answer : Bool
-  answer = eqb (s .rows) (s′ .rows) && same-estimates (s .rows) (summary-of st) (summary-of st′)
-
-  pub agreement-refused : (k : ℕ) → k ≡ first-failed (agreement-tests s st s′ st′) → (k ≡ 0 → ⊥) → refused k ≡ agreement-of s st s′ st′
-  unfolding agreement-to answer
-  agreement-refused k e h = rw (← e) (sym (tested-failed k (accepted-with answer) h))
-
-  pub agreement-differs : first-failed (agreement-tests s st s′ st′) ≡ 0 → (s .rows ≡ s′ .rows → ⊥) → accepted-with false ≡ agreement-of s st s′ st′
-  unfolding agreement-to tested
-  agreement-differs e h = rw (e, ne-eqb (s .rows) (s′ .rows) h)
-
-  pub agreement-same : {b : Bool} → first-failed (agreement-tests s st s′ st′) ≡ 0 → s .rows ≡ s′ .rows → b ≡ same-estimates (s .rows) (summary-of st) (summary-of st′) → accepted-with b ≡ agreement-of s st s′ st′
-  unfolding agreement-to tested
-  agreement-same e h same = rw (e, eq-eqb (s .rows) (s′ .rows) h, same)

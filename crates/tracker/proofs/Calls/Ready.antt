@@ -1,6 +1,6 @@
 -- What a call has in hand that no test refuses: accepted-settings settings, tables as long as they should be, a valid state.
 use mathlib.Core.Path.{_≡_, sym, _∙_}
-use mathlib.Core.Bool.{true, not, _&&_}
+use mathlib.Core.Bool.{true, not}
 use mathlib.Core.Logic.{⊎-elim}
 use mathlib.Core.List.{List}
 use Prim.Native.Nat.{ℕ, _+_, _≤_, _<_}
@@ -20,13 +20,12 @@ use Rattle.device.proofs.Refusal.{or-later-zero, or-later-none, refuse-passed}
 use Rattle.summary.specs.Entries.{Entry}
 use Rattle.summary.specs.Rules.{Ordered, ordered-none, ordered-more}
 use Rattle.summary.specs.Contracts.{Holds, Held}
-use Rattle.summary.specs.Tables.{read}
-use Rattle.summary.proofs.Contracts.Holds.{held-again, long-rows}
+use Rattle.summary.proofs.Contracts.Holds.{held-again}
 use Rattle.tracker.specs.State.{State, summary-of, valid}
-use Rattle.tracker.specs.Calls.{tables-long, set-up-tests, activation-tests, refresh-tests, agreement-tests}
+use Rattle.tracker.specs.Calls.{tables-long, set-up-tests, activation-tests, refresh-tests}
 use Rattle.tracker.specs.Contracts.{tables-tests}
 use Rattle.tracker.proofs.States.Valid.{Facts, valid-facts}
-use Rattle.tracker.proofs.Calls.Tests.{tables-tested, set-up-tested, activation-tested, refresh-tested, agreement-tested}
+use Rattle.tracker.proofs.Calls.Tests.{tables-tested, set-up-tested, activation-tested, refresh-tested}
 
 pub tables-long-fit : (s : Settings) (rows counts : List ℕ) → tables-long s rows counts ≡ true → (length rows ≡ s .counters) × (length counts ≡ s .counters)
 unfolding tables-long
@@ -142,25 +141,3 @@ ready-held {s} {st} r =
 
 pub diameter-four : {s : Settings} → Accepted s → s .«blast_diameter» ≤ 4
 diameter-four ok = ⊎-elim (λ e. omega (arith, e)) (λ e. omega (arith, e)) (ok .others .diameter)
-
--- and-both summaries as the comparison wants them
-pub record Compared (s : Settings) (st : State) (s′ : Settings) (st′ : State) : Type 0 where
-  pub first : Facts s st
-  pub second : Facts s′ st′
-
-pub agreement-ready : (s : Settings) (st : State) (s′ : Settings) (st′ : State) → first-failed (agreement-tests s st s′ st′) ≡ 0 → Compared s st s′ st′
-agreement-ready s st s′ st′ e =
-    let l = tables-long s (st .rows) (st .counts) in
-    let l′ = tables-long s′ (st′ .rows) (st′ .counts) in
-    let one = or-later-none (first-failed (settings-tests s)) _ (sym (agreement-tested s st s′ st′) ∙ e) in
-    let two = or-later-none (first-failed (settings-tests s′)) (refuse (not (l && l′)) 8 (refuse (not (valid s st && valid s′ st′)) 21 0)) (one .1) in
-    let eight = refuse-passed (l && l′) 7 (refuse (not (valid s st && valid s′ st′)) 21 0) (two .1) in
-    let state = refuse-passed (valid s st && valid s′ st′) 20 0 (eight .1) in
-    let longs = and-both l l′ (eight .0) in
-    let valids = and-both (valid s st) (valid s′ st′) (state .0) in
-    record { first = valid-facts s st (longs .0) (valids .0); second = valid-facts s′ st′ (longs .1) (valids .1) }
-
--- tables of a valid state, with their own length for the number of places
-pub holds-own-length : {s : Settings} {st : State} → Facts s st → Holds (length (st .rows)) (s .rows) (read (st .rows) (st .counts) (st .position .tracked) (st .position .spillover)) (st .rows) (st .counts) (st .position .tracked) (st .position .spillover)
-unfolding summary-of
-holds-own-length f = rw (long-rows (f .holds)) (f .holds)

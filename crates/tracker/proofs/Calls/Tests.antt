@@ -1,7 +1,7 @@
 -- The tests of each call, in their order: which refusal comes first.
 use mathlib.Core.Path.{_≡_, refl}
-use mathlib.Core.Bool.{Bool, true, false, not, _&&_}
-use mathlib.Core.List.{List, [], _∷_, _++_, append-assoc}
+use mathlib.Core.Bool.{Bool, true, false, not}
+use mathlib.Core.List.{List, [], _∷_, _++_}
 use Prim.Native.Nat.{ℕ, zero, suc, _+_}
 use lib.Dec.{ltb, leb}
 use lib.ListN.{length}
@@ -13,10 +13,10 @@ use Rattle.device.specs.Hold.{hold-allowed}
 use Rattle.device.proofs.Refusal.{or-later}
 use Rattle.device.proofs.Acceptance.{settings-then}
 use Rattle.tracker.specs.State.{State, valid}
-use Rattle.tracker.specs.Calls.{tables-long, set-up-tests-to, set-up-tests, activation-tests-to, activation-tests, refresh-tests-to, refresh-tests, agreement-tests-to, agreement-tests}
+use Rattle.tracker.specs.Calls.{tables-long, set-up-tests-to, set-up-tests, activation-tests-to, activation-tests, refresh-tests-to, refresh-tests}
 use Rattle.tracker.specs.Contracts.{tables-tests}
 
-later-test : (k : ℕ) (allowed : Bool) (number later : ℕ) → or-later k (refuse (not allowed) (suc number) later) ≡ or-later (or-later k (refuse (not allowed) (suc number) 0)) later
+pub later-test : (k : ℕ) (allowed : Bool) (number later : ℕ) → or-later k (refuse (not allowed) (suc number) later) ≡ or-later (or-later k (refuse (not allowed) (suc number) 0)) later
 unfolding or-later refuse
 later-test zero true number later = refl
 later-test zero false number later = refl
@@ -47,9 +47,3 @@ pub refresh-tested : (s : Settings) (st : State) (picks : List ℕ) → first-fa
 unfolding refresh-tests-to first-failed unless
 refresh-tested s st picks =
     behind-tables s (st .rows) (st .counts) (unless (leb (s .volume) (length picks)) 10 ∷ unless (valid s st) 21 ∷ [])
-
-pub agreement-tested : (s : Settings) (st : State) (s′ : Settings) (st′ : State) → first-failed (agreement-tests s st s′ st′) ≡ or-later (first-failed (settings-tests s)) (or-later (first-failed (settings-tests s′)) (refuse (not (tables-long s (st .rows) (st .counts) && tables-long s′ (st′ .rows) (st′ .counts))) 8 (refuse (not (valid s st && valid s′ st′)) 21 0)))
-unfolding agreement-tests-to first-failed unless
-agreement-tested s st s′ st′ =
-    let rest = unless (tables-long s (st .rows) (st .counts) && tables-long s′ (st′ .rows) (st′ .counts)) 8 ∷ unless (valid s st && valid s′ st′) 21 ∷ [] in
-    rw (append-assoc (settings-tests s) (settings-tests s′) rest, settings-then s (settings-tests s′ ++ rest), settings-then s′ rest)

@@ -1,0 +1,1 @@
+-- The claims of specs/Claims.antt, each under its own name.
