@@ -43,6 +43,7 @@ def agreement_sweeps():
     yield from position_cases()
     for counters, tracked in ((1, 1), (2, 2), (PLACES, PLACES), (PLACES, 20)):
         yield from place_cases(counters, tracked)
+    yield from row_cases()
     yield from bit_cases()
 
 
@@ -127,6 +128,21 @@ def place_cases(counters, tracked):
             other = state_of(settings, rest | changes, 3, 1, 2)
             yield from pair_cases(low, other, OLDER_ONLY,
                                   f"{name} at the spillover, of {tracked} and {counters}")
+
+
+def row_cases():
+    """A row that is tracked above the spillover on one side only, and a row that alone is not tracked where
+    the spillovers differ: each row of a small bank, and those at the ends of others."""
+    for rows in (16, 528, MAX_ROWS):
+        settings = (rows, 2, 1, 2, 4, 4096, 64)
+        for row in range(16) if rows == 16 else (0, 1, 511, 512, rows - 2, rows - 1):
+            one, other = state_of(settings, {row: 4}, 3), state_of(settings, {}, 3)
+            yield from pair_cases(one, other, NEITHER, "each row, tracked on one side")
+    settings = (16, 2, 1, 15, 4, 4, 4)
+    for row in range(16):
+        rest = {place: 7 for place in range(16) if place != row}
+        one, other = state_of(settings, rest, 3), state_of(settings, rest, 4)
+        yield from pair_cases(one, other, NEITHER, "spillover, all rows but one tracked")
 
 
 def bit_cases():
@@ -390,7 +406,8 @@ AGREED = {
         *(f"{name} at the spillover, of {places}" for name in ("a row", "tracked, by a row")
           for places in ("1 and 1", "2 and 2", "64 and 64", "20 and 64"))),
     NEITHER: (
-        "setting 1", "spillover", "a count", "two counts swapped", "a row, alike in 16 bits",
+        "setting 1", "spillover", "spillover, all rows but one tracked", "each row, tracked on one side",
+        "a count", "two counts swapped", "a row, alike in 16 bits",
         *(f"one bit of {name}" for name in ("a row", "a count", "the spillover")),
         *(f"{name}, of {places}" for name in ("a row", "a count", "tracked, by a row")
           for places in ("1 and 1", "2 and 2", "64 and 64", "20 and 64"))),

@@ -368,7 +368,7 @@ def spoil_settings(rng, state, several):
 
 
 def random_cases(rng, model):
-    """About 6,000 cases."""
+    """About 5,300 cases."""
     for steps in (5, 20, 40) * 27:
         yield from run_cases(rng, model, steps)
     for _ in range(500):

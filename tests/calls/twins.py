@@ -120,9 +120,9 @@ def at_window_end(rng, model, remap):
 
 
 WAYS = {
-    "reached and written down": by_hand, "set up twice": set_up_twice, "units together and apart": units_apart,
-    "by two remaps": by_other_remaps, "in two orders": in_other_order,
-    "by a set up and a window's end": at_window_end,
+    "reached and written down": by_hand, "set up twice": set_up_twice,
+    "units together and apart": units_apart, "by two remaps": by_other_remaps,
+    "in two orders": in_other_order, "by a set up and a window's end": at_window_end,
 }
 
 
