@@ -41,8 +41,8 @@ def agreement_sweeps():
     yield from settings_cases()
     yield from remap_cases()
     yield from position_cases()
-    for counters, tracked in ((1, 1), (2, 2), (PLACES, PLACES), (PLACES, 20)):
-        yield from place_cases(counters, tracked)
+    for tracked, counters in TABLES:
+        yield from place_cases(tracked, counters)
     yield from row_cases()
     yield from bit_cases()
 
@@ -110,8 +110,11 @@ def position_cases():
                           "spillover, all rows tracked")
 
 
-def place_cases(counters, tracked):
-    """A row, a count, and a row at the spillover, at each place of the tables."""
+TABLES = ((1, 1), (2, 2), (PLACES, PLACES), (20, PLACES))  # so many places in use, of so many
+
+
+def place_cases(tracked, counters):
+    """A row, a count, and a row at the spillover, at each place in use."""
     settings = (1024, 2, 1, counters, 40, 130, 8)
     rows = [8 * place + 3 for place in range(tracked)]
     counts = {row: 5 + row % 7 for row in rows}
@@ -122,12 +125,12 @@ def place_cases(counters, tracked):
         for name, changes in (("a row", {row + 1: counts[row]}), ("a count", {row: counts[row] + 1}),
                               ("tracked, by a row", {})):
             other = state_of(settings, rest | changes, 3, 1, 2)
-            yield from pair_cases(one, other, NEITHER, f"{name}, of {tracked} and {counters}")
+            yield from pair_cases(one, other, NEITHER, f"{name}, {tracked} of {counters} places")
         low = state_of(settings, rest | {row: 3}, 3, 1, 2)
         for name, changes in (("a row", {row - 1: 3}), ("tracked, by a row", {})):
             other = state_of(settings, rest | changes, 3, 1, 2)
             yield from pair_cases(low, other, OLDER_ONLY,
-                                  f"{name} at the spillover, of {tracked} and {counters}")
+                                  f"{name} at the spillover, {tracked} of {counters} places")
 
 
 def row_cases():
@@ -403,14 +406,14 @@ AGREED = {
     OLDER_ONLY: (
         *(f"setting {number}" for number in range(2, 8)), "several settings", "remap", "events",
         "activations", "spillover, all rows tracked", "tracked, by rows at the spillover",
-        *(f"{name} at the spillover, of {places}" for name in ("a row", "tracked, by a row")
-          for places in ("1 and 1", "2 and 2", "64 and 64", "20 and 64"))),
+        *(f"{name} at the spillover, {tracked} of {counters} places"
+          for name in ("a row", "tracked, by a row") for tracked, counters in TABLES)),
     NEITHER: (
         "setting 1", "spillover", "spillover, all rows but one tracked", "each row, tracked on one side",
         "a count", "two counts swapped", "a row, alike in 16 bits",
         *(f"one bit of {name}" for name in ("a row", "a count", "the spillover")),
-        *(f"{name}, of {places}" for name in ("a row", "a count", "tracked, by a row")
-          for places in ("1 and 1", "2 and 2", "64 and 64", "20 and 64"))),
+        *(f"{name}, {tracked} of {counters} places"
+          for name in ("a row", "a count", "tracked, by a row") for tracked, counters in TABLES)),
 }
 AGREEMENT_KINDS = (
     *(f"{call} accepted{bank}" for call in PAIRS for bank in ("", ", large bank")),

@@ -1,7 +1,7 @@
 """The calls that are compared: sweeps around limits, runs, states that no run reaches, states that
 break one rule each, and refused calls; a set up and an activation with any remap, an activation with
-any hold. agreement.py has those of agreement and figures.py those of a row's figure, besides the ones in
-runs.
+any hold. agreement.py and twins.py have those of agreement and figures.py those of a row's figure, besides
+the ones in runs.
 
 A Case is a call with what it is lent, the number that it has to answer, the state that it has to leave
 and the rows that an event has to name where these are known.
@@ -211,7 +211,8 @@ def run_step(rng, state, earlier, hot_rows, remap):
     if chance < 0.06:
         return case("refresh", state, garbage(rng, settings[VOLUME] - 1), -10, "fault in a run")
     if chance < 0.09:
-        return case("estimates_agree", state, earlier, None, "older agreement in a run")
+        number = 1 if state == earlier else None
+        return case("estimates_agree", state, earlier, number, "older agreement in a run")
     if chance < 0.12:
         other_remap = remap if rng.random() < 0.7 else accepted_remap(rng)
         same = state == earlier and remap == other_remap
