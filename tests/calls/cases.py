@@ -1,9 +1,10 @@
 """The calls that are compared: sweeps around limits, runs, states that no run reaches, states that
 break one rule each, and refused calls; a set up and an activation with any remap, an activation with
-any hold. figures.py has those of a row's figure besides the ones in runs.
+any hold. agreement.py and twins.py have those of agreement and figures.py those of a row's figure, besides
+the ones in runs.
 
-A Case is a call with what it is lent, the number that it has to answer and the state that it has to
-leave where these are known.
+A Case is a call with what it is lent, the number that it has to answer, the state that it has to leave
+and the rows that an event has to name where these are known.
 """
 
 import collections
@@ -16,18 +17,20 @@ from remaps import (
     IDENTITY, OURS, REFUSED, REVERSE, ROTATED, accepted_remap, logical_row, refused_remap,
 )
 from states import (
-    ACTIVATIONS, BROKEN_RULES, EVENTS, MAX_COUNT, PLACES, SPILLOVER, State, TRACKED, any_settings,
-    bad_value, edges, garbage, large_settings, random_physical_row, resize, state_of, valid_state,
+    ACTIVATIONS, BROKEN_RULES, MAX_COUNT, SPILLOVER, State, TRACKED, any_settings, bad_value, edges,
+    garbage, random_physical_row, resize, state_of, valid_state,
 )
 
-# The number that the model has to give and the state that it has to leave are None where only the
-# model knows them.
-Case = collections.namedtuple("Case", "call state argument number kind remap hold left")
+# What the model has to give is None where only the model knows it. The other remap is that of the state
+# that is the argument.
+Case = collections.namedtuple("Case",
+                              "call state argument number kind remap hold left other_remap named")
 
 
-def case(call, state, argument=None, number=None, kind=None, remap=OURS, hold=1, left=None):
+def case(call, state, argument=None, number=None, kind=None, remap=OURS, hold=1, left=None,
+         other_remap=OURS, named=None):
     """The argument is a logical row, a list of picks or another state, as the call needs."""
-    return Case(call, state, argument, number, kind, remap, hold, left)
+    return Case(call, state, argument, number, kind, remap, hold, left, other_remap, named)
 
 
 def passes_interval(state, hold):
@@ -165,7 +168,7 @@ def subarray_cases():
 
 def run_cases(rng, model, steps):
     """The calls of one run from its set up, each on the memory that the one before left, with one
-    remap for all or another for each."""
+    remap for all or another for each; gives the state that the last one left."""
     settings = any_settings(rng)
     tables = [garbage(rng, settings[COUNTERS]) for _ in range(2)]
     remap = accepted_remap(rng)
@@ -173,7 +176,7 @@ def run_cases(rng, model, steps):
     first = case("set_up", State(settings, *tables, garbage(rng, 4)), None, 0, "set up of a run",
                  remap)
     yield first
-    state = model.ask(first)[1]
+    state = model.ask(first).state
     earlier = state
     hot_rows = [rng.randrange(settings[ROWS]) for _ in range(rng.choice((1, 2, 3, 6)))]
     if edges(settings) and rng.random() < 0.7:
@@ -185,9 +188,10 @@ def run_cases(rng, model, steps):
         remap = remap if same else accepted_remap(rng)
         step = run_step(rng, state, earlier, hot_rows, remap)
         yield step
-        state = model.ask(step)[1]
+        state = model.ask(step).state
         if rng.random() < 0.2:
             earlier = state
+    return state
 
 
 def run_step(rng, state, earlier, hot_rows, remap):
@@ -206,8 +210,14 @@ def run_step(rng, state, earlier, hot_rows, remap):
                     refused_remap(rng, U32), hold)
     if chance < 0.06:
         return case("refresh", state, garbage(rng, settings[VOLUME] - 1), -10, "fault in a run")
+    if chance < 0.09:
+        number = 1 if state == earlier else None
+        return case("estimates_agree", state, earlier, number, "older agreement in a run")
     if chance < 0.12:
-        return case("agree", state, earlier, None, "agreement in a run")
+        other_remap = remap if rng.random() < 0.7 else accepted_remap(rng)
+        same = state == earlier and remap == other_remap
+        return case("agree", state, earlier, int(same), "agreement in a run", remap,
+                    other_remap=other_remap)
     if chance < 0.15:
         return case("row_limit", state, rng.randrange(settings[ROWS]), None, "figure in a run", remap)
     full = state.position[ACTIVATIONS] == settings[INTERVAL]
@@ -237,7 +247,6 @@ def valid_cases(rng):
     picked = min(volume, state.position[TRACKED])
     picks = garbage(rng, volume + rng.choice((0, 0, 1, 5)))
     yield case("refresh", state, picks, picked, "valid state")
-    yield agreement_case(rng)
 
 
 def with_room(rng, settings, units, spillover=None):
@@ -262,7 +271,7 @@ def units_cases(rng, model):
     for part in parts:
         step = case("activate", state, row, 0, "part of a hold", remap, part)
         yield step
-        state = model.ask(step)[1]
+        state = model.ask(step).state
     yield case("activate", whole, row, 0, "hold in parts and whole", remap, hold, state)
 
 
@@ -277,102 +286,13 @@ def past_most_cases(rng, model):
     row = logical_row(remap, random_physical_row(rng, state))
     step = case("activate", state, row, 0, "counts close to the most", remap, hold)
     yield step
-    after = model.ask(step)[1]
+    after = model.ask(step).state
     passed = max(*after.counts, after.position[SPILLOVER]) > MAX_COUNT
     kind = "behind units that passed the most" if passed else "behind units close to the most"
     yield case("activate", after, row, -21 if passed else 0, kind, remap)
     yield case("refresh", after, garbage(rng, 1), -21 if passed else None, kind)
-    yield case("agree", after, after, -21 if passed else 1, kind)
-
-
-def agreement_case(rng):
-    """Two states that agree or do not, in a way that is known."""
-    one = valid_state(rng, spillover=rng.choice((None, 0, 3)))
-    other = one.copy()
-    other.position[EVENTS] = rng.randrange(one.settings[WINDOW])
-    other.position[ACTIVATIONS] = rng.randint(0, one.settings[INTERVAL])
-    make = rng.choice(AGREEMENTS)
-    return make(rng, one, other) or case("agree", one, other, 1, "agree: same tables")
-
-
-def equal_to_untracked(rng, one, other):
-    """Rows tracked at the spillover on one side only, perhaps with another blast diameter."""
-    spillover = one.position[SPILLOVER]
-    kept = {row: count for row, count in one.tracked().items() if count != spillover}
-    other = state_of(changed(one.settings, (DIAMETER, 2)), kept, spillover, *other.position[:2])
-    if len(kept) == one.position[TRACKED]:
-        return None
-    return in_any_order(rng, one, other, 1, "agree: tracked at the spillover on one side")
-
-
-def all_rows_tracked(rng, one, other):
-    """Where every row is tracked on both sides, the spillover does not matter."""
-    settings = changed(one.settings, (ROWS, 16), (VOLUME, 2), (COUNTERS, rng.choice((16, 20))))
-    counts_by_row = {row: rng.randint(5, 8) for row in range(16)}
-    one = state_of(settings, counts_by_row, rng.randint(0, 2))
-    other = state_of(settings, counts_by_row, rng.randint(3, 5))
-    return in_any_order(rng, one, other, 1, "agree: all rows tracked, other spillover")
-
-
-def other_counters(rng, one, other):
-    """The same summary in tables of another length, under other settings."""
-    counters = one.settings[COUNTERS] + rng.randint(1, 3)
-    if counters > PLACES:
-        return None
-    settings = changed(one.settings, (COUNTERS, counters), (VOLUME, 1), (INTERVAL, 4096))
-    other = state_of(settings, one.tracked(), one.position[SPILLOVER])
-    return in_any_order(rng, one, other, 1, "agree: other settings")
-
-
-def other_rows(rng, one, other):
-    """The same tables, another bank."""
-    rows = one.settings[ROWS] + 16
-    if rows > min(one.settings[BLOCK] * one.settings[WINDOW], MAX_ROWS):
-        return None
-    other.settings = changed(one.settings, (ROWS, rows))
-    return in_any_order(rng, one, other, 0, "disagree: other number of rows")
-
-
-def other_count(rng, one, other):
-    if not one.position[TRACKED]:
-        return None
-    slot = rng.randrange(one.position[TRACKED])
-    if other.counts[slot] == MAX_COUNT:
-        return None
-    other.counts[slot] += 1
-    return in_any_order(rng, one, other, 0, "disagree: one count")
-
-
-def row_alike(rng, one, other):
-    """A row tracked on one side and a row alike, with the same count, on the other."""
-    one = valid_state(rng, large_settings(rng), rng.randint(1, 20), rng.choice((0, 3)))
-    rows, spillover, tracked = one.settings[ROWS], one.position[SPILLOVER], one.tracked()
-    pairs = [(row, like) for row, count in tracked.items() if count > spillover
-             for like in alike(rows, row) if like not in tracked]
-    if not pairs:
-        return None
-    row, like = rng.choice(pairs)
-    tracked[like] = tracked.pop(row)
-    other = state_of(one.settings, tracked, spillover)
-    return in_any_order(rng, one, other, 0, "disagree: another row, alike in 16 bits")
-
-
-def other_spillover(rng, one, other):
-    least = min(one.tracked().values(), default=MAX_COUNT)
-    if one.position[SPILLOVER] >= least or one.position[TRACKED] == one.settings[ROWS]:
-        return None
-    other.position[SPILLOVER] += 1
-    return in_any_order(rng, one, other, 0, "disagree: spillover")
-
-
-AGREEMENTS = (equal_to_untracked, all_rows_tracked, other_counters, other_rows, other_count,
-              row_alike, other_spillover, lambda rng, one, other: None)
-
-
-def in_any_order(rng, one, other, number, kind):
-    if rng.random() < 0.5:
-        one, other = other, one
-    return case("agree", one, other, number, kind)
+    for call in ("agree", "estimates_agree"):
+        yield case(call, after, after, -21 if passed else 1, kind)
 
 
 # Refused calls
@@ -386,9 +306,6 @@ def broken_cases(rng):
                    accepted_remap(rng), accepted_hold(rng))
         state = make(rng)
         yield case("refresh", state, garbage(rng, state.settings[VOLUME]), -21, f"refresh: {rule}")
-        state = make(rng)
-        yield case("agree", state, valid_state(rng), -21, f"agree, first: {rule}")
-        yield case("agree", valid_state(rng), state, -21, f"agree, second: {rule}")
         yield case("set_up", make(rng), None, 0, "set up on a broken state", accepted_remap(rng))
 
 
@@ -405,10 +322,9 @@ ORDER = (1, 2, 3, 4, 5, 6, 7, 8, 9, 10, 15, 14, 21, 22)  # in which refusals are
 
 def faulty_case(rng, several):
     """A call with one fault, or with some at once, of which the first in order decides."""
-    call = rng.choice(("set_up", "activate", "refresh", "agree"))
+    call = rng.choice(("set_up", "activate", "refresh"))
     state = random_broken_state(rng) if several else valid_state(rng)
-    possible = {"set_up": (1, 8, 14), "activate": (1, 8, 9, 15, 14), "refresh": (1, 8, 10),
-                "agree": (1, 8)}
+    possible = {"set_up": (1, 8, 14), "activate": (1, 8, 9, 15, 14), "refresh": (1, 8, 10)}
     chosen = rng.sample(possible[call], rng.randint(1, len(possible[call])) if several else 1)
     numbers = []
     kind = "several faults" if several else "one fault"
@@ -437,8 +353,6 @@ def faulty_case(rng, several):
     if 1 in chosen:
         numbers.append(spoil_settings(rng, state, several))
     number = min(numbers, key=ORDER.index)
-    if call == "agree":
-        return faulty_agreement(rng, state, number, several)
     argument = {"set_up": None, "activate": row, "refresh": garbage(rng, length)}[call]
     return case(call, state, argument, -number, f"{kind}: {call}", remap, hold)
 
@@ -451,25 +365,11 @@ def spoil_settings(rng, state, several):
     return min(fields) + 1
 
 
-def faulty_agreement(rng, state, number, several):
-    """All settings come before the lengths, and those of the first state before the second's."""
-    other = random_broken_state(rng) if several else valid_state(rng)
-    if several and rng.random() < 0.5:
-        earlier = number
-        number = spoil_settings(rng, other, True)
-        if earlier < 8:
-            kind = "several faults: agree, both settings"
-            return case("agree", state, other, -earlier, kind)
-        return in_any_order(rng, state, other, -number, "several faults: agree")
-    kind = "several faults: agree" if several else "one fault: agree"
-    return in_any_order(rng, state, other, -number, kind)
-
-
 # All cases
 
 
 def random_cases(rng, model):
-    """About 6,000 cases."""
+    """About 5,300 cases."""
     for steps in (5, 20, 40) * 27:
         yield from run_cases(rng, model, steps)
     for _ in range(500):
@@ -480,7 +380,7 @@ def random_cases(rng, model):
         yield from past_most_cases(rng, model)
     for _ in range(12):
         yield from broken_cases(rng)
-    for _ in range(600):
+    for _ in range(450):
         yield faulty_case(rng, several=False)
-    for _ in range(600):
+    for _ in range(450):
         yield faulty_case(rng, several=True)

@@ -1,14 +1,14 @@
 #!/usr/bin/env python3
-"""Compares the library's set up, activation, refresh event, agreement and a row's figure with the model.
+"""Compares the library's set up, activation, refresh event, agreements and a row's figure with the model.
 
     rt check test_calls
     python3 tests/calls/compare.py [--seed N] [--program FILE]
 
 The program of crates/test_calls makes the library's calls. Builds the model, then compares the
 number and all lent memory after each call: on document 01's example and on edges, with answers
-written by hand (example.calls, edges.calls), and on the calls of cases.py and figures.py, the random ones
-with one fixed and one fresh seed (--seed repeats a fresh one). What the model gives is also held against
-what the case was made for. Queries and answers stay in target/calls/.
+written by hand (example.calls, edges.calls), and on the calls of cases.py, agreement.py, twins.py and
+figures.py, the random ones with one fixed and one fresh seed (--seed repeats a fresh one). What the model
+gives is also held against what the case was made for. Queries and answers stay in target/calls/.
 Exit status: 0 all equal; 1 a difference; 2 something is missing or cannot be built.
 """
 
@@ -23,6 +23,7 @@ import sys
 
 sys.dont_write_bytecode = True
 sys.path.insert(0, str(pathlib.Path(__file__).resolve().parents[1]))
+from agreement import AGREEMENT_KINDS, PAIRS, agreement_kinds, agreement_sweeps, random_agreements
 from cases import CUT_BANKS, ORDER, case, passes_interval, random_cases, sweep_cases
 from comparison import (
     BLOCK, BUILD_MODEL, COUNTERS, DIAMETER, FIXED_SEED, INTERVAL, MODEL, ROOT, ROWS, Run, Tally,
@@ -34,15 +35,19 @@ from remaps import NAMES, OURS, REFUSED, is_accepted, physical_row
 from states import (
     ACTIVATIONS, BROKEN_RULES, EVENTS, MAX_COUNT, PLACES, SPILLOVER, State, block_of, cuts, edges, listed,
 )
+from twins import TWIN_KINDS, random_twins
 
 HERE = "tests/calls"
 OUT = "target/calls"
 WRITTEN = {"example": "document 01's example", "edges": "edges"}
 MODEL_CALLS = [MODEL, "calls"]
-WITH_REMAP = ("set_up", "activate", "row_limit")
+WITH_REMAP = ("set_up", "activate", "row_limit", "agree")
 
 
 # Queries and answers of the model
+
+# The number, the state that is left and the rows that an event names.
+Answer = collections.namedtuple("Answer", "number state named")
 
 
 def query(case):
@@ -57,16 +62,21 @@ def query(case):
         parts.append(str(case.hold))
     if case.call in WITH_REMAP:
         parts += ["remap", *map(str, case.remap)]
+    if case.call == "agree":
+        parts += map(str, case.other_remap)
     return " ".join(parts)
 
 
 def answered(case, answer):
-    """The number of an answer line and the state that it hands back; a figure hands back none."""
-    numbers = [int(word) for word in answer.split()]
+    """What an answer line says; a figure hands back no state."""
+    number, *rest = [int(word) for word in answer.split()]
     if case.call == "row_limit":
-        return numbers[0], case.state
-    lists = read_lists(numbers[1:], 3)[0]
-    return numbers[0], State(case.state.settings, *lists)
+        return Answer(number, case.state, None)
+    lists, rest = read_lists(rest, 3)
+    named = None
+    if case.call == "refresh" and number >= 0:
+        named = read_lists(rest, 1)[0][0][:number]
+    return Answer(number, State(case.state.settings, *lists), named)
 
 
 def read_lists(numbers, count):
@@ -79,9 +89,10 @@ def read_lists(numbers, count):
 
 
 def read_query(text):
-    """The case of a query; where a remap is left out, it is our own."""
-    text, _, remap = text.partition(" remap ")
-    remap = tuple(map(int, remap.split())) or OURS
+    """The case of a query; where remaps are left out, they are our own."""
+    text, _, remaps = text.partition(" remap ")
+    remaps = tuple(map(int, remaps.split()))
+    remap, other_remap = remaps[:16] or OURS, remaps[16:] or OURS
     call, *words = text.split()
     numbers = [int(word) for word in words]
     if call == "row_limit":
@@ -92,8 +103,8 @@ def read_query(text):
         return case(call, state, rest[0], remap=remap, hold=rest[1])
     if call == "refresh":
         return case(call, state, read_lists(rest, 1)[0][0])
-    if call == "agree":
-        return case(call, state, read_state(rest)[0])
+    if call in PAIRS:
+        return case(call, state, read_state(rest)[0], remap=remap, other_remap=other_remap)
     return case(call, state, remap=remap)
 
 
@@ -106,13 +117,14 @@ def read_state(numbers):
 #
 # A request: the call, settings, position, row, lengths of both tables and of the picks, rows,
 # counts, picks; then the second state of an agreement: settings, position, lengths, rows, counts;
-# then the remap, which is not looked at in an event or an agreement, and the hold, which is looked at
-# in an activation alone. A figure looks at the settings, the position, the row and the remap.
+# then the remap, which is not looked at in an event or the older agreement, the hold, which is looked at
+# in an activation alone, and the second state's remap, which is looked at in the finer agreement alone.
+# A figure looks at the settings, the position, the row and the remap.
 # An answer: the refusal or 0, the value, the position, rows, counts, picks, all as after the call.
 
-CALLS = ("set_up", "activate", "refresh", "agree", "row_limit")
+CALLS = ("set_up", "activate", "refresh", "agree", "row_limit", "estimates_agree")
 PICKS = 32  # places for the picks
-REQUEST = struct.Struct(f"<{16 + 2 * PLACES + PICKS + 13 + 2 * PLACES + 16 + 1}I")
+REQUEST = struct.Struct(f"<{16 + 2 * PLACES + PICKS + 13 + 2 * PLACES + 16 + 1 + 16}I")
 ANSWER = struct.Struct(f"<{6 + 2 * PLACES + PICKS}I")
 MARGIN = 0xb5a2c3d4  # stands behind every list and has to stay there
 
@@ -131,15 +143,16 @@ def lengths_and_tables(state):
 def request(case):
     row = case.argument if case.call in ("activate", "row_limit") else 0
     picks = case.argument if case.call == "refresh" else []
-    other = case.argument if case.call == "agree" else State((0,) * 7, [], [], [0] * 4)
+    other = case.argument if case.call in PAIRS else State((0,) * 7, [], [], [0] * 4)
     lengths, tables = lengths_and_tables(case.state)
     lengths2, tables2 = lengths_and_tables(other)
     remap = case.remap if case.call in WITH_REMAP else [MARGIN] * 16
     hold = case.hold if case.call == "activate" else MARGIN
+    other_remap = case.other_remap if case.call == "agree" else [MARGIN] * 16
     return REQUEST.pack(
         CALLS.index(case.call), *case.state.settings, *case.state.position, row, *lengths,
         len(picks), *tables, *padded(picks, PICKS),
-        *other.settings, *other.position, *lengths2, *tables2, *remap, hold)
+        *other.settings, *other.position, *lengths2, *tables2, *remap, hold, *other_remap)
 
 
 def answer_line(case, answer):
@@ -167,7 +180,7 @@ def answer_line(case, answer):
         changed = any([*numbers[:length]] != before for (numbers, length), before in zip(lists, lent))
         return parts[0] + (" changed" if changed else "") + problem
     parts += [listed(numbers[:length]) for numbers, length in lists]
-    if case.call == "agree":
+    if case.call in PAIRS:
         other = case.argument
         parts += [listed(numbers) for numbers in (other.rows, other.counts, other.position)]
     return " ".join(parts) + problem
@@ -217,7 +230,7 @@ class Model:
 
 def kinds_of(case, answer):
     """What sorts of case this is; every sort of EXPECTED_KINDS has to occur."""
-    number, after = answered(case, answer)
+    number, after, _ = answered(case, answer)
     if case.kind:
         yield case.kind
     if number < 0:
@@ -235,10 +248,14 @@ def kinds_of(case, answer):
         yield from event_kinds(case)
     if case.call == "row_limit":
         yield from figure_kinds(case)
+    if case.call in PAIRS:
+        yield from agreement_kinds(case)
 
 
 def order_kinds(case, number):
-    """Before which other faults of the call this one decides."""
+    """Before which other faults of the call this one decides; agreement.py has its own kinds of these."""
+    if case.call in PAIRS:
+        return
     earned = {14: not is_accepted(case.remap)}
     if case.call == "activate":
         earned[15] = not is_accepted_hold(case.hold)
@@ -311,7 +328,7 @@ def event_kinds(case):
 
 ENDS = ("row 0", "the last row", "a subarray's first row", "a subarray's last row")
 EXPECTED_KINDS = (
-    *(f"{call} accepted{bank}" for call in ("set_up", "activate", "refresh", "agree")
+    *(f"{call} accepted{bank}" for call in ("set_up", "activate", "refresh")
       for bank in ("", ", large bank")),
     *(f"{call} accepted, remap: {name}" for call in WITH_REMAP
       for name in (*NAMES.values(), "another")),
@@ -320,7 +337,7 @@ EXPECTED_KINDS = (
     *(f"set_up: {k} before 14" for k in (1, 2, 3, 4, 5, 6, 7, 8)),
     *(f"activate: {k} before {later}" for place, later in enumerate(ORDER) if later > 10
       for k in ORDER[:place] if k != 10),
-    *(f"remap refused, {sort}: {call}" for sort in REFUSED for call in WITH_REMAP),
+    *(f"remap refused, {sort}: {call}" for sort in REFUSED for call in ("set_up", "activate", "row_limit")),
     "every remainder", "every number missing", "every hold", "ends of an interval",
     "above the interval", "part of a hold", "hold in parts and whole", "counts close to the most",
     *(f"behind units {where} the most" for where in ("close to", "that passed")),
@@ -329,18 +346,12 @@ EXPECTED_KINDS = (
     "activation: a count is carried past the most by a later unit",
     "activation: the spillover is carried past the most by a later disturbance",
     *(f"refresh refused with {k}" for k in (1, 2, 3, 4, 5, 6, 7, 8, 10, 21)),
-    *(f"agree refused with {k}" for k in (1, 2, 3, 4, 5, 6, 7, 8, 21)),
-    *(f"{call}: {rule}" for rule in BROKEN_RULES
-      for call in ("activate", "refresh", "agree, first", "agree, second")),
+    *(f"{call}: {rule}" for rule in BROKEN_RULES for call in ("activate", "refresh")),
     "set up on a broken state",
     *(f"{faults}: {call}" for faults in ("one fault", "several faults")
-      for call in ("set_up", "activate", "refresh", "agree")),
-    "several faults: agree, both settings",
-    "agree: same tables", "agree: tracked at the spillover on one side", "agree: other settings",
-    "agree: all rows tracked, other spillover", "disagree: other number of rows",
-    "disagree: one count", "disagree: spillover", "disagree: another row, alike in 16 bits",
+      for call in ("set_up", "activate", "refresh")),
     "set up of a run", "activation of a run", "event of a run", "agreement in a run",
-    "figure in a run", "fault in a run", "valid state",
+    "older agreement in a run", "figure in a run", "fault in a run", "valid state",
     *(f"activation {number} of an interval of 4" for number in (1, 4, 5)),
     "event in a full interval", "events of a whole window", "window of one event",
     "counts at the most", *(f"end of the bank, B {diameter}" for diameter in (2, 4)),
@@ -358,7 +369,7 @@ EXPECTED_KINDS = (
     "event: block empty", "event: fewer rows tracked than the volume", "event: no row tracked",
     "event: equal counts at the cut between picked and not", "event: tracked row in the block",
     "event: list longer than the volume",
-    *FIGURE_KINDS,
+    *AGREEMENT_KINDS, *TWIN_KINDS, *FIGURE_KINDS,
 )
 
 
@@ -388,13 +399,17 @@ def compare(tally, kinds, program, cases, name):
     answers = zip(cases, queries, model.finish_model(), library)
     for line, (case, text, wanted, answer) in enumerate(answers, 1):
         kinds.update(kinds_of(case, wanted))
-        number, after = answered(case, wanted)
+        number, after, named = answered(case, wanted)
         tally.check(case.number in (None, number),
                     f"{name} {line}: the model gives {number} in place of {case.number} "
                     f"({case.kind}): {short(text)}")
         if case.left:
             tally.check(case.left == after,
                         f"{name} {line}: the model leaves {after} in place of {case.left} "
+                        f"({case.kind}): {short(text)}")
+        if case.named is not None:
+            tally.check(case.named == named,
+                        f"{name} {line}: the model names {named} in place of {case.named} "
                         f"({case.kind}): {short(text)}")
         tally.check(answer == wanted,
                     f"{name} {line} ({case.kind}): {short(text)}\n"
@@ -416,10 +431,13 @@ def main():
     kinds = collections.Counter()
     check_written(tally, program)
     model = Model()
-    compare(tally, kinds, program, [*sweep_cases(), *figure_sweeps()], "sweeps")
+    sweeps = [*sweep_cases(), *agreement_sweeps(), *figure_sweeps()]
+    compare(tally, kinds, program, sweeps, "sweeps")
     for name, seed in (("fixed", FIXED_SEED), ("fresh", fresh_seed)):
         rng = random.Random(seed)
-        compare(tally, kinds, program, [*random_cases(rng, model), *random_figures(rng)], name)
+        cases = [*random_cases(rng, model), *random_agreements(rng), *random_twins(rng, model),
+                 *random_figures(rng)]
+        compare(tally, kinds, program, cases, name)
     model.close()
     tally.begin("how often each kind of call occurred")
     tally.check_kinds(kinds, EXPECTED_KINDS)

@@ -6,7 +6,7 @@ faults that it has. The tables that a case lends are any numbers, since the call
 
 import functools
 
-from cases import Case
+from cases import case
 from comparison import (
     BLOCK, COUNTERS, DIAMETER, INTERVAL, MAX_COUNTERS, MAX_ROWS, MAX_WINDOW, ROWS, U32, VOLUME,
     WINDOW, accepted_settings, changed, spread,
@@ -73,7 +73,7 @@ def figure(settings, row, events):
 def figure_case(settings, position, row, number, kind, remap=OURS, tables=((), ())):
     """The row is a logical one."""
     state = State(settings, *map(list, tables), list(position))
-    return Case(CALL, state, row, number, kind, remap, 1, None)
+    return case(CALL, state, row, number, kind, remap)
 
 
 def accepted_case(settings, row, events, kind, remap=OURS, rest=(0, 0, 0), tables=((), ())):

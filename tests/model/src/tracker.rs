@@ -1,4 +1,4 @@
-//! The calls of the library on lent tables: set up, activation, refresh event, agreement.
+//! The calls of the library on lent tables: set up, activation, refresh event, and both agreements.
 //! A refused call leaves the tables, the position and the picks as they came.
 
 use crate::hold::check_hold;
@@ -110,31 +110,63 @@ pub fn refresh(
     Ok((position, picked.len()))
 }
 
-/// Whether both banks have the same rows and every row has the same estimate in both summaries.
-#[allow(clippy::too_many_arguments)]
-pub fn agree(
-    settings1: &Settings,
-    rows1: &[u32],
-    counts1: &[u32],
-    position1: Position,
-    settings2: &Settings,
-    rows2: &[u32],
-    counts2: &[u32],
-    position2: Position,
-) -> Result<bool, Refusal> {
-    settings1.check()?;
-    settings2.check()?;
-    check_lengths(settings1, rows1, counts1)?;
-    check_lengths(settings2, rows2, counts2)?;
-    check_state(settings1, rows1, counts1, position1)?;
-    check_state(settings2, rows2, counts2, position2)?;
+/// What an agreement is told of one tracker besides its remap.
+#[derive(Clone, Copy, Debug)]
+pub struct Lent<'a> {
+    pub settings: &'a Settings,
+    pub rows: &'a [u32],
+    pub counts: &'a [u32],
+    pub position: Position,
+}
 
-    if settings1.rows != settings2.rows {
+/// 'Exactly at equal settings, fold and position and the same tracked rows with the same counts.'
+pub fn agree(first: Lent, remap1: &Remap, second: Lent, remap2: &Remap) -> Result<bool, Refusal> {
+    first.settings.check()?;
+    second.settings.check()?;
+    first.check_lengths()?;
+    second.check_lengths()?;
+    check_remap(remap1)?;
+    check_remap(remap2)?;
+    first.check_state()?;
+    second.check_state()?;
+
+    let same_settings = first.settings == second.settings;
+    let same_remap = remap1 == remap2;
+    let same_position = first.position == second.position;
+    let same_tracked = first.summary().entries == second.summary().entries;
+    Ok(same_settings && same_remap && same_position && same_tracked)
+}
+
+/// 'The older yes': both banks have the same rows and every row has the same estimate in both
+/// summaries.
+pub fn estimates_agree(first: Lent, second: Lent) -> Result<bool, Refusal> {
+    first.settings.check()?;
+    second.settings.check()?;
+    first.check_lengths()?;
+    second.check_lengths()?;
+    first.check_state()?;
+    second.check_state()?;
+
+    if first.settings.rows != second.settings.rows {
         return Ok(false);
     }
-    let summary1 = read(rows1, counts1, position1);
-    let summary2 = read(rows2, counts2, position2);
-    Ok((0..settings1.rows).all(|row| summary1.estimate(row) == summary2.estimate(row)))
+    let summary1 = first.summary();
+    let summary2 = second.summary();
+    Ok((0..first.settings.rows).all(|row| summary1.estimate(row) == summary2.estimate(row)))
+}
+
+impl Lent<'_> {
+    fn check_lengths(&self) -> Result<(), Refusal> {
+        check_lengths(self.settings, self.rows, self.counts)
+    }
+
+    fn check_state(&self) -> Result<(), Refusal> {
+        check_state(self.settings, self.rows, self.counts, self.position)
+    }
+
+    fn summary(&self) -> Summary {
+        read(self.rows, self.counts, self.position)
+    }
 }
 
 /// A row that is activated or refreshed disturbs each of its victims.

@@ -3,8 +3,9 @@
 //! A list is its length and its numbers, STATE is the seven settings and the lists of rows,
 //! counts and position (events, activations, tracked, spillover). Queries:
 //! `set_up STATE [remap REMAP]`, `activate STATE ROW HOLD [remap REMAP]`, `refresh STATE PICKS`,
-//! `agree STATE STATE`, and `row_limit` with the settings, the list of the position, `ROW` and
-//! `[remap REMAP]`. REMAP is 16 numbers, and where it is left out it is our own.
+//! `agree STATE STATE [remap REMAP REMAP]`, `estimates_agree STATE STATE`, and `row_limit` with the
+//! settings, the list of the position, `ROW` and `[remap REMAP]`. REMAP is 16 numbers, and where it
+//! is left out it is our own; of an agreement both are given, the first state's before the second's.
 //! The answer is the call's number and then every lent list as it is afterwards; `row_limit` is
 //! lent none.
 
@@ -12,7 +13,9 @@ use row_tracker_model::figure::row_limit;
 use row_tracker_model::refusal::Refusal;
 use row_tracker_model::remap::{Remap, OUR_REMAP};
 use row_tracker_model::settings::Settings;
-use row_tracker_model::tracker::{activate, agree, refresh, set_up, Position};
+use row_tracker_model::tracker::{
+    activate, agree, estimates_agree, refresh, set_up, Lent, Position,
+};
 
 use crate::numbers::Words;
 
@@ -60,16 +63,14 @@ pub fn answer(line: &str) -> Option<String> {
         }
         "agree" => {
             let other = State::read(&mut words)?;
-            let result = agree(
-                settings,
-                rows,
-                counts,
-                *position,
-                &other.settings,
-                &other.rows,
-                &other.counts,
-                other.position,
-            );
+            let (remap, other_remap) = read_remaps(&mut words)?;
+            let result = agree(state.lent(), &remap, other.lent(), &other_remap);
+            let number = signed(result.map(i64::from));
+            format!("{number}{}{}", state.lists(), other.lists())
+        }
+        "estimates_agree" => {
+            let other = State::read(&mut words)?;
+            let result = estimates_agree(state.lent(), other.lent());
             let number = signed(result.map(i64::from));
             format!("{number}{}{}", state.lists(), other.lists())
         }
@@ -80,12 +81,24 @@ pub fn answer(line: &str) -> Option<String> {
 
 /// The remap at the end of a query, or our own.
 fn read_remap(words: &mut Words) -> Option<Remap> {
-    let mut remap = OUR_REMAP;
     match words.word() {
-        None => return Some(remap),
-        Some("remap") => {}
-        Some(_) => return None,
+        None => Some(OUR_REMAP),
+        Some("remap") => read_numbers(words),
+        Some(_) => None,
     }
+}
+
+/// Both remaps at the end of a query, or our own twice.
+fn read_remaps(words: &mut Words) -> Option<(Remap, Remap)> {
+    match words.word() {
+        None => Some((OUR_REMAP, OUR_REMAP)),
+        Some("remap") => Some((read_numbers(words)?, read_numbers(words)?)),
+        Some(_) => None,
+    }
+}
+
+fn read_numbers(words: &mut Words) -> Option<Remap> {
+    let mut remap = OUR_REMAP;
     for number in &mut remap {
         *number = words.number()?;
     }
@@ -121,6 +134,15 @@ impl State {
             counts,
             position,
         })
+    }
+
+    fn lent(&self) -> Lent<'_> {
+        Lent {
+            settings: &self.settings,
+            rows: &self.rows,
+            counts: &self.counts,
+            position: self.position,
+        }
     }
 
     fn lists(&self) -> String {
