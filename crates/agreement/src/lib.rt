@@ -90,7 +90,11 @@ fn agreement_refusal(
     if !device::remap_allowed(remap2) {
         return 14;
     }
-    device::refuse_unless(both_valid(s, rows, counts, p, s2, rows2, counts2, p2), 21, 0)
+    device::refuse_unless(
+        both_valid(s, rows, counts, p, s2, rows2, counts2, p2),
+        21,
+        0,
+    )
 }
 
 // The refusal of `estimates_agree`, or 0.
@@ -110,7 +114,11 @@ fn estimates_refusal(
     if k != 0 {
         return k;
     }
-    device::refuse_unless(both_valid(s, rows, counts, p, s2, rows2, counts2, p2), 21, 0)
+    device::refuse_unless(
+        both_valid(s, rows, counts, p, s2, rows2, counts2, p2),
+        21,
+        0,
+    )
 }
 
 // Whether two trackers agree: the same settings, remap and position, and the same tracked rows with the same counts.

@@ -1,5 +1,6 @@
 -- The table of figures of single rows passes its test, by computing.
 use lib.Dec.{T}
+use Rattle.laws.specs.Same.{same}
 use Rattle.device.specs.Refusal.{first-failed, unless, refuse, tested}
 use Rattle.device.specs.Acceptance.{within, rows-allowed-to, diameter-allowed, block-allowed, settings-tests-with, settings-tests-to}
 use Rattle.device.specs.Remap.{own-remap, occurs-in, all-occur, remap-allowed, physical}
@@ -10,7 +11,7 @@ use Rattle.rowlimit.specs.Answers.{row-limit-tests, row-limit-answer, position-
 use Rattle.figures.specs.Table.{numbers, shown, traced}
 use Rattle.figures.specs.Remaps.{identity, reverse, doubled}
 use Rattle.figures.specs.ByRow.{row-figure-at, row-figure-under, at-four, by-block, by-window, by-large-window, by-refusal, by-row}
-use Rattle.figures.proofs.Tests.{same, every}
+use Rattle.figures.proofs.Tests.{every}
 
 pub by-row-pass : T (every by-row)
 unfolding

@@ -5,7 +5,8 @@ use Rattle.figures.specs.Spellings.{spellings}
 use Rattle.figures.specs.Remaps.{remaps}
 use Rattle.figures.specs.Holds.{holds}
 use Rattle.figures.specs.ByRow.{by-row}
-use Rattle.figures.specs.Claims.{Figures-hold, Edges-hold, Spellings-hold, Remaps-hold, Holds-hold, Rows-hold}
+use Rattle.figures.specs.Agreements.{agreements}
+use Rattle.figures.specs.Claims.{Figures-hold, Edges-hold, Spellings-hold, Remaps-hold, Holds-hold, Rows-hold, Agreements-hold}
 use Rattle.figures.proofs.Tests.{holds-every}
 use Rattle.figures.proofs.Table.{figures-pass}
 use Rattle.figures.proofs.Edges.{edges-pass}
@@ -13,6 +14,7 @@ use Rattle.figures.proofs.Spellings.{spellings-pass}
 use Rattle.figures.proofs.Remaps.{remaps-pass}
 use Rattle.figures.proofs.Holds.{holds-pass}
 use Rattle.figures.proofs.ByRow.{by-row-pass}
+use Rattle.figures.proofs.Agreements.{agreements-pass}
 
 pub figures-hold : Figures-hold
 unfolding Figures-hold
@@ -37,3 +39,7 @@ holds-hold = holds-every holds holds-pass
 pub rows-hold : Rows-hold
 unfolding Rows-hold
 rows-hold = holds-every by-row by-row-pass
+
+pub agreements-hold : Agreements-hold
+unfolding Agreements-hold
+agreements-hold = holds-every agreements agreements-pass

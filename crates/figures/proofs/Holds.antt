@@ -1,6 +1,7 @@
 -- The table of figures of rows held open passes its test, by computing.
 use mathlib.Core.Option.{bind}
 use lib.Dec.{T}
+use Rattle.laws.specs.Same.{same}
 use Rattle.device.specs.Refusal.{first-failed, unless, refuse, tested}
 use Rattle.device.specs.Acceptance.{within, rows-allowed-to, diameter-allowed, block-allowed, settings-tests-with, settings-tests-to}
 use Rattle.device.specs.Remap.{own-remap, occurs-in, all-occur, remap-allowed, physical}
@@ -29,7 +30,7 @@ use Rattle.figures.specs.Edges.{small, two-places, untracked, activation
 use Rattle.figures.specs.Spellings.{set, held, row, set-16, writing-figure, refused-figure}
 use Rattle.figures.specs.Remaps.{doubled}
 use Rattle.figures.specs.Holds.{longer, held-figure, hold-calls, holds-input, holds-output, held-input, held-output, hold-writing, holds}
-use Rattle.figures.proofs.Tests.{same, every}
+use Rattle.figures.proofs.Tests.{every}
 
 pub holds-pass : T (every holds)
 unfolding

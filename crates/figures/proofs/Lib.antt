@@ -6,4 +6,5 @@ pub mod Spellings
 pub mod Remaps
 pub mod Holds
 pub mod ByRow
+pub mod Agreements
 pub mod Claims

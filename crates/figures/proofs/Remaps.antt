@@ -1,6 +1,7 @@
 -- The table of figures of loaded remaps passes its test, by computing.
 use mathlib.Core.Option.{bind}
 use lib.Dec.{T}
+use Rattle.laws.specs.Same.{same}
 use Rattle.device.specs.Refusal.{first-failed, unless, refuse, tested}
 use Rattle.device.specs.Acceptance.{within, rows-allowed-to, diameter-allowed, block-allowed, settings-tests-with, settings-tests-to}
 use Rattle.device.specs.Remap.{own-remap, occurs-in, all-occur, remap-allowed, physical}
@@ -28,7 +29,7 @@ use Rattle.figures.specs.Table.{numbers, state-numbers, shown}
 use Rattle.figures.specs.Edges.{small, two-places, untracked, refusal-of, set-up-numbers, activation-numbers, set-up-under, held-under, activation-under, wide, fresh}
 use Rattle.figures.specs.Spellings.{set, held, row, writing-figure, refused-figure}
 use Rattle.figures.specs.Remaps.{identity, reverse, rotated, doubled, too-high, set-up-with, activation-with, at-an-edge, remap-calls, loaded-input, loaded-output, remap, reverse-line, remap-writing, remaps}
-use Rattle.figures.proofs.Tests.{same, every}
+use Rattle.figures.proofs.Tests.{every}
 
 pub remaps-pass : T (every remaps)
 unfolding

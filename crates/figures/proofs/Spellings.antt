@@ -1,6 +1,7 @@
 -- The table of the writer's figures passes its test, by computing.
 use mathlib.Core.Option.{bind}
 use lib.Dec.{T}
+use Rattle.laws.specs.Same.{same}
 use Rattle.device.specs.Refusal.{first-failed, unless, refuse}
 use Rattle.device.specs.Acceptance.{within, rows-allowed-to, diameter-allowed, block-allowed, settings-tests-with, settings-tests-to}
 use Rattle.device.specs.Hold.{hold-allowed}
@@ -15,7 +16,7 @@ use Rattle.trace.specs.Writing.{standing-behind, activation-fault, event-fault,
 use Rattle.bound.specs.Answers.{settings-of}
 use Rattle.figures.specs.Table.{numbers, shown}
 use Rattle.figures.specs.Spellings.{respelled-input, respelled-output, set, held, row, event, blank, set-16, writing-figure, refused-figure, spellings}
-use Rattle.figures.proofs.Tests.{same, every}
+use Rattle.figures.proofs.Tests.{every}
 
 pub spellings-pass : T (every spellings)
 unfolding

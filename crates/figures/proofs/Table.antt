@@ -1,6 +1,7 @@
 -- The table of document 01's figures passes its test, by computing.
 use mathlib.Core.Option.{bind}
 use lib.Dec.{T}
+use Rattle.laws.specs.Same.{same}
 use Rattle.device.specs.Refusal.{first-failed, unless, refuse, tested}
 use Rattle.device.specs.Acceptance.{within, rows-allowed-to, diameter-allowed, block-allowed, settings-tests-with, settings-tests-to, settings-tests-but-counters-to}
 use Rattle.device.specs.Remap.{own-remap, occurs-in, all-occur, remap-allowed, physical}
@@ -25,7 +26,7 @@ use Rattle.bound.specs.Totals.{size, total, disturbers, bound-at, bound-of}
 use Rattle.bound.specs.Least.{with-counters, meets, or-else, first-from, least-of}
 use Rattle.bound.specs.Answers.{bound-answer-to, least-answer-to, settings-of}
 use Rattle.figures.specs.Table.{numbers, remap-figure, bound-figure, least-figure, position-of, begun, state-numbers, traced, line-4, line-5, line-6, activations, trace-input, trace-output, shown, figures}
-use Rattle.figures.proofs.Tests.{same, every}
+use Rattle.figures.proofs.Tests.{every}
 
 pub figures-pass : T (every figures)
 unfolding

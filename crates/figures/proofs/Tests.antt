@@ -4,25 +4,19 @@ use mathlib.Core.Bool.{Bool, true, false, _&&_}
 use mathlib.Core.Logic.{⊎-elim}
 use mathlib.Core.List.{List, [], _∷_, List·Memᴰ·not-nil, List·Memᴰ·cases-cons}
 use Prim.Native.Nat.{ℕ}
-use lib.Dec.{T, eqb, eqb→eq}
+use lib.Dec.{T}
+use Rattle.laws.specs.Same.{same}
 use Rattle.laws.proofs.Every.{both-left, both-right}
+use Rattle.laws.proofs.Same.{same-alike}
 use Rattle.figures.specs.Table.{Figure}
 use Rattle.figures.specs.Claims.{Table-holds}
 
--- two lists of numbers are the same
-unfoldable pub same : List ℕ → List ℕ → Bool
-same [] [] = true
-same [] (y ∷ ys) = false
-same (x ∷ xs) [] = false
-same (x ∷ xs) (y ∷ ys) = eqb x y && same xs ys
-
 same-equal : (xs ys : List ℕ) → T (same xs ys) → xs ≡ ys
-unfolding same
-same-equal [] [] t = refl
-same-equal [] (y ∷ ys) t = absurd t
-same-equal (x ∷ xs) [] t = absurd t
-same-equal (x ∷ xs) (y ∷ ys) t =
-    rw (eqb→eq x y (both-left (eqb x y) (same xs ys) t), same-equal xs ys (both-right (eqb x y) (same xs ys) t))
+same-equal xs ys t = same-alike xs ys (passed (same xs ys) t)
+  where
+    passed : (b : Bool) → T b → b ≡ true
+    passed true t = refl
+    passed false t = absurd t
 
 -- the test of a whole table: each of its figures is what the definitions give
 unfoldable pub every : List Figure → Bool

@@ -7,6 +7,7 @@ use Rattle.figures.specs.Spellings.{spellings}
 use Rattle.figures.specs.Remaps.{remaps}
 use Rattle.figures.specs.Holds.{holds}
 use Rattle.figures.specs.ByRow.{by-row}
+use Rattle.figures.specs.Agreements.{agreements}
 
 -- every figure of a table is what the definitions give
 unfoldable pub Table-holds : List Figure → Type 0
@@ -35,3 +36,7 @@ Holds-hold = Table-holds holds
 -- and those of single rows
 unfoldable pub Rows-hold : Type 0
 Rows-hold = Table-holds by-row
+
+-- and those of agreement
+unfoldable pub Agreements-hold : Type 0
+Agreements-hold = Table-holds agreements

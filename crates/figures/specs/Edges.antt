@@ -1,14 +1,13 @@
 -- Edges of the tracker's calls, those of 'Edge figures' that bear no * among them, those of subarrays and those of large banks: what follows by hand,
 -- and what the definitions give.
 use Prim.Native.Nat.{ℕ}
-use mathlib.Core.Bool.{Bool, cond}
 use mathlib.Core.List.{List, [], _∷_, _++_}
 use Rattle.device.specs.declared.Settings.{Settings}
 use Rattle.device.specs.Refusal.{Outcome, accepted, refused}
 use Rattle.device.specs.Remap.{own-remap}
 use Rattle.summary.specs.Steps.{empty}
 use Rattle.tracker.specs.State.{State, state-of}
-use Rattle.tracker.specs.Calls.{SetUp-call, Activation-call, Refresh-call, set-up, activation-on, refresh-on, agreement-of}
+use Rattle.tracker.specs.Calls.{SetUp-call, Activation-call, Refresh-call, set-up, activation-on, refresh-on}
 use Rattle.bound.specs.Answers.{settings-of}
 use Rattle.figures.specs.Table.{Figure, shown, state-numbers}
 
@@ -50,11 +49,6 @@ activation-numbers u = u .refusal ∷ state-numbers (u .state)
 unfoldable pub event-numbers : Refresh-call → List ℕ
 event-numbers u = u .refusal ∷ u .count ∷ u .picks ++ state-numbers (u .state)
 
--- 'agreement' as numbers: the refusal, and 1 where the two agree
-unfoldable pub agreement-numbers : Outcome Bool → List ℕ
-agreement-numbers (accepted same) = 0 ∷ cond same 1 0 ∷ []
-agreement-numbers (refused k) = k ∷ []
-
 -- setting up with a remap on tables that hold 7, and with our own
 unfoldable pub set-up-under : List ℕ → Settings → List ℕ → Figure
 set-up-under remap s given = shown given (set-up-numbers (set-up s remap (7 ∷ 7 ∷ []) (7 ∷ 7 ∷ [])))
@@ -75,10 +69,6 @@ activation-figure s st row given = activation-under own-remap s st row given
 -- an event with a list of two places that hold 7
 unfoldable pub event-figure : Settings → State → List ℕ → Figure
 event-figure s st given = shown given (event-numbers (refresh-on s st (7 ∷ 7 ∷ [])))
-
--- the summary of a fresh tracker with the settings 16 2 1 2 4 4 4 beside another
-unfoldable pub agreement-figure : Settings → State → List ℕ → Figure
-agreement-figure s st given = shown given (agreement-numbers (agreement-of (small 2 1) (untracked 0 0) s st))
 
 -- 'C = V accepted, V − 1 refused', and N = 16, the least
 unfoldable pub set-up-edges : List Figure
@@ -114,16 +104,6 @@ event-edges =
     event-figure (whole 1) (untracked 0 0) (0 ∷ 0 ∷ 7 ∷ 7 ∷ 13 ∷ 15 ∷ 10 ∷ 10 ∷ 0 ∷ 0 ∷ 2 ∷ 10 ∷ []) ∷
     event-figure (small 2 1) (untracked 2 0) (0 ∷ 0 ∷ 7 ∷ 7 ∷ 10 ∷ 12 ∷ 3 ∷ 3 ∷ 3 ∷ 0 ∷ 2 ∷ 2 ∷ []) ∷
     event-figure (small 2 1) (two-places 0 2 1 1 3 1 2) (0 ∷ 1 ∷ 0 ∷ 7 ∷ 14 ∷ 15 ∷ 3 ∷ 3 ∷ 0 ∷ 0 ∷ 2 ∷ 2 ∷ []) ∷ []
-
--- two fresh summaries; another N; a row tracked in the second alone; the second's settings, tables and position refused
-unfoldable pub agreement-edges : List Figure
-agreement-edges =
-    agreement-figure (small 2 1) (untracked 0 0) (0 ∷ 1 ∷ []) ∷
-    agreement-figure (settings-of 32 2 1 2 4 4 8) (untracked 0 0) (0 ∷ 0 ∷ []) ∷
-    agreement-figure (small 2 1) (two-places 1 0 1 0 0 1 1) (0 ∷ 0 ∷ []) ∷
-    agreement-figure (small 3 1) (untracked 0 0) (2 ∷ []) ∷
-    agreement-figure (settings-of 16 2 1 3 4 4 4) (untracked 0 0) (8 ∷ []) ∷
-    agreement-figure (small 2 1) (untracked 4 0) (21 ∷ []) ∷ []
 
 -- the settings N B 1 4 4 64 16, for banks of several subarrays
 unfoldable pub wide : ℕ → ℕ → Settings
@@ -198,4 +178,4 @@ large-edges =
 
 -- all of them; tests/calls/edges.calls runs the same, and more
 unfoldable pub edges : List Figure
-edges = set-up-edges ++ activation-edges ++ event-edges ++ agreement-edges ++ subarray-edges ++ large-edges
+edges = set-up-edges ++ activation-edges ++ event-edges ++ subarray-edges ++ large-edges

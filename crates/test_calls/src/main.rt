@@ -1,11 +1,11 @@
 // Answers calls of the tracker from standard input, one answer for each whole request, for tests/calls/compare.py,
 // which has the layout of both. All numbers are words of four bytes, the lowest first.
+use agreement::Agreement;
 use bound::Answer;
 use device::Settings;
 use libc::STDIN_FILENO;
 use libc::STDOUT_FILENO;
 use tracker::Activation;
-use tracker::Agreement;
 use tracker::Position;
 use tracker::Refreshed;
 use tracker::SetUp;
@@ -175,7 +175,15 @@ fn call_refresh(
     }
 }
 
-// Agreement with the second state, whose tables are lent here.
+// The answer's head for a yes, a no or a refusal.
+fn put_agreement(answer: &mut [u8], r: Agreement, p: Position) {
+    match r {
+        Agreement::Same(is_same) => put_head(answer, 0, if is_same { 1 } else { 0 }, p),
+        Agreement::Refused(k) => put_head(answer, k, 0, p),
+    }
+}
+
+// Both calls that compare with the second state, whose tables are lent here.
 fn call_agree_with(
     request: &[u8],
     rows: &[u32],
@@ -185,13 +193,17 @@ fn call_agree_with(
     answer: &mut [u8],
 ) {
     let s = settings_at(request, 1);
+    let remap = remap_at(request, 317);
     let p = position_at(request, 8);
     let s2 = settings_at(request, 176);
+    let remap2 = remap_at(request, 334);
     let p2 = position_at(request, 183);
-    let r = tracker::agree(s, rows, counts, p, s2, rows2, counts2, p2);
-    match r {
-        Agreement::Same(is_same) => put_head(answer, 0, if is_same { 1 } else { 0 }, p),
-        Agreement::Refused(k) => put_head(answer, k, 0, p),
+    if word(request, 0, 0) == 3 {
+        let r = agreement::agree(s, remap, rows, counts, p, s2, remap2, rows2, counts2, p2);
+        put_agreement(answer, r, p);
+    } else {
+        let r = agreement::estimates_agree(s, rows, counts, p, s2, rows2, counts2, p2);
+        put_agreement(answer, r, p);
     }
 }
 
@@ -226,7 +238,7 @@ fn call_row_limit(request: &[u8], answer: &mut [u8]) {
     }
 }
 
-// Makes the call that the request names; one that is none of the five is taken as that for a row's figure.
+// Makes the call that the request names; one that is none of the six is taken as that for a row's figure.
 fn call(
     request: &[u8],
     rows: &mut [u32],
@@ -241,7 +253,7 @@ fn call(
         call_activate(request, rows, counts, answer);
     } else if op == 2 {
         call_refresh(request, rows, counts, picks, answer);
-    } else if op == 3 {
+    } else if op == 3 || op == 5 {
         call_agree(request, rows, counts, answer);
     } else {
         call_row_limit(request, answer);
@@ -284,10 +296,10 @@ fn serve(request: &[u8], answer: &mut [u8]) {
 
 // Reads one request and writes its answer; whether there was a whole one.
 fn serve_next() -> bool {
-    let mut request = [0u8; 1336];
+    let mut request = [0u8; 1400];
     let mut answer = [0u8; 664];
     let got = io::read_full(STDIN_FILENO, &mut request);
-    if got < 1336 {
+    if got < 1400 {
         return false;
     }
     serve(&request, &mut answer);

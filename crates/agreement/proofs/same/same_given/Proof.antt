@@ -8,7 +8,7 @@ use Rattle.agreement.proofs.same.same_given.Tie as tie
 
 returns : tie.Need-returns
 returns c =
-    rw (sym (c .before .before .before .before .same-settings .ensures) ∙ c .before .before .before .if1 .taken) 
+    rw (sym (c .before .before .before .before .same-settings .ensures) ∙ c .before .before .before .if1 .taken)
     (rw (take-all 16 (c .before .before .before .before .before .args .t2) (omega arith), take-all 16 (c .before .before .before .before .before .args .t4) (omega arith)) at (c .same-front .ensures))
 
 returns-2 : tie.Need-returns-2
