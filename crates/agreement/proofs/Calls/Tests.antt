@@ -2,7 +2,9 @@
 use mathlib.Core.Path.{_≡_, sym, _∙_}
 use mathlib.Core.Bool.{true, not, _&&_}
 use mathlib.Core.List.{List, [], _∷_, _++_, append-assoc}
-use Prim.Native.Nat.{ℕ}
+use Prim.Native.Nat.{ℕ, _≤_}
+use native.Mathlib.Omega.{arith}
+use lib.ListN.{length}
 use Rattle.laws.proofs.Cases.{and-both}
 use Rattle.device.specs.declared.Settings.{Settings}
 use Rattle.device.specs.Refusal.{Test, unless, refuse, first-failed}
@@ -10,7 +12,10 @@ use Rattle.device.specs.Acceptance.{settings-tests}
 use Rattle.device.specs.Remap.{remap-allowed}
 use Rattle.device.proofs.Refusal.{or-later, or-later-assoc, or-later-zero, or-later-none, refuse-passed}
 use Rattle.device.proofs.Acceptance.{settings-then}
-use Rattle.tracker.specs.State.{State, valid}
+use Rattle.summary.specs.Contracts.{Holds}
+use Rattle.summary.specs.Tables.{read}
+use Rattle.summary.proofs.Contracts.Holds.{long-rows, long-counts}
+use Rattle.tracker.specs.State.{State, summary-of, valid}
 use Rattle.tracker.specs.Calls.{tables-long}
 use Rattle.tracker.proofs.States.Valid.{Facts, valid-facts}
 use Rattle.tracker.proofs.Calls.Tests.{later-test}
@@ -85,3 +90,15 @@ compared s st s′ st′ p =
     let longs = and-both _ _ (tables-passed s (st .rows) (st .counts) s′ (st′ .rows) (st′ .counts) (p .tables)) in
     let valids = and-both (valid s st) (valid s′ st′) (p .sound) in
     record { first = valid-facts s st (longs .0) (valids .0); second = valid-facts s′ st′ (longs .1) (valids .1) }
+
+-- tables of a valid state, with their own length for the number of places
+pub holds-own-length : {s : Settings} {st : State} → Facts s st → Holds (length (st .rows)) (s .rows) (read (st .rows) (st .counts) (st .position .tracked) (st .position .spillover)) (st .rows) (st .counts) (st .position .tracked) (st .position .spillover)
+unfolding summary-of
+holds-own-length f = rw (long-rows (f .holds)) (f .holds)
+
+-- the tracked rows have places in both tables
+pub tracked-rows : {s : Settings} {st : State} → Facts s st → st .position .tracked ≤ length (st .rows)
+tracked-rows f = omega (arith, f .holds .tracked-is, f .holds .sound .fits, long-rows (f .holds))
+
+pub tracked-counts : {s : Settings} {st : State} → Facts s st → st .position .tracked ≤ length (st .counts)
+tracked-counts f = omega (arith, f .holds .tracked-is, f .holds .sound .fits, long-counts (f .holds))

@@ -1,7 +1,6 @@
 -- `agreement::agree` meets its contract.
 use mathlib.Core.Path.{_≡_, sym, _∙_}
 use mathlib.Core.Bool.{true, _&&_}
-use native.Mathlib.Omega.{arith}
 use borrow.Author.Needs.{needs}
 use borrow.Author.Tests.{not-true, not-false}
 use Rattle.laws.specs.Same.{same}
@@ -9,8 +8,9 @@ use Rattle.device.specs.Refusal.{first-failed}
 use Rattle.tracker.specs.Answers.{given}
 use Rattle.agreement.specs.Calls.{same-settings, same-position, same-tracked, agreement-tests}
 use Rattle.agreement.specs.Answers.{agreement-outcome}
-use Rattle.agreement.proofs.Calls.Tests.{agreement-passed, compared}
-use Rattle.agreement.proofs.Calls.Outcomes.{agreement-refused, agreement-given-differs, agreement-position-differs, agreement-tracked, same-position-tracked, tracked-rows, tracked-counts}
+use Rattle.agreement.proofs.Calls.Tests.{agreement-passed, compared, tracked-rows, tracked-counts}
+use Rattle.agreement.proofs.Calls.Outcomes.{agreement-refused, agreement-given-differs, agreement-position-differs, agreement-tracked}
+use Rattle.agreement.proofs.Alike.{same-position-alike}
 use Rattle.agreement.proofs.agree.Statement.{statement}
 use Rattle.agreement.proofs.agree.Tie as tie
 
@@ -49,7 +49,7 @@ same-tracked-requires c κs =
     let a = c .before .before .before .before .before .before .before .before .before .before .before .args in
     let st = given (a .rows .now) (a .counts .now) (a .p) in
     let st′ = given (a .rows2 .now) (a .counts2 .now) (a .p2) in
-    let same : a .p .tracked ≡ a .p2 .tracked = same-position-tracked (a .p) (a .p2) (placed (c .before)) in
+    let same : a .p .tracked ≡ a .p2 .tracked = (λ i. same-position-alike (a .p) (a .p2) (placed (c .before)) i .tracked) in
     let both = compared (a .s) st (a .s2) st′ (agreement-passed (a .s) st (a .s2) st′ (a .remap) (a .remap2) (accepts (c .before .before .before .before .before))) in
     (tracked-rows (both .first), tracked-counts (both .first), rw same (tracked-rows (both .second)), rw same (tracked-counts (both .second)))
 
@@ -57,7 +57,8 @@ returns-4 : tie.Need-returns-4
 unfolding agreement-outcome given same-tracked
 returns-4 c =
     let a = c .before .before .before .before .before .before .before .before .before .before .before .before .args in
-    agreement-tracked (a .s) (a .remap) (given (a .rows .now) (a .counts .now) (a .p)) (a .s2) (a .remap2) (given (a .rows2 .now) (a .counts2 .now) (a .p2)) (accepts (c .before .before .before .before .before .before)) (alike (c .before .before .before .before)) (placed (c .before .before)) (rw (← same-position-tracked (a .p) (a .p2) (placed (c .before .before))) (c .same-tracked .ensures))
+    let same : a .p .tracked ≡ a .p2 .tracked = (λ i. same-position-alike (a .p) (a .p2) (placed (c .before .before)) i .tracked) in
+    agreement-tracked (a .s) (a .remap) (given (a .rows .now) (a .counts .now) (a .p)) (a .s2) (a .remap2) (given (a .rows2 .now) (a .counts2 .now) (a .p2)) (accepts (c .before .before .before .before .before .before)) (alike (c .before .before .before .before)) (placed (c .before .before)) (rw (← same) (c .same-tracked .ensures))
 
 pub agree-spec : {M : Type 1} → statement M
 agree-spec =

@@ -4,8 +4,8 @@ use borrow.Author.Needs.{needs}
 use Rattle.tracker.specs.State.{summary-of}
 use Rattle.tracker.specs.Answers.{given}
 use Rattle.agreement.specs.Answers.{agreement-outcome}
-use Rattle.agreement.proofs.Calls.Tests.{estimates-passed, compared}
-use Rattle.agreement.proofs.Calls.Outcomes.{estimates-refused, estimates-differ, estimates-alike, holds-own-length}
+use Rattle.agreement.proofs.Calls.Tests.{estimates-passed, compared, holds-own-length}
+use Rattle.agreement.proofs.Calls.Outcomes.{estimates-refused, estimates-differ, estimates-alike}
 use Rattle.agreement.proofs.estimates_agree.Statement.{statement}
 use Rattle.agreement.proofs.estimates_agree.Tie as tie
 
