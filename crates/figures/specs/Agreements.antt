@@ -9,7 +9,7 @@ use Rattle.tracker.specs.State.{State}
 use Rattle.agreement.specs.Calls.{agreement-of, estimates-of}
 use Rattle.bound.specs.Answers.{settings-of}
 use Rattle.figures.specs.Table.{Figure, shown}
-use Rattle.figures.specs.Edges.{small, two-places, untracked}
+use Rattle.figures.specs.Edges.{small, two-places, untracked, event-figure}
 use Rattle.figures.specs.Remaps.{identity, doubled}
 
 -- tables of one place, no row tracked, after so many events and activations
@@ -72,5 +72,22 @@ refused-figures =
     agreement-between (small 2 1) own-remap (untracked 4 0) (small 2 1) doubled (untracked 0 0) (14 ∷ []) (21 ∷ []) ∷
     agreement-between (small 2 1) own-remap (untracked 4 0) (small 2 1) own-remap (untracked 0 0) (21 ∷ []) (21 ∷ []) ∷ []
 
+-- a bank of 16 rows whose block, behind the first event, is empty; so many rows tracked, one or none, and a spillover of 3
+unfoldable pub beside-spill : ℕ → ℕ → ℕ → State
+beside-spill row count tracked =
+    record {
+      rows = row ∷ 0 ∷ [];
+      counts = count ∷ 0 ∷ [];
+      position = record { events = 1; activations = 1; tracked = tracked; spillover = 3 };
+    }
+
+-- 'one of them tracked a row whose count equalled the spill': row 9, which its event names, and the other's names none
+unfoldable pub parting-figures : List Figure
+parting-figures =
+    let s = settings-of 16 2 2 2 4 4 16 in
+    agreement-between s own-remap (beside-spill 9 3 1) s own-remap (beside-spill 0 0 0) (0 ∷ 0 ∷ []) (0 ∷ 1 ∷ []) ∷
+    event-figure s (beside-spill 9 3 1) (0 ∷ 1 ∷ 9 ∷ 7 ∷ 8 ∷ 10 ∷ 4 ∷ 4 ∷ 2 ∷ 0 ∷ 2 ∷ 3 ∷ []) ∷
+    event-figure s (beside-spill 0 0 0) (0 ∷ 0 ∷ 7 ∷ 7 ∷ 0 ∷ 0 ∷ 0 ∷ 0 ∷ 2 ∷ 0 ∷ 0 ∷ 3 ∷ []) ∷ []
+
 unfoldable pub agreements : List Figure
-agreements = compared-figures ++ refused-figures
+agreements = compared-figures ++ refused-figures ++ parting-figures
