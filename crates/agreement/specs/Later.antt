@@ -27,7 +27,7 @@ pub data Call : Type 0 where
   activation-by : Brought → ℕ → ℕ → Call
   refresh-by : Brought → List ℕ → Call
 
--- its answer, with all that it leaves: 'accepted or refused with which number', the number and rows picked, position, tables and list
+-- its answer, with all that it leaves: accepted or refused and with which number, the number and rows picked, position, tables and list
 pub data Answer : Type 0 where
   set-up-answer : SetUp-call → Answer
   activation-answer : Activation-call → Answer

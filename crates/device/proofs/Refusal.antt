@@ -61,6 +61,13 @@ unfolding or-later
 or-later-assoc zero l later = refl
 or-later-assoc (suc k) l later = refl
 
+-- a test between others, taken as the last of those before
+pub later-test : (k : ℕ) (allowed : Bool) (number later : ℕ) → or-later k (refuse (not allowed) (suc number) later) ≡ or-later (or-later k (refuse (not allowed) (suc number) 0)) later
+unfolding or-later refuse
+later-test zero true number later = refl
+later-test zero false number later = refl
+later-test (suc k) allowed number later = refl
+
 pub later-refuse : (failed : Bool) (k l later : ℕ) → or-later (refuse failed (suc k) l) later ≡ refuse failed (suc k) (or-later l later)
 unfolding refuse or-later
 later-refuse true k l later = refl

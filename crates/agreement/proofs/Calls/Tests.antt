@@ -10,7 +10,7 @@ use Rattle.device.specs.declared.Settings.{Settings}
 use Rattle.device.specs.Refusal.{Test, unless, refuse, first-failed}
 use Rattle.device.specs.Acceptance.{settings-tests}
 use Rattle.device.specs.Remap.{remap-allowed}
-use Rattle.device.proofs.Refusal.{or-later, or-later-assoc, or-later-zero, or-later-none, refuse-passed}
+use Rattle.device.proofs.Refusal.{or-later, or-later-assoc, or-later-zero, or-later-none, later-test, refuse-passed}
 use Rattle.device.proofs.Acceptance.{settings-then}
 use Rattle.summary.specs.Contracts.{Holds}
 use Rattle.summary.specs.Tables.{read}
@@ -18,7 +18,6 @@ use Rattle.summary.proofs.Contracts.Holds.{long-rows, long-counts}
 use Rattle.tracker.specs.State.{State, summary-of, valid}
 use Rattle.tracker.specs.Calls.{tables-long}
 use Rattle.tracker.proofs.States.Valid.{Facts, valid-facts}
-use Rattle.tracker.proofs.Calls.Tests.{later-test}
 use Rattle.agreement.specs.Calls.{agreement-tests-to, agreement-tests, estimates-tests-to, estimates-tests}
 use Rattle.agreement.specs.Contracts.{both-tables-tests}
 

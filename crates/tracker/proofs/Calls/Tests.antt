@@ -1,8 +1,8 @@
 -- The tests of each call, in their order: which refusal comes first.
-use mathlib.Core.Path.{_≡_, refl}
-use mathlib.Core.Bool.{Bool, true, false, not}
+use mathlib.Core.Path.{_≡_}
+use mathlib.Core.Bool.{not}
 use mathlib.Core.List.{List, [], _∷_, _++_}
-use Prim.Native.Nat.{ℕ, zero, suc, _+_}
+use Prim.Native.Nat.{ℕ, _+_}
 use lib.Dec.{ltb, leb}
 use lib.ListN.{length}
 use Rattle.device.specs.declared.Settings.{Settings}
@@ -10,17 +10,11 @@ use Rattle.device.specs.Refusal.{Test, unless, refuse, first-failed}
 use Rattle.device.specs.Acceptance.{settings-tests}
 use Rattle.device.specs.Remap.{remap-allowed}
 use Rattle.device.specs.Hold.{hold-allowed}
-use Rattle.device.proofs.Refusal.{or-later}
+use Rattle.device.proofs.Refusal.{or-later, later-test}
 use Rattle.device.proofs.Acceptance.{settings-then}
 use Rattle.tracker.specs.State.{State, valid}
 use Rattle.tracker.specs.Calls.{tables-long, set-up-tests-to, set-up-tests, activation-tests-to, activation-tests, refresh-tests-to, refresh-tests}
 use Rattle.tracker.specs.Contracts.{tables-tests}
-
-pub later-test : (k : ℕ) (allowed : Bool) (number later : ℕ) → or-later k (refuse (not allowed) (suc number) later) ≡ or-later (or-later k (refuse (not allowed) (suc number) 0)) later
-unfolding or-later refuse
-later-test zero true number later = refl
-later-test zero false number later = refl
-later-test (suc k) allowed number later = refl
 
 -- what stands behind the tests of settings and tables
 behind-tables : (s : Settings) (rows counts : List ℕ) (later : List Test) → first-failed (settings-tests s ++ unless (tables-long s rows counts) 8 ∷ later) ≡ or-later (first-failed (tables-tests s rows counts)) (first-failed later)
