@@ -8,7 +8,7 @@ use Rattle.device.proofs.Acceptance.{settings-alike, above-then}
 use Rattle.summary.specs.Steps.{estimate}
 use Rattle.tracker.specs.State.{summary-of}
 use Rattle.agreement.specs.Calls.{agreement-tests-to, agreement-to, estimates-tests-to, same-estimates, estimates-to}
-use Rattle.agreement.specs.Later.{answers}
+use Rattle.agreement.specs.Later.{answers, memory-behind}
 use Rattle.agreement.specs.Claims.{Agree-exactly, Same-memory, For-ever-after, For-ever-after-of-answers, Finer, Older-not-enough, Agreements-stay}
 use Rattle.agreement.proofs.Calls.Tests.{agreement-passed, passed-estimates}
 use Rattle.agreement.proofs.Calls.Outcomes.{estimates-alike}
@@ -34,12 +34,12 @@ pub for-ever-after : For-ever-after
 unfolding For-ever-after
 for-ever-after s remap st s′ remap′ st′ agreed calls =
     let k = agreed-equal s remap st s′ remap′ st′ agreed in
-    λ i. answers (k .settings i) (k .remaps i) (k .states i) calls
+    ((λ i. answers (k .settings i) (k .remaps i) (k .states i) calls), (λ i. memory-behind (k .settings i) (k .remaps i) (k .states i) calls))
 
 pub for-ever-after-of-answers : For-ever-after-of-answers
 unfolding For-ever-after-of-answers For-ever-after
 for-ever-after-of-answers s remap st s′ remap′ st′ r meets agreed calls came came′ a a′ =
-    answered-alike a a′ (for-ever-after s remap st s′ remap′ st′ (sym meets ∙ agreed) calls)
+    answered-alike a a′ (for-ever-after s remap st s′ remap′ st′ (sym meets ∙ agreed) calls .0)
 
 pub finer : Finer
 unfolding Finer same-estimates

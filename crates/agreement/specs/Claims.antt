@@ -11,7 +11,7 @@ use Rattle.tracker.specs.State.{State, summary-of}
 use Rattle.agreement.specs.declared.Agreement.{Agreement}
 use Rattle.agreement.specs.Calls.{agreement-tests, agreement-to, estimates-to, agreement-of, estimates-of}
 use Rattle.agreement.specs.Answers.{agreement-outcome}
-use Rattle.agreement.specs.Later.{Call, answers}
+use Rattle.agreement.specs.Later.{Call, answers, memory-behind}
 use Rattle.agreement.specs.Answered.{Came, Answered}
 use Rattle.agreement.specs.Example.{one-counter, once-activated, event-after}
 
@@ -31,12 +31,14 @@ Same-memory =
     (s : Settings) (remap : List ℕ) (st : State) (s′ : Settings) (remap′ : List ℕ) (st′ : State) →
     agreement-of s remap st s′ remap′ st′ ≡ accepted true → st ≡ st′
 
--- 'trackers that agree in this sense give equal answers to the same calls for ever after, each call being given the memory that the one before left'
+-- 'trackers that agree in this sense give equal answers to the same calls for ever after, each call being given the memory that the one before left'; and
+-- the memory behind the calls is the same, so that a call that only looks at it answers alike too
 unfoldable pub For-ever-after : Type 0
 For-ever-after =
     (s : Settings) (remap : List ℕ) (st : State) (s′ : Settings) (remap′ : List ℕ) (st′ : State) →
     agreement-of s remap st s′ remap′ st′ ≡ accepted true →
-    (calls : List Call) → answers s remap st calls ≡ answers s′ remap′ st′ calls
+    (calls : List Call) →
+    (answers s remap st calls ≡ answers s′ remap′ st′ calls) × (memory-behind s remap st calls ≡ memory-behind s′ remap′ st′ calls)
 
 -- the same of the library: where `agree` answered yes, any answers to the same calls that meet their contracts are equal, with all that they left
 unfoldable pub For-ever-after-of-answers : Type 0
@@ -51,9 +53,11 @@ Finer =
     (s : Settings) (remap : List ℕ) (st : State) (s′ : Settings) (remap′ : List ℕ) (st′ : State) →
     agreement-of s remap st s′ remap′ st′ ≡ accepted true → estimates-of s st s′ st′ ≡ accepted true
 
--- but not the other way round: 'two summaries agreed on every estimate and then named different rows'. After row 5, row 4 is named; after row 9, row 8
+-- but not the other way round: 'two summaries agreed on every estimate and then named different rows', at the same position. After row 5, row 4 is named;
+-- after row 9, row 8
 unfoldable pub Older-not-enough : Type 0
 Older-not-enough =
+    (once-activated 5 .position ≡ once-activated 9 .position) ×
     (estimates-of one-counter (once-activated 5) one-counter (once-activated 9) ≡ accepted true) ×
     (agreement-of one-counter own-remap (once-activated 5) one-counter own-remap (once-activated 9) ≡ accepted false) ×
     (event-after 5 .accepts ≡ true) × (event-after 5 .count ≡ 1) × (event-after 5 .picks ≡ 4 ∷ []) ×

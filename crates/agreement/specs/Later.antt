@@ -8,20 +8,22 @@ use Rattle.tracker.specs.State.{State}
 use Rattle.tracker.specs.Calls.{SetUp-call, Activation-call, Refresh-call, set-up, activation-on, refresh-on}
 use Rattle.tracker.specs.Answers.{given}
 
--- the settings and remap ('fold') that a call brings: the tracker's own, or any others
+-- the settings and remap ('fold') that a call brings: those of the tracker that was compared, whatever was brought since, or any others
 pub data Brought : Type 0 where
   own : Brought
   others : Settings → List ℕ → Brought
 
+-- the settings of these
 unfoldable pub settings-by : Settings → Brought → Settings
 settings-by s own = s
 settings-by s (others s′ remap′) = s′
 
+-- and the remap
 unfoldable pub remap-by : List ℕ → Brought → List ℕ
 remap-by remap own = remap
 remap-by remap (others s′ remap′) = remap′
 
--- a call on a tracker's memory: setting up, an activation of any logical row with any hold, or an event with any lent list
+-- a call that may alter a tracker's memory: setting up, an activation of any logical row with any hold, or an event with any lent list
 pub data Call : Type 0 where
   set-up-by : Brought → Call
   activation-by : Brought → ℕ → ℕ → Call
@@ -33,6 +35,7 @@ pub data Answer : Type 0 where
   activation-answer : Activation-call → Answer
   refresh-answer : Refresh-call → Answer
 
+-- the answer to a call on this memory
 unfoldable pub answer-to : Settings → List ℕ → State → Call → Answer
 answer-to s remap st (set-up-by b) = set-up-answer (set-up (settings-by s b) (remap-by remap b) (st .rows) (st .counts))
 answer-to s remap st (activation-by b row hold) = activation-answer (activation-on (settings-by s b) (remap-by remap b) st row hold)
@@ -53,3 +56,8 @@ memory-after st (refresh-answer r) = r .state
 unfoldable pub answers : Settings → List ℕ → State → List Call → List Answer
 answers s remap st [] = []
 answers s remap st (c ∷ cs) = answer-to s remap st c ∷ answers s remap (memory-after st (answer-to s remap st c)) cs
+
+-- the memory behind them, which is all that calls that alter nothing, as agreement or a row's figure, can ask about besides
+unfoldable pub memory-behind : Settings → List ℕ → State → List Call → State
+memory-behind s remap st [] = st
+memory-behind s remap st (c ∷ cs) = memory-behind s remap (memory-after st (answer-to s remap st c)) cs

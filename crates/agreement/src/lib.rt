@@ -8,7 +8,6 @@ use summary::Tally;
 use tracker::Position;
 ghost use mathlib.Core.Path.{_≡_};
 ghost use mathlib.Core.Bool.{_&&_, true};
-ghost use lib.ListN.{length};
 ghost use Rattle.device.specs.Refusal.{first-failed};
 ghost use Rattle.tracker.specs.State.{valid};
 ghost use Rattle.tracker.specs.Calls.{tables-long};
@@ -42,10 +41,10 @@ fn tables_refusal(
     if k2 != 0 {
         return k2;
     }
-    if !tracker::are_long(s, rows, counts) {
+    if !tracker::tables_long(s, rows, counts) {
         return 8;
     }
-    device::refuse_unless(tracker::are_long(s2, rows2, counts2), 8, 0)
+    device::refuse_unless(tracker::tables_long(s2, rows2, counts2), 8, 0)
 }
 
 // Whether both states, of tables of the right length, break no rule.
@@ -140,7 +139,7 @@ pub fn agree(
     if k != 0 {
         return Agreement::Refused(k);
     }
-    if !same::same_given(s, remap, s2, remap2) {
+    if !same::same_set_up(s, remap, s2, remap2) {
         return Agreement::Same(false);
     }
     if !same::same_position(p, p2) {

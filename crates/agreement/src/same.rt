@@ -37,8 +37,8 @@ fn same_front(a: &[u32], b: &[u32], used: usize) -> bool
     true
 }
 
-// Whether settings and remap are the same.
-pub fn same_given(s: Settings, remap: [u32; 16], s2: Settings, remap2: [u32; 16]) -> bool
+// Whether both were set up alike: with the same settings and the same remap.
+pub fn same_set_up(s: Settings, remap: [u32; 16], s2: Settings, remap2: [u32; 16]) -> bool
     ensures { λ r. ⌜ r ≡ (same-settings s s2 && same remap remap2) ⌝ }
 {
     same_settings(s, s2) && same_front(&remap, &remap2, 16)

@@ -19,7 +19,7 @@ pub record Between (low high x : ℕ) : Type 0 where
   pub least : low ≤ x
   pub most : x ≤ high
 
--- accepted-settings settings, whatever the counter count
+-- accepted settings, whatever the counter count
 pub record InRange (s : Settings) : Type 0 where
   pub rows : Between 16 most-rows (s .rows)
   pub rows-whole : s .rows % 16 ≡ 0
@@ -30,7 +30,7 @@ pub record InRange (s : Settings) : Type 0 where
   pub block : Between 1 64 (s .block)
   pub covered : s .rows ≤ s .block * s .window
 
--- accepted-settings settings
+-- accepted settings
 pub record Accepted (s : Settings) : Type 0 where
   pub others : InRange s
   pub counters : Between (s .volume) most-counters (s .counters)
@@ -84,7 +84,7 @@ pub accepted-but-counters : (s : Settings) → first-failed (settings-tests-but-
 unfolding settings-tests-but-counters-to
 accepted-but-counters s e = tests-passed true s e .1
 
--- accepted-settings settings pass the tests that skip the counter count
+-- accepted settings pass the tests that skip the counter count
 pub accepted-skipping : (s : Settings) → first-failed (settings-tests s) ≡ 0 → first-failed (settings-tests-but-counters s) ≡ 0
 unfolding settings-tests-to settings-tests-but-counters-to
 accepted-skipping s e = rw (tests-passed (within (s .volume) most-counters (s .counters)) s e .0) at e

@@ -14,7 +14,7 @@ unfolding tested
 tested-failed zero answer h = absurd (h refl)
 tested-failed (suc k) answer h = refl
 
--- a test that is not the last word: it refuse-passed, and so did the later ones
+-- a test that is not the last word: it passed, and so did the later ones
 pub refuse-passed : (allowed : Bool) (k later : ℕ) → refuse (not allowed) (suc k) later ≡ 0 → (allowed ≡ true) × (later ≡ 0)
 unfolding refuse
 refuse-passed true k later e = (refl, e)

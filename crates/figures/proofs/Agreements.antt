@@ -15,12 +15,12 @@ use Rattle.bound.specs.Answers.{settings-of}
 use Rattle.figures.specs.Table.{state-numbers, shown}
 use Rattle.figures.specs.Edges.{small, two-places, untracked, event-numbers, event-figure}
 use Rattle.figures.specs.Remaps.{identity, doubled}
-use Rattle.figures.specs.Agreements.{one-place, agreement-numbers, agreement-between, agreement-under, agreement-figure, compared-figures, refused-figures, beside-spill, parting-figures, agreements}
+use Rattle.figures.specs.Agreements.{one-place, agreement-numbers, agreement-between, agreement-under, agreement-figure, tracking, beside-nine, compared-figures, refused-figures, parting-figures, agreements}
 use Rattle.figures.proofs.Tests.{every}
 
 pub agreements-pass : T (every agreements)
 unfolding
-    every same agreements compared-figures refused-figures one-place agreement-numbers agreement-between agreement-under agreement-figure beside-spill parting-figures
+    every same agreements compared-figures refused-figures one-place agreement-numbers agreement-between agreement-under agreement-figure tracking beside-nine parting-figures
     state-numbers shown settings-of small two-places untracked event-numbers event-figure identity doubled
     first-failed unless refuse tested within rows-allowed-to diameter-allowed block-allowed settings-tests-with settings-tests-to
     own-remap occurs-in all-occur remap-allowed rows-from rows-between within-reach victims

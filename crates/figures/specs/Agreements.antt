@@ -40,7 +40,21 @@ agreement-under remap s st finer older =
 unfoldable pub agreement-figure : Settings → State → List ℕ → List ℕ → Figure
 agreement-figure s st finer older = agreement-under own-remap s st finer older
 
--- two fresh trackers; another N; another B, V, C, T, n and P; another e and a; a row tracked in the second alone; another remap
+-- tables of two places, one row tracked or none, and a spillover, after one event and one activation
+unfoldable pub tracking : ℕ → ℕ → ℕ → ℕ → State
+tracking row count tracked spillover =
+    record {
+      rows = row ∷ 0 ∷ [];
+      counts = count ∷ 0 ∷ [];
+      position = record { events = 1; activations = 1; tracked = tracked; spillover = spillover };
+    }
+
+-- row 9 with a count of 4 and a spillover of 3, beside another
+unfoldable pub beside-nine : State → List ℕ → List ℕ → Figure
+beside-nine st finer older = agreement-between (small 2 1) own-remap (tracking 9 4 1 3) (small 2 1) own-remap st finer older
+
+-- two fresh trackers; another N; another B, V, C, T, n and P; another e and a; a row tracked in the second alone; another remap; the
+-- same row, count and spillover, and each of them another
 unfoldable pub compared-figures : List Figure
 compared-figures =
     agreement-figure (small 2 1) (untracked 0 0) (0 ∷ 1 ∷ []) (0 ∷ 1 ∷ []) ∷
@@ -54,10 +68,14 @@ compared-figures =
     agreement-figure (small 2 1) (untracked 1 0) (0 ∷ 0 ∷ []) (0 ∷ 1 ∷ []) ∷
     agreement-figure (small 2 1) (untracked 0 1) (0 ∷ 0 ∷ []) (0 ∷ 1 ∷ []) ∷
     agreement-figure (small 2 1) (two-places 1 0 1 0 0 1 1) (0 ∷ 0 ∷ []) (0 ∷ 0 ∷ []) ∷
-    agreement-under identity (small 2 1) (untracked 0 0) (0 ∷ 0 ∷ []) (0 ∷ 1 ∷ []) ∷ []
+    agreement-under identity (small 2 1) (untracked 0 0) (0 ∷ 0 ∷ []) (0 ∷ 1 ∷ []) ∷
+    beside-nine (tracking 9 4 1 3) (0 ∷ 1 ∷ []) (0 ∷ 1 ∷ []) ∷
+    beside-nine (tracking 8 4 1 3) (0 ∷ 0 ∷ []) (0 ∷ 0 ∷ []) ∷
+    beside-nine (tracking 9 5 1 3) (0 ∷ 0 ∷ []) (0 ∷ 0 ∷ []) ∷
+    beside-nine (tracking 9 4 1 2) (0 ∷ 0 ∷ []) (0 ∷ 0 ∷ []) ∷ []
 
--- the second's settings, tables and position refused; its remap too, which comes 'between 8 and 21'; both sides refused: the first's settings, then the
--- second's, then 8, 14 and 21 'if either' earns it
+-- the second's settings, tables and position refused; a remap too, which comes 'between 8 and 21'; what decides where both sides are refused, and the first's
+-- position alone
 unfoldable pub refused-figures : List Figure
 refused-figures =
     agreement-figure (small 3 1) (untracked 0 0) (2 ∷ []) (2 ∷ []) ∷
@@ -65,6 +83,7 @@ refused-figures =
     agreement-figure (small 2 1) (untracked 4 0) (21 ∷ []) (21 ∷ []) ∷
     agreement-under doubled (small 2 1) (untracked 0 0) (14 ∷ []) (0 ∷ 1 ∷ []) ∷
     agreement-under doubled (small 2 1) (untracked 4 0) (14 ∷ []) (21 ∷ []) ∷
+    agreement-between (small 2 1) doubled (untracked 0 0) (small 2 1) own-remap (untracked 0 0) (14 ∷ []) (0 ∷ 1 ∷ []) ∷
     agreement-under doubled (settings-of 16 2 1 3 4 4 4) (untracked 0 0) (8 ∷ []) (8 ∷ []) ∷
     agreement-between (small 2 0) own-remap (untracked 0 0) (small 3 1) own-remap (untracked 0 0) (3 ∷ []) (3 ∷ []) ∷
     agreement-between (small 2 1) doubled (one-place 0 0) (small 3 1) own-remap (untracked 0 0) (2 ∷ []) (2 ∷ []) ∷
@@ -72,22 +91,14 @@ refused-figures =
     agreement-between (small 2 1) own-remap (untracked 4 0) (small 2 1) doubled (untracked 0 0) (14 ∷ []) (21 ∷ []) ∷
     agreement-between (small 2 1) own-remap (untracked 4 0) (small 2 1) own-remap (untracked 0 0) (21 ∷ []) (21 ∷ []) ∷ []
 
--- a bank of 16 rows whose block, behind the first event, is empty; so many rows tracked, one or none, and a spillover of 3
-unfoldable pub beside-spill : ℕ → ℕ → ℕ → State
-beside-spill row count tracked =
-    record {
-      rows = row ∷ 0 ∷ [];
-      counts = count ∷ 0 ∷ [];
-      position = record { events = 1; activations = 1; tracked = tracked; spillover = 3 };
-    }
-
 -- 'one of them tracked a row whose count equalled the spill': row 9, which its event names, and the other's names none
 unfoldable pub parting-figures : List Figure
 parting-figures =
     let s = settings-of 16 2 2 2 4 4 16 in
-    agreement-between s own-remap (beside-spill 9 3 1) s own-remap (beside-spill 0 0 0) (0 ∷ 0 ∷ []) (0 ∷ 1 ∷ []) ∷
-    event-figure s (beside-spill 9 3 1) (0 ∷ 1 ∷ 9 ∷ 7 ∷ 8 ∷ 10 ∷ 4 ∷ 4 ∷ 2 ∷ 0 ∷ 2 ∷ 3 ∷ []) ∷
-    event-figure s (beside-spill 0 0 0) (0 ∷ 0 ∷ 7 ∷ 7 ∷ 0 ∷ 0 ∷ 0 ∷ 0 ∷ 2 ∷ 0 ∷ 0 ∷ 3 ∷ []) ∷ []
+    agreement-between s own-remap (tracking 9 3 1 3) s own-remap (tracking 0 0 0 3) (0 ∷ 0 ∷ []) (0 ∷ 1 ∷ []) ∷
+    event-figure s (tracking 9 3 1 3) (0 ∷ 1 ∷ 9 ∷ 7 ∷ 8 ∷ 10 ∷ 4 ∷ 4 ∷ 2 ∷ 0 ∷ 2 ∷ 3 ∷ []) ∷
+    event-figure s (tracking 0 0 0 3) (0 ∷ 0 ∷ 7 ∷ 7 ∷ 0 ∷ 0 ∷ 0 ∷ 0 ∷ 2 ∷ 0 ∷ 0 ∷ 3 ∷ []) ∷ []
 
+-- all of them
 unfoldable pub agreements : List Figure
 agreements = compared-figures ++ refused-figures ++ parting-figures

@@ -49,7 +49,7 @@ struct AfterEvent {
 }
 
 // Whether both tables are as long as there are counters.
-pub fn are_long(s: Settings, rows: &[u32], counts: &[u32]) -> bool
+pub fn tables_long(s: Settings, rows: &[u32], counts: &[u32]) -> bool
     ensures { λ r. ⌜ r ≡ tables-long s (now (rows .entry)) (now (counts .entry)) ⌝ }
 {
     rows.len() == s.counters as usize && counts.len() == s.counters as usize
@@ -59,7 +59,7 @@ pub fn are_long(s: Settings, rows: &[u32], counts: &[u32]) -> bool
 pub fn valid_memory(s: Settings, rows: &[u32], counts: &[u32], p: Position) -> bool
     ensures { λ r. ⌜ r ≡ (tables-long s (now (rows .entry)) (now (counts .entry)) && valid s (lent (rows .entry) (counts .entry) p)) ⌝ }
 {
-    are_long(s, rows, counts) && state::valid_state(s, rows, counts, p)
+    tables_long(s, rows, counts) && state::valid_state(s, rows, counts, p)
 }
 
 // The refusal of settings and lent tables, or 0.
@@ -70,7 +70,7 @@ fn tables_refusal(s: Settings, rows: &[u32], counts: &[u32]) -> u32
     if k != 0 {
         return k;
     }
-    device::refuse_unless(are_long(s, rows, counts), 8, 0)
+    device::refuse_unless(tables_long(s, rows, counts), 8, 0)
 }
 
 // The refusal of setting up, or 0.

@@ -29,9 +29,9 @@ module _ (s : Settings) (remap : List ℕ) (st : State) (s′ : Settings) (remap
   unfolding agreement-to
   agreement-refused k e h = rw (← e) (sym (tested-failed k _ h))
 
-  pub agreement-given-differs : first-failed (agreement-tests s remap st s′ remap′ st′) ≡ 0 → (same-settings s s′ && same remap remap′) ≡ false → accepted false ≡ agreement-of s remap st s′ remap′ st′
+  pub agreement-set-up-differs : first-failed (agreement-tests s remap st s′ remap′ st′) ≡ 0 → (same-settings s s′ && same remap remap′) ≡ false → accepted false ≡ agreement-of s remap st s′ remap′ st′
   unfolding agreement-to tested
-  agreement-given-differs e off = rw (e, off)
+  agreement-set-up-differs e off = rw (e, off)
 
   pub agreement-position-differs : first-failed (agreement-tests s remap st s′ remap′ st′) ≡ 0 → (same-settings s s′ && same remap remap′) ≡ true → same-position (st .position) (st′ .position) ≡ false → accepted false ≡ agreement-of s remap st s′ remap′ st′
   unfolding agreement-to tested

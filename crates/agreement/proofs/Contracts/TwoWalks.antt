@@ -36,7 +36,7 @@ module _ {rows counts : List ℕ} {tracked spillover : ℕ} {rows′ counts′ :
       let b = next-row-in-bank (w .second) (w .within) in
       (omega arith, omega arith)
 
-  -- a row in neither, where the spillovers same-estimates-differ
+  -- a row in neither, where the spillovers differ
   pub gap-differs : {row i j : ℕ} (next : ℕ) → TwoWalks rows counts tracked spillover rows′ counts′ tracked′ spillover′ high row i j → next ≡ lower rows tracked i rows′ tracked′ j high → row < next → (spillover ≡ spillover′ → ⊥) → same-estimates high (read rows counts tracked spillover) (read rows′ counts′ tracked′ spillover′) ≡ false
   gap-differs {row} next w e h ne =
       let a = estimate-skipped row (w .first) (omega arith) (omega arith) in

@@ -24,7 +24,7 @@ use Rattle.agreement.specs.Contracts.{next-row, at-row, estimate-at, pla
 unfoldable pub rest-of : List ℕ → List ℕ → ℕ → ℕ → List Entry
 rest-of rows counts tracked i = entries-of (tracked - i) (drop i rows) (drop i counts)
 
--- a walk at place i has passed every row below this one: the entries from there on give the estimates of this row and the row-later ones
+-- a walk at place i has passed every row below this one: the entries from there on give the estimates of this row and the later ones
 pub record Walked (high : ℕ) (rows counts : List ℕ) (tracked spillover row i : ℕ) : Type 0 where
   pub rows-long : tracked ≤ length rows
   pub counts-long : tracked ≤ length counts

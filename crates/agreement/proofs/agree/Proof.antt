@@ -9,7 +9,7 @@ use Rattle.tracker.specs.Answers.{given}
 use Rattle.agreement.specs.Calls.{same-settings, same-position, same-tracked, agreement-tests}
 use Rattle.agreement.specs.Answers.{agreement-outcome}
 use Rattle.agreement.proofs.Calls.Tests.{agreement-passed, compared, tracked-rows, tracked-counts}
-use Rattle.agreement.proofs.Calls.Outcomes.{agreement-refused, agreement-given-differs, agreement-position-differs, agreement-tracked}
+use Rattle.agreement.proofs.Calls.Outcomes.{agreement-refused, agreement-set-up-differs, agreement-position-differs, agreement-tracked}
 use Rattle.agreement.proofs.Alike.{same-position-alike}
 use Rattle.agreement.proofs.agree.Statement.{statement}
 use Rattle.agreement.proofs.agree.Tie as tie
@@ -19,7 +19,7 @@ accepts : (c : tie.Else1) → let a = c .before .before .before .before .before 
 accepts c = sym (c .before .agreement-refusal .ensures) ∙ c .if1 .left
 
 alike : (c : tie.Else2) → let a = c .before .before .before .before .before .before .before .before .args in (same-settings (a .s) (a .s2) && same (a .remap) (a .remap2)) ≡ true
-alike c = sym (c .before .same-given .ensures) ∙ not-false _ (c .if2 .left)
+alike c = sym (c .before .same-set-up .ensures) ∙ not-false _ (c .if2 .left)
 
 placed : (c : tie.Else3) → let a = c .before .before .before .before .before .before .before .before .before .before .args in same-position (a .p) (a .p2) ≡ true
 placed c = sym (c .before .same-position .ensures) ∙ not-false _ (c .if3 .left)
@@ -35,7 +35,7 @@ returns-2 : tie.Need-returns-2
 unfolding agreement-outcome
 returns-2 c =
     let a = c .before .before .before .before .before .before .before .before .args in
-    agreement-given-differs (a .s) (a .remap) (given (a .rows .now) (a .counts .now) (a .p)) (a .s2) (a .remap2) (given (a .rows2 .now) (a .counts2 .now) (a .p2)) (accepts (c .before .before)) (sym (c .before .same-given .ensures) ∙ not-true _ (c .if2 .taken))
+    agreement-set-up-differs (a .s) (a .remap) (given (a .rows .now) (a .counts .now) (a .p)) (a .s2) (a .remap2) (given (a .rows2 .now) (a .counts2 .now) (a .p2)) (accepts (c .before .before)) (sym (c .before .same-set-up .ensures) ∙ not-true _ (c .if2 .taken))
 
 returns-3 : tie.Need-returns-3
 unfolding agreement-outcome given

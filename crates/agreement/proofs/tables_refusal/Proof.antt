@@ -19,7 +19,7 @@ settled-2 : (c : tie.Else2) → first-failed (settings-tests (c .before .before 
 settled-2 c = sym (c .before .settings-refusal2 .ensures) ∙ c .if2 .left
 
 long : (c : tie.Else3) → let a = c .before .before .before .before .before .before .before .before .before .before .args in tables-long (a .s) (a .rows .now) (a .counts .now) ≡ true
-long c = sym (c .before .are-long .ensures) ∙ not-false _ (c .if3 .left)
+long c = sym (c .before .tables-long .ensures) ∙ not-false _ (c .if3 .left)
 
 returns : tie.Need-returns
 returns c =
@@ -37,13 +37,13 @@ returns-3 : tie.Need-returns-3
 unfolding refuse
 returns-3 c =
     let a = c .before .before .before .before .before .before .before .before .before .before .args in
-    rw (both-tables-tested (a .s) (a .rows .now) (a .counts .now) (a .s2) (a .rows2 .now) (a .counts2 .now), or-later-zero _ _ (settled (c .before .before .before .before)), or-later-zero _ _ (settled-2 (c .before .before)), sym (c .before .are-long .ensures) ∙ not-true _ (c .if3 .taken))
+    rw (both-tables-tested (a .s) (a .rows .now) (a .counts .now) (a .s2) (a .rows2 .now) (a .counts2 .now), or-later-zero _ _ (settled (c .before .before .before .before)), or-later-zero _ _ (settled-2 (c .before .before)), sym (c .before .tables-long .ensures) ∙ not-true _ (c .if3 .taken))
 
 returns-4 : tie.Need-returns-4
 unfolding refuse
 returns-4 c =
     let a = c .before .before .before .before .before .before .before .before .before .before .before .before .args in
-    rw (both-tables-tested (a .s) (a .rows .now) (a .counts .now) (a .s2) (a .rows2 .now) (a .counts2 .now), or-later-zero _ _ (settled (c .before .before .before .before .before .before)), or-later-zero _ _ (settled-2 (c .before .before .before .before)), long (c .before .before), ← c .before .are-long2 .ensures)
+    rw (both-tables-tested (a .s) (a .rows .now) (a .counts .now) (a .s2) (a .rows2 .now) (a .counts2 .now), or-later-zero _ _ (settled (c .before .before .before .before .before .before)), or-later-zero _ _ (settled-2 (c .before .before .before .before)), long (c .before .before), ← c .before .tables-long2 .ensures)
     (c .refuse-unless .ensures)
 
 pub tables-refusal-spec : {M : Type 1} → statement M

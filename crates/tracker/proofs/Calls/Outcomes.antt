@@ -21,7 +21,7 @@ use Rattle.tracker.specs.Answers.{given}
 use Rattle.tracker.proofs.States.StateOf.{state-of-holds}
 use Rattle.tracker.proofs.Calls.Ready.{set-up-ready, refresh-ready}
 
--- each call refused, and accepted-settings
+-- each call refused, and accepted
 pub set-up-refused : (s : Settings) (remap rows counts : List ℕ) (k : ℕ) → k ≡ first-failed (set-up-tests s remap rows counts) → (k ≡ 0 → ⊥) → record { answer = refused k; rows = rows; counts = counts } ≡ set-up s remap rows counts
 unfolding set-up-to kept-unless tested
 set-up-refused s remap rows counts zero e h = absurd (h refl)
@@ -51,7 +51,7 @@ unfolding refresh-to kept-unless
 refresh-refused s st picks zero e h = absurd (h refl)
 refresh-refused s st picks (suc k) e h = rw (← e, ne-eqb (suc k) 0 h)
 
--- an accepted-settings event, from what was picked and what the tables hold
+-- an accepted event, from what was picked and what the tables hold
 pub refresh-done : (s : Settings) (st : State) (list₀ : List ℕ) {rows counts list : List ℕ} {count e k spill : ℕ} → first-failed (refresh-tests s st list₀) ≡ 0 → PickedFrom (s .volume) (summary-of st) list₀ list count → Holds (length (st .rows)) 4294967296 (event (length (st .rows)) (victims-in s) (s .volume) (block-rows s (st .position .events)) (ends-window s (st .position .events)) (summary-of st)) rows counts k spill → e ≡ next-event s (st .position .events) → record { accepts = true; refusal = 0; count = count; state = given rows counts (record { events = e; activations = 0; tracked = k; spillover = spill }); picks = list } ≡ refresh-on s st list₀
 unfolding refresh-to kept-unless picked
 refresh-done s st list₀ none x h ee =

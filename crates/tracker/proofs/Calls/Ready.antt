@@ -1,4 +1,4 @@
--- What a call has in hand that no test refuses: accepted-settings settings, tables as long as they should be, a valid state.
+-- What a call has in hand that no test refuses: accepted settings, tables as long as they should be, a valid state.
 use mathlib.Core.Path.{_≡_, sym, _∙_}
 use mathlib.Core.Bool.{true, not}
 use mathlib.Core.Logic.{⊎-elim}

@@ -15,7 +15,7 @@ returns-2 : tie.Need-returns-2
 returns-2 c =
     let a = c .before .before .before .before .before .before .args in
     let k = c .before .before .before .settings-refusal in
-    rw (tables-tested (a .s) (a .rows .now) (a .counts .now), or-later-zero _ _ (sym (k .ensures) ∙ c .before .before .if1 .left), ← c .before .are-long .ensures) (c .refuse-unless .ensures)
+    rw (tables-tested (a .s) (a .rows .now) (a .counts .now), or-later-zero _ _ (sym (k .ensures) ∙ c .before .before .if1 .left), ← c .before .tables-long .ensures) (c .refuse-unless .ensures)
 
 pub tables-refusal-spec : {M : Type 1} → statement M
 tables-refusal-spec =

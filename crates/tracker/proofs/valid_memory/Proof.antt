@@ -9,15 +9,15 @@ use Rattle.tracker.proofs.valid_memory.Tie as tie
 valid-state-requires : tie.Need-valid-state-requires
 valid-state-requires c κs =
     let a = c .before .before .before .before .args in
-    tables-long-fit (a .s) (a .rows .now) (a .counts .now) (sym (c .before .are-long .ensures) ∙ c .if1 .taken)
+    tables-long-fit (a .s) (a .rows .now) (a .counts .now) (sym (c .before .tables-long .ensures) ∙ c .if1 .taken)
 
 returns : tie.Need-returns
 unfolding given
-returns c = rw (sym (c .before .before .are-long .ensures) ∙ c .before .if1 .taken) (c .valid-state .ensures)
+returns c = rw (sym (c .before .before .tables-long .ensures) ∙ c .before .if1 .taken) (c .valid-state .ensures)
 
 returns-2 : tie.Need-returns-2
 unfolding given
-returns-2 c = rw (sym (c .before .are-long .ensures) ∙ c .if1 .left) (c .if1 .left)
+returns-2 c = rw (sym (c .before .tables-long .ensures) ∙ c .if1 .left) (c .if1 .left)
 
 pub valid-memory-spec : {M : Type 1} → statement M
 valid-memory-spec = tie.close (tie.spec (λ c κs. search needs) valid-state-requires returns returns-2)

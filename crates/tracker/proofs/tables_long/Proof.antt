@@ -1,9 +1,9 @@
--- `tracker::are_long` meets its contract.
+-- `tracker::tables_long` meets its contract.
 use borrow.Author.Tests.{eq-eqb, ne-eqb}
 use borrow.Author.Needs.{needs}
 use Rattle.tracker.specs.Calls.{tables-long}
-use Rattle.tracker.proofs.are_long.Statement.{statement}
-use Rattle.tracker.proofs.are_long.Tie as tie
+use Rattle.tracker.proofs.tables_long.Statement.{statement}
+use Rattle.tracker.proofs.tables_long.Tie as tie
 
 returns : tie.Need-returns
 unfolding tables-long
@@ -13,5 +13,5 @@ returns-2 : tie.Need-returns-2
 unfolding tables-long
 returns-2 c = rw (ne-eqb _ _ (c .if1 .left))
 
-pub are-long-spec : {M : Type 1} → statement M
-are-long-spec = tie.close (tie.spec (λ c. search needs) (λ c. search needs) returns returns-2)
+pub tables-long-spec : {M : Type 1} → statement M
+tables-long-spec = tie.close (tie.spec (λ c. search needs) (λ c. search needs) returns returns-2)

@@ -1,10 +1,10 @@
--- `same::same_given` meets its contract.
+-- `same::same_set_up` meets its contract.
 use mathlib.Core.Path.{sym, _∙_}
 use native.Mathlib.Omega.{arith}
 use borrow.Author.Needs.{needs}
 use lib.Seq.{take-all}
-use Rattle.agreement.proofs.same.same_given.Statement.{statement}
-use Rattle.agreement.proofs.same.same_given.Tie as tie
+use Rattle.agreement.proofs.same.same_set_up.Statement.{statement}
+use Rattle.agreement.proofs.same.same_set_up.Tie as tie
 
 returns : tie.Need-returns
 returns c =
@@ -14,8 +14,8 @@ returns c =
 returns-2 : tie.Need-returns-2
 returns-2 c = rw (sym (c .before .same-settings .ensures) ∙ c .if1 .left) (c .if1 .left)
 
-pub same-given-spec : {M : Type 1} → statement M
-same-given-spec =
+pub same-set-up-spec : {M : Type 1} → statement M
+same-set-up-spec =
     tie.close
     (tie.spec
     (λ c κs. search needs)
