@@ -119,7 +119,7 @@ pub struct Lent<'a> {
     pub position: Position,
 }
 
-/// 'Exactly at equal settings, fold and position and the same tracked rows with the same counts.'
+/// 'Exactly at equal settings, fold and position and the same tracked rows with the same counts'.
 pub fn agree(first: Lent, remap1: &Remap, second: Lent, remap2: &Remap) -> Result<bool, Refusal> {
     first.settings.check()?;
     second.settings.check()?;
