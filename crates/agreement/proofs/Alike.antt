@@ -57,7 +57,7 @@ same-position-alike p p′ e =
 
 pub alike-same-position : (p : Position) → same-position p p ≡ true
 unfolding same-position
-alike-same-position p = rw (itself (p .events), itself (p .activations), itself (p .tracked), itself (p .spillover))
+alike-same-position p = simp (itself (p .events), itself (p .activations), itself (p .tracked), itself (p .spillover))
 
 pub alike-same-tracked : (st : State) → same-tracked st st ≡ true
 unfolding same-tracked

@@ -1,6 +1,6 @@
 -- `agreement::agreement_refusal` meets its contract.
 use mathlib.Core.Path.{_≡_, sym, _∙_}
-use mathlib.Core.Bool.{true}
+use mathlib.Core.Bool.{true, false}
 use borrow.Author.Needs.{needs}
 use borrow.Author.Tests.{not-true, not-false}
 use Rattle.device.specs.Refusal.{refuse, first-failed}
@@ -22,6 +22,10 @@ allowed c = sym (c .before .remap-allowed .ensures) ∙ not-false _ (c .if2 .lef
 allowed-2 : (c : tie.Else3) → remap-allowed (c .before .before .before .before .before .before .before .before .before .before .args .remap2) ≡ true
 allowed-2 c = sym (c .before .remap-allowed2 .ensures) ∙ not-false _ (c .if3 .left)
 
+-- and where it refused
+refused-2 : (c : tie.Then3) → remap-allowed (c .before .before .before .before .before .before .before .before .before .before .args .remap2) ≡ false
+refused-2 c = sym (c .before .remap-allowed2 .ensures) ∙ not-true _ (c .if3 .taken)
+
 returns : tie.Need-returns
 unfolding given
 returns c =
@@ -39,7 +43,7 @@ returns-3 : tie.Need-returns-3
 unfolding given refuse
 returns-3 c =
     let a = c .before .before .before .before .before .before .before .before .before .before .args in
-    rw (agreement-tested (a .s) (given (a .rows .now) (a .counts .now) (a .p)) (a .s2) (given (a .rows2 .now) (a .counts2 .now) (a .p2)) (a .remap) (a .remap2), or-later-zero _ _ (tables (c .before .before .before .before)), allowed (c .before .before), sym (c .before .remap-allowed2 .ensures) ∙ not-true _ (c .if3 .taken))
+    rw (agreement-tested (a .s) (given (a .rows .now) (a .counts .now) (a .p)) (a .s2) (given (a .rows2 .now) (a .counts2 .now) (a .p2)) (a .remap) (a .remap2), or-later-zero _ _ (tables (c .before .before .before .before)), allowed (c .before .before), refused-2 c)
 
 both-valid-requires : tie.Need-both-valid-requires
 both-valid-requires c κs =
