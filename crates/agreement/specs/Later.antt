@@ -57,7 +57,7 @@ unfoldable pub answers : Settings → List ℕ → State → List Call → List 
 answers s remap st [] = []
 answers s remap st (c ∷ cs) = answer-to s remap st c ∷ answers s remap (memory-after st (answer-to s remap st c)) cs
 
--- the memory behind them, which is all that calls that alter nothing, as agreement or a row's figure, can ask about besides
+-- the memory behind them: with settings and remap all that a call that alters nothing, as agreement or a row's figure, is given of a tracker
 unfoldable pub memory-behind : Settings → List ℕ → State → List Call → State
 memory-behind s remap st [] = st
 memory-behind s remap st (c ∷ cs) = memory-behind s remap (memory-after st (answer-to s remap st c)) cs

@@ -1,5 +1,5 @@
 -- What only inner contracts say, and no call's promise: the tests that calls on lent tables begin with, and ranges of an event's numbers.
-use Prim.Native.Nat.{ℕ, _+_, _≤_}
+use Prim.Native.Nat.{ℕ, _≤_}
 use mathlib.Core.List.{List, [], _∷_, _++_}
 use Rattle.device.specs.Acceptance.{most-rows, settings-tests}
 use Rattle.device.specs.Refusal.{Test, unless}
