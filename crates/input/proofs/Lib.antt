@@ -1,2 +1,3 @@
--- Laws of what a read comes to.
+-- Laws of files and of what a read comes to.
+pub mod Files
 pub mod AtHand

@@ -1,2 +1,3 @@
--- Reads of a file: what one comes to.
+-- Files, and reads of them: what one comes to.
+pub mod Files
 pub mod AtHand

@@ -35,10 +35,10 @@ pub steady-turn-left : (q : Turned) (m : Memory) (text : List ℕ) (kept : ℕ) 
 steady-turn-left q m text kept input buffer e r few within = rw e (steady-turn m text kept input buffer r few within)
 
 -- a turn by what the listing's calls left
-pub turn-chunk : (m : Memory) (text : List ℕ) (kept len : ℕ) (buffer : List ℕ) (q : Chunked) → q ≡ chunk m text len buffer → record { memory = q .memory; text = q .text; kept = q .kept; buffer = q .buffer; end = q .end; more = true } ≡ turn-of m text kept (Bytes len) buffer
+pub turn-chunk : (m : Memory) (text : List ℕ) (kept len : ℕ) (buffer : List ℕ) (q : Chunked) → q ≡ chunk m text len buffer → record { memory = q .memory; text = q .text; kept = q .kept; buffer = q .buffer; end = q .end; more = true; failed = false } ≡ turn-of m text kept (Bytes len) buffer
 unfolding turn-of
 turn-chunk m text kept len buffer q e = rw e
 
-pub turn-end : (m : Memory) (text : List ℕ) (kept : ℕ) (buffer : List ℕ) {buffer′ : List ℕ} {end : ℕ} → Prints buffer 0 (last-line (next-number (m .lines)) (take kept text) (length buffer)) buffer′ end → record { memory = m; text = text; kept = kept; buffer = buffer′; end = end; more = false } ≡ turn-of m text kept End buffer
+pub turn-end : (m : Memory) (text : List ℕ) (kept : ℕ) (buffer : List ℕ) {buffer′ : List ℕ} {end : ℕ} → Prints buffer 0 (last-line (next-number (m .lines)) (take kept text) (length buffer)) buffer′ end → record { memory = m; text = text; kept = kept; buffer = buffer′; end = end; more = false; failed = false } ≡ turn-of m text kept End buffer
 unfolding turn-of
 turn-end m text kept buffer p = rw (p .holds, p .behind, zero-add)

@@ -1,5 +1,5 @@
--- Turns: what lies between two reads of a trace, and what all turns print.
-use Prim.Native.Nat.{ℕ, _+_, _*_, _≤_}
+-- Turns: what lies between two reads of a trace, a read with what lies behind it, and what all turns print.
+use Prim.Native.Nat.{ℕ, suc, _+_, _*_, _≤_}
 use mathlib.Core.Path.{_≡_}
 use mathlib.Core.Bool.{Bool, true, false}
 use mathlib.Core.List.{List, [], _∷_, _++_}
@@ -7,14 +7,15 @@ use lib.ListN.{length, take, drop}
 use denote.Ref.{now}
 use Rattle.laws.specs.Lent.{Slice, Lent}
 use Rattle.trace.specs.Numbers.{written}
-use Rattle.listing.specs.Memory.{Memory, memory, memory-of}
+use Rattle.listing.specs.Memory.{Memory, memory, memory-of, start-place}
 use Rattle.listing.specs.Chunks.{next-number, line-room, chunk, last-line}
 use Rattle.input.specs.declared.Input.{Input}
 use Rattle.input.specs.declared.Input.the-variants.{Bytes, End, Failed}
 use Rattle.input.specs.AtHand.{Within, Came}
 use Rattle.turns.specs.declared.Turn.{Turn}
 
--- what lies between two reads leaves: memory, text and buffer, how many bytes are kept and how many are to be written, and whether to read again
+-- what lies between two reads leaves: memory, text and buffer, how many bytes are kept and how many are to be written, whether to read again, and whether the
+-- read failed
 pub record Turned : Type 0 where
   pub memory : Memory
   pub text : List ℕ
@@ -22,6 +23,7 @@ pub record Turned : Type 0 where
   pub buffer : List ℕ
   pub end : ℕ
   pub more : Bool
+  pub failed : Bool
 
 -- bytes came in: their lines are listed; the input has ended: what is left of its last line is; or the read failed
 unfoldable pub turn-of : Memory → List ℕ → ℕ → Input → List ℕ → Turned
@@ -34,6 +36,7 @@ turn-of m text kept (Bytes len) buffer =
       buffer = q .buffer;
       end = q .end;
       more = true;
+      failed = false;
     }
 turn-of m text kept End buffer =
     let prints = last-line (next-number (m .lines)) (take kept text) (length buffer) in
@@ -44,6 +47,7 @@ turn-of m text kept End buffer =
       buffer = written buffer 0 prints;
       end = length prints;
       more = false;
+      failed = false;
     }
 turn-of m text kept Failed buffer =
     record {
@@ -53,6 +57,7 @@ turn-of m text kept Failed buffer =
       buffer = buffer;
       end = 0;
       more = false;
+      failed = true;
     }
 
 -- the same of the code's parameters: a turn from the one before it, what is asked for it, and what its answer says with what it left
@@ -65,6 +70,18 @@ pub record Readable (from : Turn) (input : Input) (text out : Slice) : Type 0 wh
   pub few : from .kept ≤ length (now text)
   pub room : 55 * length (now text) + line-room ≤ length (now out)
 
+abbrev pub turn-before : Turn → Lent → Lent → Lent → Turned
+turn-before from counts text out =
+    record {
+      memory = memory-of (from .place) (counts .entry);
+      text = now (text .entry);
+      kept = from .kept;
+      buffer = now (out .entry);
+      end = from .end;
+      more = from .more;
+      failed = from .failed;
+    }
+
 abbrev pub turn-left : Turn → Lent → Lent → Lent → Turned
 turn-left r counts text out =
     record {
@@ -74,10 +91,45 @@ turn-left r counts text out =
       buffer = now (out .exit);
       end = r .end;
       more = r .more;
+      failed = r .failed;
     }
 
+-- before the first read, whatever the memory holds
+unfoldable pub first-turned : List ℕ → List ℕ → List ℕ → Turned
+first-turned counts text buffer =
+    record {
+      memory = memory start-place counts;
+      text = text;
+      kept = 0;
+      buffer = buffer;
+      end = 0;
+      more = true;
+      failed = false;
+    }
+
+-- the part that a read behind kept bytes brought: those behind them, if there are any
+unfoldable pub brought : Input → ℕ → List ℕ → List (List ℕ)
+brought (Bytes len) kept text = drop kept (take len text) ∷ []
+brought End kept text = []
+brought Failed kept text = []
+
+-- a read, whatever it brought, and what lies behind it
+pub record Stepped (from to : Turned) : Type 0 where
+  pub input : Input
+  pub text : List ℕ
+  pub came : Came input (from .kept) (from .text) text
+  pub room : 55 * length text + line-room ≤ length (from .buffer)
+  pub same : to ≡ turn-of (from .memory) text (from .kept) input (from .buffer)
+
+-- so many such steps, each from where the one before left off, while there is more to read: the parts that the reads brought, and all that is to be written
+pub data Chain (first : Turned) : ℕ → Turned → List (List ℕ) → List ℕ → Type 0 where
+  none-yet : Chain first 0 first [] []
+  one-more : {n : ℕ} {from to : Turned} {parts : List (List ℕ)} {out : List ℕ}
+      → Chain first n from parts out → from .more ≡ true → (s : Stepped from to)
+      → Chain first (suc n) to (parts ++ brought (s .input) (from .kept) (s .text)) (out ++ take (to .end) (to .buffer))
+
 -- turns, each on what the one before left, until the input ends: the parts that the reads brought, and all that is to be written. Of a read and
--- of what lies behind it only the contracts of `read_behind` and `between_reads` are known
+-- of what lies behind it only the contracts of `read_from` and `between_reads` are known
 pub data Turns : Memory → List ℕ → ℕ → List (List ℕ) → List ℕ → Type 0 where
   -- a read brought a part, and the program goes on
   goes-on : {m : Memory} {text : List ℕ} {kept : ℕ} (text₁ buffer : List ℕ) (len : ℕ) (q : Turned) {parts : List (List ℕ)} {out : List ℕ}

@@ -1,18 +1,21 @@
-// What lies between two reads of a trace: the bytes that came in are listed, up to the last line's end.
+// A read of a trace and what lies behind it: the bytes that came in are listed, up to the last line's end.
+use input::File;
 use input::Input;
 use listing::Place;
 ghost use mathlib.Core.Path.{_≡_};
-ghost use mathlib.Core.Bool.{true};
+ghost use mathlib.Core.Bool.{true, false};
 ghost use Rattle.listing.specs.Memory.{memory-of, start-place, Ready, Banked-in};
-ghost use Rattle.turns.specs.Turns.{Readable, turn-from, turn-left};
+ghost use Rattle.turns.specs.Turns.{Readable, turn-from, turn-before, turn-left, Stepped};
+ghost use Rattle.turns.specs.Contracts.{Carried-in};
 
-// What lies between two reads left: where the listing is, how many bytes are kept at the text's front and how many are to be written, and
-// whether to read again.
+// What lies between two reads left: where the listing is, how many bytes are kept at the text's front and how many are to be written, whether to
+// read again, and whether the read failed.
 pub struct Turn {
     pub place: Place,
     pub kept: usize,
     pub end: usize,
     pub more: bool,
+    pub failed: bool,
 }
 
 // What lies between two reads: what came in is listed, up to the last line's end.
@@ -40,6 +43,7 @@ pub fn between_reads(
                 kept: chunk.kept,
                 end: chunk.end,
                 more: true,
+                failed: false,
             }
         }
         Input::End => {
@@ -49,6 +53,7 @@ pub fn between_reads(
                 kept,
                 end,
                 more: false,
+                failed: false,
             }
         }
         Input::Failed => Turn {
@@ -56,13 +61,14 @@ pub fn between_reads(
             kept,
             end: 0,
             more: false,
+            failed: true,
         },
     }
 }
 
 // Before the first read.
 pub fn first_turn() -> Turn
-    ensures { λ r. ⌜ r ≡ record { place = start-place; kept = 0; end = 0; more = true } ⌝ }
+    ensures { λ r. ⌜ r ≡ record { place = start-place; kept = 0; end = 0; more = true; failed = false } ⌝ }
 {
     let place = listing::start();
     Turn {
@@ -70,5 +76,24 @@ pub fn first_turn() -> Turn
         kept: 0,
         end: 0,
         more: true,
+        failed: false,
     }
+}
+
+// A read of a trace, and what lies behind it.
+pub fn next_turn(
+    from: Turn,
+    file: File,
+    counts: &mut [u32],
+    marks: &mut [u64],
+    bounds: &mut [u32],
+    text: &mut [u8],
+    out: &mut [u8],
+) -> Turn
+    requires { ⌜ Carried-in from counts marks bounds text out ⌝ }
+    ensures { λ r. ⌜ Carried-in r (counts .exit) (marks .exit) (bounds .exit) (text .exit) (out .exit) ⌝ }
+    ensures { λ r. ⌜ Stepped (turn-before from counts text out) (turn-left r counts text out) ⌝ }
+{
+    let input = input::read_from(file, text, from.kept);
+    between_reads(from, counts, marks, bounds, text, input, out)
 }

@@ -22,7 +22,7 @@ part-within text kept part rest h =
 
 returns : tie.Need-returns
 returns c =
-    let start = c .before .before .before .before .before .before .before .before .before .before in
+    let start = c .before .before .before .before .before .before .before .before .before .before .before in
     let read = c .before .before .before .before .before .before .read in
     let text = start .args .text .now in
     let kept = start .args .kept in
