@@ -1,7 +1,9 @@
 // Files that are open for reading, and what a read behind bytes that are kept comes to.
 use libc::STDIN_FILENO;
 ghost use mathlib.Core.Path.{_≡_};
+ghost use mathlib.Core.Bool.{_&&_};
 ghost use Prim.Native.Nat.{_+_, _≤_};
+ghost use lib.Dec.{ltb};
 ghost use lib.ListN.{length};
 ghost use Rattle.input.specs.AtHand.{input-of, Came};
 ghost use Rattle.input.specs.Files.{is-descriptor, standard-input};
@@ -70,4 +72,11 @@ pub fn read_from(file: File, text: &mut [u8], kept: usize) -> Input
     let part = &mut text[kept..];
     let got = libc::read(file.descriptor, part);
     input_from(got, kept, part)
+}
+
+// Whether a program reads again: there is more to read, and reads are left.
+pub fn reads_again(more: bool, left: u64) -> bool
+    ensures { λ r. ⌜ r ≡ more && ltb 0 left ⌝ }
+{
+    more && 0 < left
 }

@@ -1,9 +1,11 @@
-// Lists a trace: standard input to standard output, through buffers of fixed size.
+// Lists a trace: standard input to standard output, through buffers of fixed size. What goes wrong is said on standard error.
 use libc::STDOUT_FILENO;
+use turns::Turn;
 ghost use mathlib.Core.Path.{_≡_};
 ghost use lib.ListN.{length};
 ghost use Rattle.aids.specs.Marks.{Marked};
 ghost use Rattle.aids.specs.Bounds.{all-bounds};
+ghost use Rattle.rowlist.specs.Runs.{Ran-in};
 
 // A count for every row of the largest bank, a word of marks for each 64 of them and one for each 64 of these, and as many bounds; the bytes of a read,
 // and room for what they print.
@@ -17,23 +19,52 @@ const TEXT: usize = 6_144;
 
 const OUT: usize = 339_968;
 
+// How a run ended: what its last step left, and whether all that was to be written was.
+struct Ended {
+    turn: Turn,
+    written: bool,
+}
+
 // Reads, lists and writes, until the input ends or a read or write fails.
-fn run(counts: &mut [u32], marks: &mut [u64], bounds: &mut [u32], text: &mut [u8], out: &mut [u8])
+fn run(
+    counts: &mut [u32],
+    marks: &mut [u64],
+    bounds: &mut [u32],
+    text: &mut [u8],
+    out: &mut [u8],
+) -> Ended
     requires { ⌜ Marked (now counts) (now marks) × (length (now bounds) ≡ all-bounds) × (length (now text) ≡ 6144) × (length (now out) ≡ 339968) ⌝ }
+    ensures { λ r. ⌜ Ran-in r counts text out ⌝ }
 {
+    let file = input::standard_input();
     let mut turn = turns::first_turn();
     let mut left = u64::MAX;
-    while left > 0 {
-        let input = input::read_behind(text, turn.kept);
-        turn = turns::between_reads(turn, counts, marks, bounds, text, input, out);
+    while input::reads_again(turn.more, left) {
+        turn = turns::next_turn(turn, file, counts, marks, bounds, text, out);
+        left -= 1;
         let end = turn.end;
         if !io::write_all(STDOUT_FILENO, &out[..end]) {
-            return;
+            return Ended {
+                turn,
+                written: false,
+            };
         }
-        if !turn.more {
-            return;
-        }
-        left -= 1;
+    }
+    Ended {
+        turn,
+        written: true,
+    }
+}
+
+// What went wrong, on standard error.
+fn tell(ended: Ended) {
+    if !ended.written {
+        os::fail(b"rowlist: cannot write the listing");
+        return;
+    }
+    let turn = ended.turn;
+    if turn.failed {
+        os::fail(b"rowlist: cannot read the trace");
     }
 }
 
@@ -43,5 +74,5 @@ fn main() {
     let mut bounds = [0u32; BOUNDS];
     let mut text = [0u8; TEXT];
     let mut out = [0u8; OUT];
-    run(&mut counts, &mut marks, &mut bounds, &mut text, &mut out);
+    tell(run(&mut counts, &mut marks, &mut bounds, &mut text, &mut out));
 }

@@ -60,7 +60,7 @@ turn-of m text kept Failed buffer =
       failed = true;
     }
 
--- the same of the code's parameters: a turn from the one before it, what is asked for it, and what its answer says with what it left
+-- the same of the code's parameters: a turn from the one before it, what is asked for it, and what an answer says with what it left
 abbrev pub turn-from : Turn → Lent → Lent → Input → Lent → Turned
 turn-from from counts text input out =
     turn-of (memory-of (from .place) (counts .entry)) (now (text .entry)) (from .kept) input (now (out .entry))
@@ -70,29 +70,23 @@ pub record Readable (from : Turn) (input : Input) (text out : Slice) : Type 0 wh
   pub few : from .kept ≤ length (now text)
   pub room : 55 * length (now text) + line-room ≤ length (now out)
 
-abbrev pub turn-before : Turn → Lent → Lent → Lent → Turned
-turn-before from counts text out =
+abbrev pub turn-in : Turn → List ℕ → List ℕ → List ℕ → Turned
+turn-in t counts text buffer =
     record {
-      memory = memory-of (from .place) (counts .entry);
-      text = now (text .entry);
-      kept = from .kept;
-      buffer = now (out .entry);
-      end = from .end;
-      more = from .more;
-      failed = from .failed;
+      memory = memory (t .place) counts;
+      text = text;
+      kept = t .kept;
+      buffer = buffer;
+      end = t .end;
+      more = t .more;
+      failed = t .failed;
     }
 
+abbrev pub turn-before : Turn → Lent → Lent → Lent → Turned
+turn-before from counts text out = turn-in from (now (counts .entry)) (now (text .entry)) (now (out .entry))
+
 abbrev pub turn-left : Turn → Lent → Lent → Lent → Turned
-turn-left r counts text out =
-    record {
-      memory = memory-of (r .place) (counts .exit);
-      text = now (text .exit);
-      kept = r .kept;
-      buffer = now (out .exit);
-      end = r .end;
-      more = r .more;
-      failed = r .failed;
-    }
+turn-left r counts text out = turn-in r (now (counts .exit)) (now (text .exit)) (now (out .exit))
 
 -- before the first read, whatever the memory holds
 unfoldable pub first-turned : List ℕ → List ℕ → List ℕ → Turned

@@ -18,4 +18,5 @@ main-spec =
     (λ c. search needs)
     (λ c. search needs)
     run-requires
+    (λ c κs. search needs)
     (λ c. search needs))

@@ -1,0 +1,3 @@
+-- Laws of the program's runs.
+pub mod Runs
+pub mod Claims
