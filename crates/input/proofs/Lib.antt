@@ -1,4 +1,5 @@
--- Laws of files, of what a read comes to, and of whether there is another.
+-- Laws of files, of what a read comes to, of whether there is another, and of runs.
 pub mod Files
 pub mod AtHand
 pub mod Again
+pub mod Runs

@@ -1,9 +1,9 @@
 -- What a read behind kept bytes comes to, and what it leaves at hand.
 use Prim.Native.Nat.{ℕ, zero, suc, _+_, _≤_, _<_, min}
 use mathlib.Core.Path.{_≡_}
-use mathlib.Core.List.{List}
+use mathlib.Core.List.{List, [], _∷_}
 use lib.IntN.{ℤ, pos, negsuc}
-use lib.ListN.{length, take}
+use lib.ListN.{length, take, drop}
 use Rattle.input.specs.declared.Input.{Input}
 use Rattle.input.specs.declared.Input.the-variants.{Bytes, End, Failed}
 
@@ -27,3 +27,9 @@ Within Failed kept most = Unit {0}
 pub record Came (input : Input) (kept : ℕ) (before after : List ℕ) : Type 0 where
   pub front : take kept after ≡ take kept before
   pub within : Within input kept (length after)
+
+-- the part that a read behind kept bytes brought: those behind them, if there are any
+unfoldable pub brought : Input → ℕ → List ℕ → List (List ℕ)
+brought (Bytes len) kept text = drop kept (take len text) ∷ []
+brought End kept text = []
+brought Failed kept text = []

@@ -1,3 +1,4 @@
--- Files, and reads of them: what one comes to.
+-- Files, reads of them and runs of reads: what one comes to.
 pub mod Files
 pub mod AtHand
+pub mod Runs

@@ -6,11 +6,11 @@ use Prim.Native.Nat.{ℕ}
 use Rattle.listing.specs.Steps.{start}
 use Rattle.listing.specs.Texts.{listing}
 use Rattle.trace.specs.Texts.{joined}
-use Rattle.turns.specs.Turns.{Turned, first-turned}
-use Rattle.rowlist.specs.Runs.{Ran}
+use Rattle.turns.specs.Turns.{Turned}
+use Rattle.rowlist.specs.Runs.{Ran-from}
 
 -- what a run that came to the input's end was to write is the listing of all that its reads brought
 unfoldable pub Run-listed : Type 0
 Run-listed =
-    (counts text buffer : List ℕ) (last : Turned) (ran : Ran (first-turned counts text buffer) last true) →
+    (counts text buffer : List ℕ) (last : Turned) (ran : Ran-from counts text buffer last true) →
     last .more ≡ false → last .failed ≡ false → ran .out ≡ listing start (joined (ran .parts))

@@ -1,23 +1,22 @@
 -- What a run of the program is.
-use Prim.Native.Nat.{ℕ}
-use mathlib.Core.Path.{_≡_}
-use mathlib.Core.Bool.{Bool, true}
+use mathlib.Core.Bool.{Bool}
 use mathlib.Core.List.{List}
+use Prim.Native.Nat.{ℕ}
 use denote.Ref.{now}
 use Rattle.laws.specs.Lent.{Lent}
+use Rattle.input.specs.Runs.{Ran}
 use Rattle.turns.specs.Turns.{Turned, first-turned, turn-left, Chain}
 use Rattle.rowlist.specs.declared.Ended.{Ended}
 
--- a run came to such a last step, and all was written or not: steps from the first on, each from where the one before left off; where all was written they went
--- on until there was no more to read, or there were 2^64 - 1 of them
-pub record Ran (first last : Turned) (written : Bool) : Type 0 where
-  pub reads : ℕ
-  pub parts : List (List ℕ)
-  pub out : List ℕ
-  pub chain : Chain first reads last parts out
-  pub ends : written ≡ true → last .more ≡ true → reads ≡ 18446744073709551615
+-- whether there is more to read
+abbrev pub more-in : Turned → Bool
+more-in q = q .more
+
+-- from the first read on, whatever the memory held, to such a last state, and all was written or not
+abbrev pub Ran-from : List ℕ → List ℕ → List ℕ → Turned → Bool → Type 0
+Ran-from counts text buffer last written = Ran more-in (Chain (first-turned counts text buffer)) last written
 
 -- the same of the code's parameters
 abbrev pub Ran-in : Ended → Lent → Lent → Lent → Type 0
 Ran-in r counts text out =
-    Ran (first-turned (now (counts .entry)) (now (text .entry)) (now (out .entry))) (turn-left (r .turn) counts text out) (r .written)
+    Ran-from (now (counts .entry)) (now (text .entry)) (now (out .entry)) (turn-left (r .turn) counts text out) (r .written)

@@ -4,4 +4,5 @@ pub mod OneLine
 pub mod Lines
 pub mod WholePart
 pub mod Ends
+pub mod Runs
 pub mod Claims

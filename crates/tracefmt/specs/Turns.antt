@@ -1,7 +1,7 @@
--- The program's turns: what lies between two reads, and what all turns write.
-use Prim.Native.Nat.{ℕ, _≤_}
+-- The program's turns: what lies between two reads, a read with what lies behind it, and what all turns write.
+use Prim.Native.Nat.{ℕ, suc, _≤_}
 use mathlib.Core.Path.{_≡_}
-use mathlib.Core.Bool.{true, false}
+use mathlib.Core.Bool.{Bool, true, false}
 use mathlib.Core.List.{List, [], _∷_, _++_}
 use lib.Dec.{eqb}
 use lib.ListN.{length, take, drop}
@@ -10,12 +10,14 @@ use Rattle.laws.specs.Lent.{Slice, Lent}
 use Rattle.trace.specs.Lines.{ended}
 use Rattle.trace.specs.Texts.{whole, most-kept}
 use Rattle.trace.specs.Output.{Prints}
-use Rattle.spelling.specs.Contracts.{standing-of}
+use Rattle.spelling.specs.Contracts.{standing-of, no-settings}
 use Rattle.input.specs.declared.Input.{Input}
 use Rattle.input.specs.declared.Input.the-variants.{Bytes, End, Failed}
-use Rattle.input.specs.AtHand.{Within, Came}
+use Rattle.input.specs.AtHand.{Within, Came, brought}
+use Rattle.input.specs.Runs.{Ran}
 use Rattle.tracefmt.specs.declared.Place.{Place}
 use Rattle.tracefmt.specs.declared.Turn.{Turn}
+use Rattle.tracefmt.specs.declared.Ended.{Ended}
 use Rattle.tracefmt.specs.Rewriting.{Progress, rewriting, after, end-of}
 
 -- where the rewriting is, as the code holds it
@@ -43,9 +45,9 @@ pub record Moves (g : Progress) (text written : List ℕ) (g′ : Progress) (lef
 -- what a turn leaves, by what the read before it came to: it goes on while no line was faulty
 unfoldable pub Turned : Progress → List ℕ → ℕ → Input → Turn → List ℕ → List ℕ → Type 0
 Turned g text kept (Bytes len) r text′ out =
-    Moves g (take len text) (take (r .end) out) (progress-of (r .place)) (take (r .kept) text′) × (r .more ≡ eqb (r .place .refusal) 0)
-Turned g text kept End r text′ out = (progress-of (r .place) ≡ end-of g kept) × (r .end ≡ 0) × (r .more ≡ false)
-Turned g text kept Failed r text′ out = (progress-of (r .place) ≡ g) × (r .end ≡ 0) × (r .more ≡ false)
+    Moves g (take len text) (take (r .end) out) (progress-of (r .place)) (take (r .kept) text′) × (r .more ≡ eqb (r .place .refusal) 0) × (r .failed ≡ false)
+Turned g text kept End r text′ out = (progress-of (r .place) ≡ end-of g kept) × (r .end ≡ 0) × (r .more ≡ false) × (r .failed ≡ false)
+Turned g text kept Failed r text′ out = (progress-of (r .place) ≡ g) × (r .end ≡ 0) × (r .more ≡ false) × (r .failed ≡ true)
 
 -- no more is kept than the text holds, and no more to be written than the buffer
 pub record Held (r : Turn) (text out : List ℕ) : Type 0 where
@@ -63,8 +65,61 @@ Turn-leaves from text input out r =
     Turned (progress-of (from .place)) (now (text .entry)) (from .kept) input r (now (text .exit)) (now (out .exit)) ×
     Held r (now (text .exit)) (now (out .exit))
 
+-- how far a run is: what lies between two reads left, with text and buffer
+pub record State : Type 0 where
+  pub turn : Turn
+  pub text : List ℕ
+  pub buffer : List ℕ
+
+-- before the first read
+unfoldable pub first-turn : Turn
+first-turn =
+    record {
+      place = record { standing = no-settings; lines = 0; refusal = 0 };
+      kept = 0;
+      end = 0;
+      more = true;
+      failed = false;
+    }
+
+unfoldable pub first-state : List ℕ → List ℕ → State
+first-state text buffer = record { turn = first-turn; text = text; buffer = buffer }
+
+-- a read, whatever it brought, and what lies behind it
+pub record Stepped (from to : State) : Type 0 where
+  pub input : Input
+  pub text : List ℕ
+  pub few : from .turn .kept ≤ length (from .text)
+  pub came : Came input (from .turn .kept) (from .text) text
+  pub turned : Turned (progress-of (from .turn .place)) text (from .turn .kept) input (to .turn) (to .text) (to .buffer)
+
+-- so many such steps, each from where the one before left off, while there is more to read: the parts that the reads brought, and all that is to be written
+pub data Chain (first : State) : ℕ → State → List (List ℕ) → List ℕ → Type 0 where
+  none-yet : Chain first 0 first [] []
+  one-more : {n : ℕ} {from to : State} {parts : List (List ℕ)} {out : List ℕ}
+      → Chain first n from parts out → from .turn .more ≡ true → (s : Stepped from to)
+      → Chain first (suc n) to (parts ++ brought (s .input) (from .turn .kept) (s .text)) (out ++ take (to .turn .end) (to .buffer))
+
+-- whether there is more to read
+abbrev pub more-in : State → Bool
+more-in q = q .turn .more
+
+-- a run from the first read on, to such a last state, and all was written or not
+abbrev pub Ran-from : List ℕ → List ℕ → State → Bool → Type 0
+Ran-from text buffer last written = Ran more-in (Chain (first-state text buffer)) last written
+
+-- the same of the code's parameters
+abbrev pub state-before : Turn → Lent → Lent → State
+state-before from text out = record { turn = from; text = now (text .entry); buffer = now (out .entry) }
+
+abbrev pub state-left : Turn → Lent → Lent → State
+state-left r text out = record { turn = r; text = now (text .exit); buffer = now (out .exit) }
+
+abbrev pub Ran-in : Ended → Lent → Lent → Type 0
+Ran-in r text out = Ran-from (now (text .entry)) (now (out .entry)) (state-left (r .turn) text out) (r .written)
+
 -- turns, each on what the one before left: the parts that the reads brought, all that is to be written, and where the rewriting has come to. Of a
--- read and of what lies behind it only the contracts of `read_behind` and `between_reads` are known
+-- read and of what lies behind it only the contracts of `read_from` and `between_reads` are known
 pub data Turns : Progress → List ℕ → ℕ → List (List ℕ) → List ℕ → Progress → Type 0 where
   -- a read brought a part, and the program goes on
   goes-on : {g : Progress} {text : List ℕ} {kept : ℕ} (text₁ : List ℕ) (len : ℕ) (r : Turn) (text₂ buffer : List ℕ) {parts : List (List ℕ)} {out : List ℕ} {last : Progress}

@@ -1,5 +1,6 @@
 // Rewrites a trace in its one spelling: standard input to standard output, through buffers of fixed size. At the first faulty line it stops and
-// says on standard error which it is.
+// says on standard error which it is, and so it does where something cannot be read or written.
+use input::File;
 use input::Input;
 use libc::STDERR_FILENO;
 use libc::STDOUT_FILENO;
@@ -7,14 +8,14 @@ use spelling::Standing;
 use trace::LINES;
 use trace::Read;
 ghost use mathlib.Core.Path.{_≡_};
-ghost use mathlib.Core.Bool.{true};
 ghost use Prim.Native.Nat.{_+_, _≤_};
 ghost use lib.ListN.{length, take};
 ghost use Rattle.trace.specs.Reading.{said};
 ghost use Rattle.trace.specs.Output.{Prints-into};
 ghost use Rattle.trace.specs.Spelling.{answer-spelling};
-ghost use Rattle.tracefmt.specs.Rewriting.{start, next, writes, end-of, fault-line};
-ghost use Rattle.tracefmt.specs.Turns.{progress-of, Rewrites, Moves, Readable, Turn-leaves};
+ghost use Rattle.tracefmt.specs.Rewriting.{next, writes, end-of, fault-line};
+ghost use Rattle.tracefmt.specs.Turns.{progress-of, Rewrites, Moves, Readable, Turn-leaves, first-turn, Stepped, state-before, state-left, Ran-in};
+ghost use Rattle.tracefmt.specs.Contracts.{Carried-in};
 
 // The bytes of a read, and of what they write: no line's spelling is longer than the line.
 const TEXT: usize = 65_536;
@@ -46,13 +47,20 @@ struct Chunk {
     kept: usize,
 }
 
-// What lies between two reads left: where the rewriting is, how many bytes are kept at the text's front and how many are to be written, and
-// whether to read again.
+// What lies between two reads left: where the rewriting is, how many bytes are kept at the text's front and how many are to be written, whether
+// to read again, and whether the read failed.
 struct Turn {
     place: Place,
     kept: usize,
     end: usize,
     more: bool,
+    failed: bool,
+}
+
+// How a run ended: what its last step left, and whether all that was to be written was.
+struct Ended {
+    turn: Turn,
+    written: bool,
 }
 
 // Behind a line, as it was read.
@@ -174,6 +182,7 @@ fn between_reads(from: Turn, text: &mut [u8], input: Input, out: &mut [u8]) -> T
                 kept: chunk.kept,
                 end: chunk.end,
                 more: after.refusal == 0,
+                failed: false,
             }
         }
         Input::End => {
@@ -183,6 +192,7 @@ fn between_reads(from: Turn, text: &mut [u8], input: Input, out: &mut [u8]) -> T
                 kept,
                 end: 0,
                 more: false,
+                failed: false,
             }
         }
         Input::Failed => Turn {
@@ -190,13 +200,14 @@ fn between_reads(from: Turn, text: &mut [u8], input: Input, out: &mut [u8]) -> T
             kept,
             end: 0,
             more: false,
+            failed: true,
         },
     }
 }
 
 // Before the first read.
 fn first_turn() -> Turn
-    ensures { λ r. ⌜ (progress-of (r .place) ≡ start) × (r .kept ≡ 0) × (r .end ≡ 0) × (r .more ≡ true) ⌝ }
+    ensures { λ r. ⌜ r ≡ first-turn ⌝ }
 {
     let standing = spelling::no_settings();
     Turn {
@@ -208,41 +219,72 @@ fn first_turn() -> Turn
         kept: 0,
         end: 0,
         more: true,
+        failed: false,
     }
 }
 
-// Reads, rewrites and writes, until the input ends, a line is faulty, or a read or write fails; where the rewriting has come to.
-fn run(text: &mut [u8], out: &mut [u8]) -> Place
-    requires { ⌜ (length (now text) ≡ 65536) × (length (now out) ≡ 65536) ⌝ }
+// A read of the trace, and what lies behind it.
+fn next_turn(from: Turn, file: File, text: &mut [u8], out: &mut [u8]) -> Turn
+    requires { ⌜ Carried-in from text out ⌝ }
+    ensures { λ r. ⌜ Carried-in r (text .exit) (out .exit) ⌝ }
+    ensures { λ r. ⌜ Stepped (state-before from text out) (state-left r text out) ⌝ }
 {
+    let input = input::read_from(file, text, from.kept);
+    between_reads(from, text, input, out)
+}
+
+// Reads, rewrites and writes, until the input ends, a line is faulty, or a read or write fails.
+fn run(text: &mut [u8], out: &mut [u8]) -> Ended
+    requires { ⌜ (length (now text) ≡ 65536) × (length (now out) ≡ 65536) ⌝ }
+    ensures { λ r. ⌜ Ran-in r text out ⌝ }
+{
+    let file = input::standard_input();
     let mut turn = first_turn();
-    let mut turns = u64::MAX;
-    while turns > 0 {
-        let input = input::read_behind(text, turn.kept);
-        turn = between_reads(turn, text, input, out);
+    let mut left = u64::MAX;
+    while input::reads_again(turn.more, left) {
+        turn = next_turn(turn, file, text, out);
+        left -= 1;
         let end = turn.end;
         if !io::write_all(STDOUT_FILENO, &out[..end]) {
-            return turn.place;
+            return Ended {
+                turn,
+                written: false,
+            };
         }
-        if !turn.more {
-            return turn.place;
-        }
-        turns -= 1;
     }
-    turn.place
+    Ended {
+        turn,
+        written: true,
+    }
 }
 
 // Says which line was faulty, if one was.
-fn tell(p: Place, out: &mut [u8])
+fn tell_fault(p: Place, out: &mut [u8])
     requires { ⌜ 18 ≤ length (now out) ⌝ }
 {
     let end = print_fault(p, out);
     io::write_all(STDERR_FILENO, &out[..end]);
 }
 
+// What went wrong, on standard error: something could not be written or read, or a line was faulty.
+fn tell(ended: Ended, out: &mut [u8])
+    requires { ⌜ 18 ≤ length (now out) ⌝ }
+{
+    if !ended.written {
+        os::fail(b"tracefmt: cannot write the spelling");
+        return;
+    }
+    let turn = ended.turn;
+    if turn.failed {
+        os::fail(b"tracefmt: cannot read the trace");
+        return;
+    }
+    tell_fault(turn.place, out);
+}
+
 fn main() {
     let mut text = [0u8; TEXT];
     let mut out = [0u8; TEXT];
-    let place = run(&mut text, &mut out);
-    tell(place, &mut out);
+    let ended = run(&mut text, &mut out);
+    tell(ended, &mut out);
 }

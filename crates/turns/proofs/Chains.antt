@@ -10,8 +10,8 @@ use Rattle.listing.specs.Memory.{Memory}
 use Rattle.listing.specs.Chunks.{line-room}
 use Rattle.input.specs.declared.Input.{Input}
 use Rattle.input.specs.declared.Input.the-variants.{Bytes, End, Failed}
-use Rattle.input.specs.AtHand.{Within, Came}
-use Rattle.turns.specs.Turns.{Turned, turn-of, brought, Stepped, Chain, none-yet, one-more, Turns, goes-on, stops}
+use Rattle.input.specs.AtHand.{Within, Came, brought}
+use Rattle.turns.specs.Turns.{Turned, turn-of, Stepped, Chain, none-yet, one-more, Turns, goes-on, stops}
 
 -- turns behind a state of a chain
 abbrev pub Turns-behind : Turned → List (List ℕ) → List ℕ → Type 0

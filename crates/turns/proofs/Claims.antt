@@ -22,9 +22,9 @@ use Rattle.listing.proofs.Chunks.Lines.{done-part}
 use Rattle.listing.proofs.Claims.{parts-joined, chunk-moves, end-moves}
 use Rattle.input.specs.declared.Input.{Input}
 use Rattle.input.specs.declared.Input.the-variants.{Bytes, End, Failed}
-use Rattle.input.specs.AtHand.{Within, Came}
+use Rattle.input.specs.AtHand.{Within, Came, brought}
 use Rattle.input.proofs.AtHand.{at-hand}
-use Rattle.turns.specs.Turns.{Turned, turn-of, first-turned, brought, Stepped, Chain, none-yet, one-more, Turns, goes-on, stops}
+use Rattle.turns.specs.Turns.{Turned, turn-of, first-turned, Stepped, Chain, none-yet, one-more, Turns, goes-on, stops}
 use Rattle.turns.specs.Claims.{Turns-listed, Whole, Chain-turns, Begins, Chain-begins, Chains-exist}
 use Rattle.turns.proofs.Chains.{chain-goes-on, chain-ends}
 

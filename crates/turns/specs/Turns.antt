@@ -11,7 +11,7 @@ use Rattle.listing.specs.Memory.{Memory, memory, memory-of, start-place}
 use Rattle.listing.specs.Chunks.{next-number, line-room, chunk, last-line}
 use Rattle.input.specs.declared.Input.{Input}
 use Rattle.input.specs.declared.Input.the-variants.{Bytes, End, Failed}
-use Rattle.input.specs.AtHand.{Within, Came}
+use Rattle.input.specs.AtHand.{Within, Came, brought}
 use Rattle.turns.specs.declared.Turn.{Turn}
 
 -- what lies between two reads leaves: memory, text and buffer, how many bytes are kept and how many are to be written, whether to read again, and whether the
@@ -100,12 +100,6 @@ first-turned counts text buffer =
       more = true;
       failed = false;
     }
-
--- the part that a read behind kept bytes brought: those behind them, if there are any
-unfoldable pub brought : Input → ℕ → List ℕ → List (List ℕ)
-brought (Bytes len) kept text = drop kept (take len text) ∷ []
-brought End kept text = []
-brought Failed kept text = []
 
 -- a read, whatever it brought, and what lies behind it
 pub record Stepped (from to : Turned) : Type 0 where

@@ -9,8 +9,10 @@ use lib.Seq.{length-take-le}
 use Rattle.listing.proofs.Memory.Progress.{represents-start}
 use Rattle.listing.proofs.Memory.Zeros.{banked-start}
 use Rattle.input.proofs.Again.{more-left, none-left}
+use Rattle.input.proofs.Runs.{ran-unwritten, ran-written}
 use Rattle.turns.specs.Turns.{first-turned, none-yet}
-use Rattle.rowlist.proofs.Runs.{Going, steps-on, ran-unwritten, ran-written}
+use Rattle.rowlist.specs.Runs.{more-in}
+use Rattle.rowlist.proofs.Runs.{Going, steps-on}
 use Rattle.rowlist.proofs.run.Statement.{statement}
 use Rattle.rowlist.proofs.run.Tie as tie
 
@@ -72,7 +74,7 @@ returns c =
     let n = c .before .before .before .before .before .before .before .before .before .before .before .before .before .next-turn in
     let l = c .before .before .before .before .before .before .before .before .before .before .before .before .before .before .before .before .before .before .before .before .before .loop in
     let on = more-left (l .turn .more) (l .left) (c .before .before .before .before .before .before .before .before .before .before .before .before .before .before .before .before .before .before .before .before .reads-again .ensures) (c .before .before .before .before .before .before .before .before .before .before .before .before .before .before .before .before .before .before .before .if1 .taken) in
-    ran-unwritten (steps-on (l .inv .steps) (on .0) (on .1) (n .ensures .1))
+    ran-unwritten more-in (steps-on (l .inv .steps) (on .0) (on .1) (n .ensures .1))
 
 loop-less : tie.Need-loop-less Inv-loop μ-loop
 loop-less c = omega (arith, more-left (c .before .before .before .before .before .before .before .before .before .before .before .before .before .before .before .before .before .before .before .before .before .loop .turn .more) (c .before .before .before .before .before .before .before .before .before .before .before .before .before .before .before .before .before .before .before .before .before .loop .left) (c .before .before .before .before .before .before .before .before .before .before .before .before .before .before .before .before .before .before .before .before .reads-again .ensures) (c .before .before .before .before .before .before .before .before .before .before .before .before .before .before .before .before .before .before .before .if1 .taken) .1)
@@ -102,7 +104,7 @@ same-length-10 c = c .before .before .loop .inv .carried .out-long ∙ sym (c .b
 returns-2 : tie.Need-returns-2 Inv-loop μ-loop
 returns-2 c =
     let l = c .before .before .loop in
-    ran-written (l .inv .steps) (none-left (l .turn .more) (l .left) (c .before .reads-again .ensures) (c .if1 .left))
+    ran-written more-in (l .inv .steps) (none-left (l .turn .more) (l .left) (c .before .reads-again .ensures) (c .if1 .left))
 
 pub run-spec : {M : Type 1} → statement M
 run-spec =

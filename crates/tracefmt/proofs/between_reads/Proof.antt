@@ -18,19 +18,19 @@ returns : tie.Need-returns
 unfolding Turned
 returns c =
     let chunk = c .before .before .before .before .before .before .rewrite-chunk in
-    rw (c .before .before .before .before .before .before .before .before .before .before .input .given .1) ((chunk .ensures .0, refl), record { few = chunk .ensures .1; fits = chunk .ensures .2 })
+    rw (c .before .before .before .before .before .before .before .before .before .before .input .given .1) ((chunk .ensures .0, refl, refl), record { few = chunk .ensures .1; fits = chunk .ensures .2 })
 
 returns-2 : tie.Need-returns-2
 unfolding Turned
 returns-2 c =
     let start = c .before .before .before .before .before .before in
-    rw (c .before .enum-told .given .1) ((c .rewrite-end .ensures, refl, refl), record { few = start .pre .few; fits = omega arith })
+    rw (c .before .enum-told .given .1) ((c .rewrite-end .ensures, refl, refl, refl), record { few = start .pre .few; fits = omega arith })
 
 returns-3 : tie.Need-returns-3
 unfolding Turned
 returns-3 c =
     let start = c .before .before .before .before .before in
-    rw (c .enum-told2 .given .1) ((refl, refl, refl), record { few = start .pre .few; fits = omega arith })
+    rw (c .enum-told2 .given .1) ((refl, refl, refl, refl), record { few = start .pre .few; fits = omega arith })
 
 pub between-reads-spec : {M : Type 1} → statement M
 between-reads-spec =

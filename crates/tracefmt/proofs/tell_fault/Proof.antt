@@ -1,11 +1,11 @@
--- `tracefmt::tell` is safe.
+-- `tracefmt::tell_fault` is safe.
 use mathlib.Core.Path.{sym}
 use native.Mathlib.Omega.{arith}
 use borrow.Author.Needs.{needs}
 use lib.Seq.{length-take-le}
 use Rattle.trace.proofs.Output.{prints-long}
-use Rattle.tracefmt.proofs.tell.Statement.{statement}
-use Rattle.tracefmt.proofs.tell.Tie as tie
+use Rattle.tracefmt.proofs.tell_fault.Statement.{statement}
+use Rattle.tracefmt.proofs.tell_fault.Tie as tie
 
 slice-reshare-prefix-write-all : tie.Need-slice-reshare-prefix-write-all
 slice-reshare-prefix-write-all c =
@@ -17,8 +17,8 @@ slice-aggregate-write-all c =
     let p = c .before .before .before .print-fault .ensures in
     sym (length-take-le _ _ (omega (arith, p .fits, p .behind, prints-long p)))
 
-pub tell-spec : {M : Type 1} → statement M
-tell-spec =
+pub tell-fault-spec : {M : Type 1} → statement M
+tell-fault-spec =
     tie.close
     (tie.spec
     (λ c κs. search needs)
