@@ -1,7 +1,7 @@
--- What a run of a program is that reads, and writes behind each read.
+-- What a run of a program is that reads, and writes behind each read; and one that came to the input's end.
 use Prim.Native.Nat.{ℕ}
 use mathlib.Core.Path.{_≡_}
-use mathlib.Core.Bool.{Bool, true}
+use mathlib.Core.Bool.{Bool, true, false}
 use mathlib.Core.List.{List}
 
 -- a run came to such a last state, and all was written or not: so many steps from the first state on, by the program's own chains of steps, with the parts that
@@ -12,3 +12,11 @@ pub record Ran {A : Type 0} (more : A → Bool) (Chain : ℕ → A → List (Lis
   pub out : List ℕ
   pub chain : Chain reads last parts out
   pub ends : written ≡ true → more last ≡ true → reads ≡ 18446744073709551615
+
+-- steps from the first state on that came to where there is no more to read, without a failure
+pub record Whole {A : Type 0} (more failed : A → Bool) (Chain : ℕ → A → List (List ℕ) → List ℕ → Type 0) (parts : List (List ℕ)) (out : List ℕ) : Type 0 where
+  pub reads : ℕ
+  pub last : A
+  pub chain : Chain reads last parts out
+  pub no-more : more last ≡ false
+  pub none-failed : failed last ≡ false

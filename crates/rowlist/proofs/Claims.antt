@@ -5,7 +5,7 @@ use Rattle.rowlist.specs.Claims.{Run-listed}
 
 pub run-listed : Run-listed
 unfolding Run-listed Turns-listed Chain-turns
-run-listed counts text buffer last ran no-more none-failed =
+run-listed counts text buffer last written ran no-more none-failed =
     turns-listed counts text (ran .parts) (ran .out)
     (chain-turns counts text buffer (ran .parts) (ran .out)
     (record { reads = ran .reads; last = last; chain = ran .chain; no-more = no-more; none-failed = none-failed }))

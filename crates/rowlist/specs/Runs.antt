@@ -5,12 +5,8 @@ use Prim.Native.Nat.{ℕ}
 use denote.Ref.{now}
 use Rattle.laws.specs.Lent.{Lent}
 use Rattle.input.specs.Runs.{Ran}
-use Rattle.turns.specs.Turns.{Turned, first-turned, turn-left, Chain}
+use Rattle.turns.specs.Turns.{Turned, first-turned, turn-left, more-in, Chain}
 use Rattle.rowlist.specs.declared.Ended.{Ended}
-
--- whether there is more to read
-abbrev pub more-in : Turned → Bool
-more-in q = q .more
 
 -- from the first read on, whatever the memory held, to such a last state, and all was written or not
 abbrev pub Ran-from : List ℕ → List ℕ → List ℕ → Turned → Bool → Type 0

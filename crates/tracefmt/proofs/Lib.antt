@@ -5,4 +5,5 @@ pub mod Lines
 pub mod WholePart
 pub mod Ends
 pub mod Runs
+pub mod Chains
 pub mod Claims

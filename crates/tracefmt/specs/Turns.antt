@@ -14,7 +14,7 @@ use Rattle.spelling.specs.Contracts.{standing-of, no-settings}
 use Rattle.input.specs.declared.Input.{Input}
 use Rattle.input.specs.declared.Input.the-variants.{Bytes, End, Failed}
 use Rattle.input.specs.AtHand.{Within, Came, brought}
-use Rattle.input.specs.Runs.{Ran}
+use Rattle.input.specs.Runs.{Ran, Whole}
 use Rattle.tracefmt.specs.declared.Place.{Place}
 use Rattle.tracefmt.specs.declared.Turn.{Turn}
 use Rattle.tracefmt.specs.declared.Ended.{Ended}
@@ -89,9 +89,9 @@ first-state text buffer = record { turn = first-turn; text = text; buffer = buff
 pub record Stepped (from to : State) : Type 0 where
   pub input : Input
   pub text : List ℕ
-  pub few : from .turn .kept ≤ length (from .text)
   pub came : Came input (from .turn .kept) (from .text) text
   pub turned : Turned (progress-of (from .turn .place)) text (from .turn .kept) input (to .turn) (to .text) (to .buffer)
+  pub held : Held (to .turn) (to .text) (to .buffer)
 
 -- so many such steps, each from where the one before left off, while there is more to read: the parts that the reads brought, and all that is to be written
 pub data Chain (first : State) : ℕ → State → List (List ℕ) → List ℕ → Type 0 where
@@ -100,13 +100,19 @@ pub data Chain (first : State) : ℕ → State → List (List ℕ) → List ℕ 
       → Chain first n from parts out → from .turn .more ≡ true → (s : Stepped from to)
       → Chain first (suc n) to (parts ++ brought (s .input) (from .turn .kept) (s .text)) (out ++ take (to .turn .end) (to .buffer))
 
--- whether there is more to read
+-- whether there is more to read, and whether the last read failed
 abbrev pub more-in : State → Bool
 more-in q = q .turn .more
 
--- a run from the first read on, to such a last state, and all was written or not
+abbrev pub failed-in : State → Bool
+failed-in q = q .turn .failed
+
+-- a run from the first read on, to such a last state, and all was written or not; and steps that came to a faulty line or to the input's end
 abbrev pub Ran-from : List ℕ → List ℕ → State → Bool → Type 0
 Ran-from text buffer last written = Ran more-in (Chain (first-state text buffer)) last written
+
+abbrev pub Whole-from : List ℕ → List ℕ → List (List ℕ) → List ℕ → Type 0
+Whole-from text buffer parts out = Whole more-in failed-in (Chain (first-state text buffer)) parts out
 
 -- the same of the code's parameters
 abbrev pub state-before : Turn → Lent → Lent → State

@@ -25,7 +25,7 @@ use Rattle.input.specs.declared.Input.the-variants.{Bytes, End, Failed}
 use Rattle.input.specs.AtHand.{Within, Came, brought}
 use Rattle.input.proofs.AtHand.{at-hand}
 use Rattle.turns.specs.Turns.{Turned, turn-of, first-turned, Stepped, Chain, none-yet, one-more, Turns, goes-on, stops}
-use Rattle.turns.specs.Claims.{Turns-listed, Whole, Chain-turns, Begins, Chain-begins, Chains-exist}
+use Rattle.turns.specs.Claims.{Turns-listed, Whole-from, Chain-turns, Begins, Chain-begins, Chains-exist}
 use Rattle.turns.proofs.Chains.{chain-goes-on, chain-ends}
 
 turns-printed : {m : Memory} {g : Progress} {text : List ℕ} {kept : ℕ} {parts : List (List ℕ)} {out : List ℕ} → Represents m g → ended (take kept text) ≡ false → Turns m text kept parts out → Printed g (take kept text) parts out
@@ -109,7 +109,7 @@ module _ (counts text buffer part : List ℕ) (some-bytes : 0 < length part) (ro
         same = refl;
       }
 
-  whole-part : Whole first (part ∷ []) (listing start part)
+  whole-part : Whole-from counts text buffer (part ∷ []) (listing start part)
   unfolding first-turned turn-of brought joined Turns-listed reads-part reads-end
   whole-part =
       let chain = one-more (one-more none-yet refl reads-part) refl reads-end in

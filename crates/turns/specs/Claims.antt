@@ -1,7 +1,6 @@
 -- What is claimed of the turns of a run, besides the functions' contracts. proofs/Claims.antt proves each under the same name.
 use Prim.Native.Nat.{ℕ, _+_, _*_, _≤_, _<_}
 use mathlib.Core.Path.{_≡_}
-use mathlib.Core.Bool.{false}
 use mathlib.Core.List.{List, [], _∷_, _++_}
 use lib.ListN.{length}
 use Rattle.listing.specs.Steps.{start}
@@ -9,7 +8,8 @@ use Rattle.listing.specs.Texts.{listing}
 use Rattle.listing.specs.Memory.{memory, start-place}
 use Rattle.listing.specs.Chunks.{line-room}
 use Rattle.trace.specs.Texts.{joined}
-use Rattle.turns.specs.Turns.{Turned, first-turned, Chain, Turns}
+use Rattle.input.specs.Runs.{Whole}
+use Rattle.turns.specs.Turns.{Turned, more-in, failed-in, first-turned, Chain, Turns}
 
 -- from the start on, all that is to be written is the listing of all that the reads brought
 unfoldable pub Turns-listed : Type 0
@@ -18,18 +18,14 @@ Turns-listed =
     Turns (memory start-place counts) text 0 parts out → out ≡ listing start (joined parts)
 
 -- a chain of steps that came to the input's end
-pub record Whole (first : Turned) (parts : List (List ℕ)) (out : List ℕ) : Type 0 where
-  pub reads : ℕ
-  pub last : Turned
-  pub chain : Chain first reads last parts out
-  pub no-more : last .more ≡ false
-  pub none-failed : last .failed ≡ false
+abbrev pub Whole-from : List ℕ → List ℕ → List ℕ → List (List ℕ) → List ℕ → Type 0
+Whole-from counts text buffer parts out = Whole more-in failed-in (Chain (first-turned counts text buffer)) parts out
 
 -- such a chain is what `Turns-listed` speaks of
 unfoldable pub Chain-turns : Type 0
 Chain-turns =
     (counts text buffer : List ℕ) (parts : List (List ℕ)) (out : List ℕ) →
-    Whole (first-turned counts text buffer) parts out → Turns (memory start-place counts) text 0 parts out
+    Whole-from counts text buffer parts out → Turns (memory start-place counts) text 0 parts out
 
 -- wherever a chain stops, as where a read or a write fails: what it was to write is a beginning of the listing of what its reads brought
 pub record Begins (front whole : List ℕ) : Type 0 where
@@ -45,4 +41,4 @@ Chain-begins =
 unfoldable pub Chains-exist : Type 0
 Chains-exist =
     (counts text buffer part : List ℕ) → 0 < length part → 55 * length part + line-room ≤ length buffer →
-    Whole (first-turned counts text buffer) (part ∷ []) (listing start part)
+    Whole-from counts text buffer (part ∷ []) (listing start part)

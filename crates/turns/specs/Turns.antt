@@ -88,6 +88,13 @@ turn-before from counts text out = turn-in from (now (counts .entry)) (now (text
 abbrev pub turn-left : Turn → Lent → Lent → Lent → Turned
 turn-left r counts text out = turn-in r (now (counts .exit)) (now (text .exit)) (now (out .exit))
 
+-- whether there is more to read, and whether the last read failed
+abbrev pub more-in : Turned → Bool
+more-in q = q .more
+
+abbrev pub failed-in : Turned → Bool
+failed-in q = q .failed
+
 -- before the first read, whatever the memory holds
 unfoldable pub first-turned : List ℕ → List ℕ → List ℕ → Turned
 first-turned counts text buffer =

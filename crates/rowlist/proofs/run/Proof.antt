@@ -10,8 +10,7 @@ use Rattle.listing.proofs.Memory.Progress.{represents-start}
 use Rattle.listing.proofs.Memory.Zeros.{banked-start}
 use Rattle.input.proofs.Again.{more-left, none-left}
 use Rattle.input.proofs.Runs.{ran-unwritten, ran-written}
-use Rattle.turns.specs.Turns.{first-turned, none-yet}
-use Rattle.rowlist.specs.Runs.{more-in}
+use Rattle.turns.specs.Turns.{first-turned, none-yet, more-in}
 use Rattle.rowlist.proofs.Runs.{Going, steps-on}
 use Rattle.rowlist.proofs.run.Statement.{statement}
 use Rattle.rowlist.proofs.run.Tie as tie

@@ -21,9 +21,9 @@ returns c =
       record {
         input = r .result;
         text = r .last .1 .0;
-        few = omega (arith, a .pre .kept-few, a .pre .text-long);
         came = r .ensures;
         turned = b .ensures .0;
+        held = b .ensures .1;
       },
     )
 
