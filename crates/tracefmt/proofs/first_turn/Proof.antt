@@ -1,7 +1,7 @@
 -- `tracefmt::first_turn` meets its contract.
 use mathlib.Core.Path.{refl}
 use borrow.Author.Needs.{needs}
-use Rattle.spelling.specs.Contracts.{no-settings, standing-of}
+use Rattle.spelling.specs.Answers.{no-settings, standing-of}
 use Rattle.tracefmt.specs.Rewriting.{start}
 use Rattle.tracefmt.specs.Turns.{progress-of}
 use Rattle.tracefmt.proofs.first_turn.Statement.{statement}
