@@ -219,13 +219,13 @@ def check_broken(tally, command, folder):
 
 
 def check_reasons(tally, command, folder):
-    """The whole line that says what is wrong, with the file's name where it cannot be opened."""
+    """The whole line that says what is wrong, with the file's name where it is one that Linux takes."""
     trace, listing = write_texts(folder)
     missing = f"{folder}/missing"
     for names, line in (((), USAGE), ((missing, listing), NO_TRACE + b" %s: No such file or directory" % missing.encode()),
                         ((trace, missing), NO_LISTING + b" %s: No such file or directory" % missing.encode()),
-                        ((folder, listing), TRACE_UNREAD + b": Is a directory"),
-                        ((trace, folder), LISTING_UNREAD + b": Is a directory"),
+                        ((folder, listing), TRACE_UNREAD + b" %s: Is a directory" % folder.encode()),
+                        ((trace, folder), LISTING_UNREAD + b" %s: Is a directory" % folder.encode()),
                         ((longer(trace, 5000), listing), NO_TRACE + b": File name too long")):
         found = said(command, *names)
         tally.check(found == line + b"\n", f"{names}: {found}, and ought to be {line}")

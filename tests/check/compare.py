@@ -11,8 +11,8 @@ at places where blocks of bytes end, and on long texts. Each answer is held agai
 against the bytes that the listing has in common with what `rowlist` prints; pairs that are short enough
 are put to the library's call too (crates/test_check). One fixed and one fresh seed
 (--seed repeats a fresh one). What differs stays in target/check/. Then inputs and outputs that fail,
-inputs that are pipes, and memory. Of the model alone: the disturbance of the silicon behind passed
-listings (tests/model/src/silicon.rs, supplier.rs).
+inputs that are pipes, README.md's line for scripts (script.py), and memory. Of the model alone: the
+disturbance of the silicon behind passed listings (tests/model/src/silicon.rs, supplier.rs).
 Exit status: 0 all equal; 1 a difference; 2 something is missing or cannot be built.
 """
 
@@ -37,6 +37,7 @@ from comparison import (
 from damages import DAMAGES, EVERY, departure
 from programs import add_programs, command_of, through_pipe
 from rowcheck import Answer, answered, rowcheck
+from script import check_script
 from traces import PLANS, across, exact_size, plain_trace
 
 OUT = "target/check"
@@ -376,6 +377,7 @@ def main():
     check_names(tally, command, OUT)
     check_pipes(tally, command, OUT)
     check_broken(tally, command, OUT)
+    check_script(tally, command, OUT)
     check_memory(tally, command, OUT)
     for seed, name in ((FIXED_SEED, "fixed"), (fresh_seed, "fresh")):
         check_random(compare, seed, name)

@@ -5,7 +5,7 @@ use Rattle.trace.specs.declared.Record.{Record}
 use Rattle.trace.specs.declared.Record.the-variants.{Set, Remap, Activate, Refresh, Blank}
 use Rattle.trace.specs.Writing.{standing-behind}
 use Rattle.spelling.specs.declared.Standing.{Standing}
-use Rattle.spelling.specs.Contracts.{standing-of, stood}
+use Rattle.spelling.specs.Answers.{standing-of, stood}
 
 pub standing-stood : (s : Standing) (o : Outcome Record) → standing-of (stood s o) ≡ standing-behind (standing-of s) o
 unfolding stood standing-of standing-behind

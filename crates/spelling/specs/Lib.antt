@@ -1,2 +1,2 @@
--- The spelling of answers: what its functions promise each other. The definitions are the trace's.
-pub mod Contracts
+-- The spelling of answers: what the code's settings last before an answer say. All else is the trace's.
+pub mod Answers

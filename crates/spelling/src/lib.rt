@@ -17,7 +17,7 @@ ghost use Rattle.trace.specs.Reading.{said};
 ghost use Rattle.trace.specs.Output.{Prints-into};
 ghost use Rattle.trace.specs.Spelling.{settings-numbers, spelled-line, activation-spelling, record-spelling, answer-spelling};
 ghost use Rattle.trace.specs.Writing.{activation-fault, event-fault, fault};
-ghost use Rattle.spelling.specs.Contracts.{no-settings, standing-of, stood};
+ghost use Rattle.spelling.specs.Answers.{no-settings, standing-of, stood};
 
 // N of the settings last before a record, if any stand.
 pub struct Standing {

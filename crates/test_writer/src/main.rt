@@ -8,7 +8,7 @@ ghost use mathlib.Core.Path.{_≡_};
 ghost use Prim.Native.Nat.{_≤_};
 ghost use lib.ListN.{length, take};
 ghost use Rattle.trace.specs.Writing.{writing};
-ghost use Rattle.writer.specs.Contracts.{outcomes-of, write-left};
+ghost use Rattle.writer.specs.Answers.{outcomes-of, write-left};
 
 // The byte at a place, or 0 behind the end.
 fn byte(buf: &[u8], at: usize) -> u32

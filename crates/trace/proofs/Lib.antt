@@ -1,5 +1,5 @@
--- Laws of numbers in columns, of lines, their records and the reader, of texts and what is printed; of the spelling and the writer; of what inner
--- contracts say; and the claims.
+-- Laws of numbers in columns, of lines, their records and the reader, of texts and what is printed; of the spelling and the writer; of what answers
+-- say and of what private functions promise; and the claims.
 pub mod Numbers
 pub mod Lines
 pub mod Records
@@ -8,5 +8,6 @@ pub mod Texts
 pub mod Output
 pub mod Spelling
 pub mod Writing
+pub mod Answers
 pub mod Contracts
 pub mod Claims

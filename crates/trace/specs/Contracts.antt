@@ -1,31 +1,11 @@
--- Relations that only contracts use: what the columns of a field were found to hold, where a byte 10 stands, and bytes that are copied.
-use Prim.Native.Nat.{ℕ, _+_, _*_}
+-- Inner relations, in which private functions of this crate promise each other where a byte 10 stands.
+use Prim.Native.Nat.{ℕ, _*_}
 use mathlib.Core.Bool.{Bool, _&&_, cond}
-use mathlib.Core.List.{List, _++_}
-use mathlib.Core.Path.{_≡_}
-use mathlib.Core.Option.{Option, none, some}
-use lib.Dec.{eqb, leb, ltb}
-use lib.ListN.{length, getD, take, drop}
-use denote.Ref.{now}
-use Rattle.laws.specs.Lent.{Lent}
-use Rattle.trace.specs.declared.Field.{Field}
-use Rattle.trace.specs.declared.Field.the-variants.{Number, Other}
-use Rattle.trace.specs.declared.Fields.{Fields}
-use Rattle.trace.specs.Bytes.{letter-A}
-use Rattle.trace.specs.Numbers.{field, fields}
-
--- what some columns hold: a number, or something else
-unfoldable pub found : Field → Option ℕ
-found (Number n) = some n
-found Other = none
-
--- what some columns hold, as a number of which the largest of 32 bits stands for none
-unfoldable pub number-found : ℕ → Option ℕ
-number-found n = cond (eqb n 4294967295) none (some n)
-
--- what so many fields hold: as many numbers, or something else in one of them
-unfoldable pub found-all : ℕ → Fields → Option (List ℕ)
-found-all count r = cond (r .all) (some (take count (r .values))) none
+use mathlib.Core.List.{List}
+use mathlib.Core.Option.{Option, none}
+use lib.Dec.{eqb, ltb}
+use lib.ListN.{length, getD}
+use Rattle.trace.specs.Numbers.{fields}
 
 -- whether a byte 10 stands behind so many bytes
 unfoldable pub ends-after : ℕ → List ℕ → Bool
@@ -34,12 +14,3 @@ ends-after width text = ltb width (length text) && eqb (getD text width 0) 10
 -- so many fields, if a byte 10 stands right behind them
 unfoldable pub line-fields : ℕ → List ℕ → Option (List ℕ)
 line-fields count text = cond (ends-after (6 * count) text) (fields count text) none
-
--- the row of an activation line of one unit at a place: the number in its 6 columns, if an `A` stands before them and a byte 10 right behind
-unfoldable pub row-told : List ℕ → ℕ → Option ℕ
-row-told text place =
-    cond (leb (place + 8) (length text) && eqb (getD text place 0) letter-A && eqb (getD text (place + 7) 0) 10) (field (place + 1) text) none
-
--- bytes are copied to a lent text's front, so many
-abbrev pub Copies-front : Lent → List ℕ → ℕ → Type 0
-Copies-front text bytes count = (count ≡ length bytes) × (now (text .exit) ≡ bytes ++ drop count (now (text .entry)))

@@ -8,5 +8,6 @@ pub mod Texts
 pub mod Output
 pub mod Spelling
 pub mod Writing
+pub mod Answers
 pub mod Contracts
 pub mod Claims

@@ -8,7 +8,7 @@ use native.Mathlib.Omega.{arith}
 use lib.ListN.{length, take}
 use Rattle.laws.proofs.Cases.{clash}
 use Rattle.spelling.specs.declared.Standing.{Standing}
-use Rattle.spelling.specs.Contracts.{standing-of, no-settings}
+use Rattle.spelling.specs.Answers.{standing-of, no-settings}
 use Rattle.input.specs.declared.Input.{Input}
 use Rattle.input.specs.declared.Input.the-variants.{Bytes, End, Failed}
 use Rattle.input.specs.AtHand.{Came, brought}

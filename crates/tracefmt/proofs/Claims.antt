@@ -31,7 +31,7 @@ use Rattle.tracefmt.proofs.Faults.{after-stopped, rewriting-stopped, re
 use Rattle.tracefmt.proofs.WholePart.{moves-writes, moves-leaves, moves-unended}
 use Rattle.tracefmt.proofs.Ends.{rewriting-end, after-end}
 use Rattle.tracefmt.proofs.Chains.{chain-few, chain-goes-on, chain-ends, place-at, place-back}
-use Rattle.spelling.specs.Contracts.{standing-of, no-settings}
+use Rattle.spelling.specs.Answers.{standing-of, no-settings}
 
 said-of-fault : (os : List (Outcome Record)) → fault-line (passed start os) ≡ fault-said os
 unfolding fault-line fault-said start

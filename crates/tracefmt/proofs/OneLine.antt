@@ -10,7 +10,7 @@ use Rattle.trace.specs.Reading.{said}
 use Rattle.trace.specs.Spelling.{answer-spelling}
 use Rattle.trace.specs.Writing.{fault}
 use Rattle.spelling.specs.declared.Standing.{Standing}
-use Rattle.spelling.specs.Contracts.{standing-of, stood}
+use Rattle.spelling.specs.Answers.{standing-of, stood}
 use Rattle.spelling.proofs.StandingLaws.{standing-stood}
 use Rattle.tracefmt.specs.declared.Place.{Place}
 use Rattle.tracefmt.specs.Rewriting.{Progress, next, writes, end-of}

@@ -10,7 +10,7 @@ use Rattle.laws.specs.Lent.{Slice, Lent}
 use Rattle.trace.specs.Lines.{ended}
 use Rattle.trace.specs.Texts.{whole, most-kept}
 use Rattle.trace.specs.Output.{Prints}
-use Rattle.spelling.specs.Contracts.{standing-of, no-settings}
+use Rattle.spelling.specs.Answers.{standing-of, no-settings}
 use Rattle.input.specs.declared.Input.{Input}
 use Rattle.input.specs.declared.Input.the-variants.{Bytes, End, Failed}
 use Rattle.input.specs.AtHand.{Within, Came, brought}

@@ -19,8 +19,9 @@ use Rattle.trace.specs.Writing.{fault, standing-behind, first-fault-to, first-f
 use Rattle.trace.proofs.Writing.{writing-whole}
 use Rattle.writer.specs.declared.Survey.{Survey}
 use Rattle.spelling.proofs.StandingLaws.{standing-stood}
-use Rattle.spelling.specs.Contracts.{standing-of}
-use Rattle.writer.specs.Contracts.{outcome-of, outcomes-of, standing-in, survey-start, surveyed-by, surveyed, surveys, records-due, concluded, concluded-by, written-outcome}
+use Rattle.spelling.specs.Answers.{standing-of}
+use Rattle.writer.specs.Answers.{outcome-of, outcomes-of, written-outcome}
+use Rattle.writer.specs.Contracts.{standing-in, survey-start, surveyed-by, surveyed, surveys, records-due, concluded, concluded-by}
 
 -- a pass over answers from v to w: the fault found; the bytes left; whether they sufficed
 record Passed (os : List (Outcome Record)) (v w : Survey) : Type 0 where

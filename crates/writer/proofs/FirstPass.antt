@@ -13,7 +13,7 @@ use Rattle.trace.specs.Reading.{said}
 use Rattle.trace.specs.Spelling.{answer-spelling}
 use Rattle.trace.specs.Writing.{fault}
 use Rattle.spelling.specs.declared.Standing.{Standing}
-use Rattle.spelling.specs.Contracts.{standing-of, stood}
+use Rattle.spelling.specs.Answers.{standing-of, stood}
 use Rattle.writer.specs.Contracts.{standing-in, surveyed-by, surveyed, concluded-by, concluded}
 
 concluded-by-fault : (k : ℕ) (v : Survey) (room : ℕ) → (k ≡ 0 → ⊥) → Refused k ≡ concluded-by k v room

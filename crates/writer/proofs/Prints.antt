@@ -12,7 +12,7 @@ use Rattle.trace.specs.Output.{Prints}
 use Rattle.trace.specs.Reading.{said}
 use Rattle.trace.specs.Spelling.{answer-spelling, spelling}
 use Rattle.trace.proofs.Output.{prints-nothing, prints-long, prints-then}
-use Rattle.writer.specs.Contracts.{outcome-of, outcomes-of}
+use Rattle.writer.specs.Answers.{outcome-of, outcomes-of}
 use Rattle.writer.proofs.Surveys.{answer-at}
 
 abbrev pub spelled : Read → List ℕ

@@ -1,29 +1,20 @@
--- The writer's passes, as its functions promise them to each other; and what its answer says.
+-- The writer's passes, as its functions promise them to each other.
 use Prim.Native.Nat.{ℕ, zero, suc, _-_}
 use mathlib.Core.Bool.{true, false, cond}
-use mathlib.Core.List.{List, [], _∷_, map}
+use mathlib.Core.List.{List, [], _∷_}
 use lib.Dec.{eqb, leb}
 use lib.ListN.{length}
-use denote.Ref.{now}
-use Rattle.laws.specs.Lent.{Lent}
-use Rattle.device.specs.Refusal.{Outcome, accepted, refused}
+use Rattle.device.specs.Refusal.{Outcome}
 use Rattle.trace.specs.declared.Record.{Record}
 use Rattle.trace.specs.declared.Read.{Read}
 use Rattle.trace.specs.Reading.{said}
 use Rattle.trace.specs.Spelling.{answer-spelling}
-use Rattle.trace.specs.Writing.{Writing, fault}
+use Rattle.trace.specs.Writing.{fault}
 use Rattle.spelling.specs.declared.Standing.{Standing}
-use Rattle.spelling.specs.Contracts.{standing-of, stood}
+use Rattle.spelling.specs.Answers.{standing-of, stood}
 use Rattle.writer.specs.declared.Survey.{Survey}
 use Rattle.writer.specs.declared.Written.{Written}
 use Rattle.writer.specs.declared.Written.the-variants.{Bytes, Refused}
-
--- what the reader's answers say
-unfoldable pub outcome-of : Read → Outcome Record
-outcome-of answer = said answer .outcome
-
-unfoldable pub outcomes-of : List Read → List (Outcome Record)
-outcomes-of answers = map outcome-of answers
 
 -- the first pass before the first answer, with so many bytes to write in
 unfoldable pub survey-start : ℕ → Survey
@@ -67,11 +58,3 @@ concluded-by (suc k) v room = Refused (suc k)
 
 unfoldable pub concluded : Survey → ℕ → Written
 concluded v room = concluded-by (v .refusal) v room
-
--- what an answer of the code says, with what was left in the lent text
-unfoldable pub written-outcome : Written → Outcome ℕ
-written-outcome (Bytes n) = accepted n
-written-outcome (Refused k) = refused k
-
-abbrev pub write-left : Written → Lent → Writing
-write-left r text = record { answer = written-outcome r; text = now (text .exit) }

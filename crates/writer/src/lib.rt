@@ -7,7 +7,8 @@ ghost use lib.ListN.{length, take};
 ghost use Rattle.trace.specs.Numbers.{written};
 ghost use Rattle.trace.specs.Spelling.{spelling};
 ghost use Rattle.trace.specs.Writing.{writing};
-ghost use Rattle.writer.specs.Contracts.{outcomes-of, survey-start, surveyed, surveys, records-due, concluded, write-left};
+ghost use Rattle.writer.specs.Answers.{outcomes-of, write-left};
+ghost use Rattle.writer.specs.Contracts.{survey-start, surveyed, surveys, records-due, concluded};
 
 // What a first pass over the answers has found: N of the settings that stand, if any; the first fault, or 0; the bytes of the lent text that are
 // left, and whether they were too few.

@@ -4,7 +4,7 @@ use mathlib.Core.Bool.{Bool, not}
 use borrow.Author.Needs.{needs}
 use Rattle.device.specs.Refusal.{unless, refuse, first-failed}
 use Rattle.trace.specs.Writing.{activation-fault}
-use Rattle.spelling.specs.Contracts.{standing-of}
+use Rattle.spelling.specs.Answers.{standing-of}
 use Rattle.spelling.proofs.activation_fault.Statement.{statement}
 use Rattle.spelling.proofs.activation_fault.Tie as tie
 

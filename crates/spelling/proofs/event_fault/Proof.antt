@@ -1,6 +1,6 @@
 -- `spelling::event_fault` meets its contract.
 use Rattle.trace.specs.Writing.{event-fault}
-use Rattle.spelling.specs.Contracts.{standing-of}
+use Rattle.spelling.specs.Answers.{standing-of}
 use Rattle.spelling.proofs.event_fault.Statement.{statement}
 use Rattle.spelling.proofs.event_fault.Tie as tie
 

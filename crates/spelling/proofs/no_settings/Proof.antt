@@ -1,6 +1,6 @@
 -- `spelling::no_settings` meets its contract.
 use mathlib.Core.Path.{refl}
-use Rattle.spelling.specs.Contracts.{no-settings}
+use Rattle.spelling.specs.Answers.{no-settings}
 use Rattle.spelling.proofs.no_settings.Statement.{statement}
 use Rattle.spelling.proofs.no_settings.Tie as tie
 

@@ -1,7 +1,7 @@
 -- `spelling::standing_behind` meets its contract: by the answer and its record.
 use borrow.Author.Needs.{needs}
 use Rattle.trace.specs.Reading.{said}
-use Rattle.spelling.specs.Contracts.{stood}
+use Rattle.spelling.specs.Answers.{stood}
 use Rattle.spelling.proofs.standing_behind.Statement.{statement}
 use Rattle.spelling.proofs.standing_behind.Tie as tie
 

@@ -44,7 +44,7 @@ use denote.Exit.{yes}
 use Rattle.trace.specs.declared.Read.{Read}
 use Rattle.trace.specs.Writing.{writing}
 use Rattle.writer.specs.declared.Written.{Written}
-use Rattle.writer.specs.Contracts.{outcomes-of, written-outcome}
+use Rattle.writer.specs.Answers.{outcomes-of, written-outcome}
 use Rattle.trace.proofs.Read as T
 use Rattle.trace.proofs.Read.Laws as T′
 use Rattle.writer.proofs.Written as Wr

@@ -18,8 +18,9 @@ use Rattle.trace.specs.declared.Read.the-variants.{Line}
 use Rattle.trace.specs.declared.Record.the-variants.{Activate}
 use Rattle.trace.specs.Reading.{Reading, said, reading}
 use Rattle.trace.specs.Records.{activation}
-use Rattle.trace.specs.Contracts.{number-found, row-told}
-use Rattle.trace.proofs.Contracts.{number-found-none, number-found-some, ends-after-true}
+use Rattle.trace.specs.Answers.{number-found, row-told}
+use Rattle.trace.proofs.Answers.{number-found-none, number-found-some}
+use Rattle.trace.proofs.Contracts.{ends-after-true}
 use Rattle.trace.proofs.Records.{activation-form, activation-take}
 use Rattle.trace.proofs.Reading.OneForm.{reading-by-accepted}
 use Rattle.trace.proofs.Reading.ByLetter.{reading-activation}

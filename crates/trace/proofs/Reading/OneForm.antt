@@ -10,7 +10,8 @@ use lib.Seq.{length-take-le, getD-at, take-at}
 use Rattle.laws.proofs.Cases.{split, clash, missing, either, cond-test, cond-some}
 use Rattle.trace.specs.declared.Read.the-variants.{Line, Refused}
 use Rattle.trace.specs.declared.Record.{Record}
-use Rattle.trace.specs.Contracts.{found-all, ends-after, line-fields}
+use Rattle.trace.specs.Answers.{found-all}
+use Rattle.trace.specs.Contracts.{ends-after, line-fields}
 use Rattle.trace.specs.declared.Fields.{Fields}
 use Rattle.trace.specs.Numbers.{fields}
 use Rattle.trace.specs.Records.{numbered}

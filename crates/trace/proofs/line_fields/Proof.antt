@@ -3,7 +3,8 @@ use mathlib.Core.Path.{_∙_, sym}
 use native.Mathlib.Omega.{arith}
 use borrow.Author.Needs.{needs}
 use lib.ListN.{length-drop}
-use Rattle.trace.specs.Contracts.{found-all, line-fields}
+use Rattle.trace.specs.Answers.{found-all}
+use Rattle.trace.specs.Contracts.{line-fields}
 use Rattle.trace.proofs.Contracts.{ends-after-lt}
 use Rattle.trace.proofs.line_fields.Statement.{statement}
 use Rattle.trace.proofs.line_fields.Tie as tie

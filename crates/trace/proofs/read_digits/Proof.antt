@@ -5,9 +5,9 @@ use Prim.Native.Nat.{ℕ, suc, _+_, _-_, _*_, _≤_, _<_}
 use native.Mathlib.Omega.{arith}
 use lib.ListN.{length, getD}
 use lib.Seq.{slice}
-use Rattle.trace.specs.Contracts.{number-found}
+use Rattle.trace.specs.Answers.{number-found}
 use Rattle.trace.specs.Numbers.{digits}
-use Rattle.trace.proofs.Contracts.{number-found-none, number-found-some}
+use Rattle.trace.proofs.Answers.{number-found-none, number-found-some}
 use Rattle.trace.proofs.Numbers.Digits.{is-digit-below, is-digit-above, is-digit-within, digits-other, digits-digit, digits-empty, Room, room-zero, room-lt, room-digit}
 use Rattle.trace.proofs.read_digits.Statement.{statement}
 use Rattle.trace.proofs.read_digits.Tie as tie

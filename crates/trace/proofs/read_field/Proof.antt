@@ -1,8 +1,8 @@
 -- `trace::read_field` meets its contract.
 use mathlib.Core.Path.{sym, _∙_}
 use borrow.Author.Needs.{needs}
-use Rattle.trace.specs.Contracts.{found}
-use Rattle.trace.proofs.Contracts.{number-found-none, number-found-some}
+use Rattle.trace.specs.Answers.{found}
+use Rattle.trace.proofs.Answers.{number-found-none, number-found-some}
 use Rattle.trace.proofs.read_field.Statement.{statement}
 use Rattle.trace.proofs.read_field.Tie as tie
 

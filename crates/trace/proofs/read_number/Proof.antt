@@ -9,7 +9,7 @@ use borrow.Author.Needs.{needs}
 use lib.ListN.{length, getD}
 use lib.Seq.{slice, length-slice}
 use Rattle.trace.specs.Numbers.{is-digit, digits, number, field}
-use Rattle.trace.proofs.Contracts.{number-found-none, number-found-some}
+use Rattle.trace.proofs.Answers.{number-found-none, number-found-some}
 use Rattle.trace.proofs.Numbers.Digits.{is-digit-below, is-digit-above, is-digit-within, digits-other, digits-digit, number-blank, number-not-blank, number-digits, slice-take-drop, room-zero, digits-lt, digits-behind}
 use Rattle.trace.proofs.read_number.Statement.{statement}
 use Rattle.trace.proofs.read_number.Tie as tie

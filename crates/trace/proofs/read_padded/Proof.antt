@@ -6,7 +6,7 @@ use Prim.Native.Nat.{ℕ, _+_, _-_, _≤_}
 use native.Mathlib.Omega.{arith}
 use lib.Seq.{slice}
 use Rattle.trace.specs.Numbers.{number, field}
-use Rattle.trace.proofs.Contracts.{number-found-none}
+use Rattle.trace.proofs.Answers.{number-found-none}
 use Rattle.trace.proofs.Numbers.Digits.{number-blank, number-not-blank, number-empty, slice-take-drop}
 use Rattle.trace.proofs.read_padded.Statement.{statement}
 use Rattle.trace.proofs.read_padded.Tie as tie

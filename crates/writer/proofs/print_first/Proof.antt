@@ -52,7 +52,7 @@ use Rattle.trace.specs.declared.Read.{Read}
 use Rattle.trace.specs.declared.Read.the-variants.{Refused}
 use Rattle.trace.specs.Output.{Prints}
 use Rattle.trace.specs.Spelling.{spelling}
-use Rattle.writer.specs.Contracts.{outcomes-of}
+use Rattle.writer.specs.Answers.{outcomes-of}
 use Rattle.trace.proofs.Read as T
 use Rattle.trace.proofs.Read.Laws as T′
 use Rattle.writer.proofs.LentAgain.{Waiting, lent-out, given-back}

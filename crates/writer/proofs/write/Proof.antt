@@ -46,7 +46,8 @@ use Rattle.trace.specs.Writing.{writing}
 use Rattle.trace.proofs.Read as T
 use Rattle.writer.specs.declared.Survey.{Survey}
 use Rattle.writer.specs.declared.Written.{Written}
-use Rattle.writer.specs.Contracts.{outcomes-of, surveys, survey-start, records-due, concluded, written-outcome}
+use Rattle.writer.specs.Answers.{outcomes-of, written-outcome}
+use Rattle.writer.specs.Contracts.{surveys, survey-start, records-due, concluded}
 use Rattle.writer.proofs.Conclusion.{due-within, left-within, due-fits, concludes}
 use Rattle.writer.proofs.Survey as F
 use Rattle.writer.proofs.Survey.Laws as F′
