@@ -13,7 +13,7 @@ use Rattle.summary.specs.Tables.{table, entries-of, read}
 use Rattle.tracker.specs.State.{summary-of, state-of, zeros, ascending, counts-allowed, valid}
 use Rattle.tracker.specs.Calls.{victims-in, block-rows, ends-window, next-event, tables-long, set-up-tests-to, activation-tests-to, refresh-tests-to, kept-unless, set-up-to, activation-to, refresh-to}
 use Rattle.limit.specs.Exact.{at-rest, zeroed, one-more, disturbed-by, once, restored, renewed, one-event-more, after, after-all, exact}
-use Rattle.limit.specs.Example.{numbers-from, held-by}
+use Rattle.limit.specs.Example.{numbers-from, held-by, up-to-line-4, up-to-line-5}
 use Rattle.limit.specs.Run.{left-by, told-by, happened}
 use Rattle.trace.specs.Numbers.{is-digit, digits, number, field, fields, digit-or-blank, columns-before, printed}
 use Rattle.trace.specs.Lines.{line, ended, extent}
@@ -29,20 +29,20 @@ use Rattle.bound.specs.Answers.{settings-of}
 use Rattle.checker.specs.Departure.{departure-from, departing, departure}
 use Rattle.silicon.specs.EventLines.{is-event-line, event-lines-of, event-lines, or-none, rows-named}
 use Rattle.silicon.specs.Silicon.{stopped, set-up-by, takes, activated-by, refreshed-by, begin, event-by, record-by, behind, walked, silicon-after}
-use Rattle.figures.specs.Table.{position-of, begun, traced, trace-input, trace-output, shown}
+use Rattle.figures.specs.Table.{position-of, begun, traced, calls-to-4, trace-input, trace-output, shown}
 use Rattle.figures.specs.Edges.{small, wide, large}
 use Rattle.figures.specs.Remaps.{identity, reverse, rotated, loaded-input, loaded-output}
 use Rattle.figures.specs.Holds.{longer, holds-input, holds-output}
-use Rattle.figures.specs.Disturbances.{counted, counted-from, counted-behind, held, one, naming, calls-to-4, told-to-4, event-counts, whole-window, sixes, window-counts, turned-back, call-counts, edge-counts, other-output, stopped-input, stopped-output, departure-numbers, departure-figure, departures, silicon-numbers, silicon-figure, silicon-counts, disturbances}
+use Rattle.figures.specs.Disturbances.{counted, counted-from, counted-behind, held, one, naming, event-counts, whole-window, sixes, window-counts, turned-back, call-counts, edge-counts, other-output, stopped-input, stopped-output, departure-numbers, departure-figure, departures, silicon-numbers, silicon-figure, silicon-counts, disturbances}
 use Rattle.figures.proofs.Tests.{every}
 
 pub disturbances-pass : T (every disturbances)
 unfolding
     every same disturbances event-counts window-counts call-counts edge-counts departures silicon-counts
-    counted counted-from counted-behind held one naming calls-to-4 told-to-4 whole-window sixes turned-back
+    counted counted-from counted-behind held one naming whole-window sixes turned-back
     other-output stopped-input stopped-output departure-numbers departure-figure silicon-numbers silicon-figure
-    position-of begun traced trace-input trace-output shown small wide large identity reverse rotated loaded-input loaded-output longer holds-input holds-output
-    at-rest zeroed one-more disturbed-by once restored renewed one-event-more after after-all exact numbers-from held-by left-by told-by happened
+    position-of begun traced calls-to-4 trace-input trace-output shown small wide large identity reverse rotated loaded-input loaded-output longer holds-input holds-output
+    at-rest zeroed one-more disturbed-by once restored renewed one-event-more after after-all exact numbers-from held-by up-to-line-4 up-to-line-5 left-by told-by happened
     first-failed unless refuse tested within rows-allowed-to diameter-allowed block-allowed settings-tests-with settings-tests-to settings-of
     own-remap occurs-in all-occur remap-allowed physical hold-allowed repeated rows-from rows-between within-reach victims
     size total disturbers bound-at bound-of

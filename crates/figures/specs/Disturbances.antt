@@ -9,11 +9,11 @@ use Rattle.device.specs.declared.Settings.{Settings}
 use Rattle.device.specs.Remap.{own-remap}
 use Rattle.bound.specs.Answers.{settings-of}
 use Rattle.limit.specs.Exact.{Happened, activated, refreshed, exact}
-use Rattle.limit.specs.Example.{numbers-from, held-by}
+use Rattle.limit.specs.Example.{numbers-from, held-by, up-to-line-4, up-to-line-5}
 use Rattle.limit.specs.Run.{Command, activation-of, refresh-into, happened}
 use Rattle.checker.specs.Departure.{departure}
 use Rattle.silicon.specs.Silicon.{Silicon, silicon-after}
-use Rattle.figures.specs.Table.{Figure, shown, begun, traced, trace-input, trace-output}
+use Rattle.figures.specs.Table.{Figure, shown, begun, traced, calls-to-4, trace-input, trace-output}
 use Rattle.figures.specs.Edges.{small, wide, large}
 use Rattle.figures.specs.Remaps.{identity, reverse, rotated, loaded-input, loaded-output}
 use Rattle.figures.specs.Holds.{longer, holds-input, holds-output}
@@ -41,13 +41,6 @@ one row = held row 1
 unfoldable pub naming : List ℕ → Happened
 naming rows = refreshed true rows
 
--- document 01's trace: its lines 2 to 4 as calls, and as the counter is told of them
-unfoldable pub calls-to-4 : List Command
-calls-to-4 = activation-of own-remap 5 1 ∷ activation-of own-remap 5 1 ∷ activation-of own-remap 2 1 ∷ []
-
-unfoldable pub told-to-4 : List Happened
-told-to-4 = one 5 ∷ one 5 ∷ one 2 ∷ []
-
 -- nothing yet; the trace after line 4 and after line 6, which is refused; its event with a row of the block named, which counts once, and with row 6 named
 -- twice; two named rows that disturb each other; a second event, which names no row
 unfoldable pub event-counts : List Figure
@@ -55,10 +48,10 @@ event-counts =
     counted traced [] (0 ∷ 0 ∷ 0 ∷ 0 ∷ 0 ∷ 0 ∷ 0 ∷ 0 ∷ 0 ∷ 0 ∷ 0 ∷ 0 ∷ 0 ∷ 0 ∷ 0 ∷ 0 ∷ 0 ∷ []) ∷
     counted-behind traced calls-to-4 (0 ∷ 0 ∷ 0 ∷ 1 ∷ 0 ∷ 3 ∷ 0 ∷ 2 ∷ 0 ∷ 0 ∷ 0 ∷ 0 ∷ 0 ∷ 0 ∷ 0 ∷ 0 ∷ 0 ∷ []) ∷
     counted-behind traced (calls-to-4 ++ refresh-into (9 ∷ 9 ∷ 9 ∷ []) ∷ activation-of own-remap 16 1 ∷ []) (1 ∷ 1 ∷ 2 ∷ 2 ∷ 2 ∷ 1 ∷ 1 ∷ 2 ∷ 0 ∷ 0 ∷ 0 ∷ 0 ∷ 0 ∷ 0 ∷ 0 ∷ 0 ∷ 0 ∷ []) ∷
-    counted traced (told-to-4 ++ naming (2 ∷ []) ∷ []) (1 ∷ 1 ∷ 2 ∷ 2 ∷ 1 ∷ 4 ∷ 0 ∷ 2 ∷ 0 ∷ 0 ∷ 0 ∷ 0 ∷ 0 ∷ 0 ∷ 0 ∷ 0 ∷ 0 ∷ []) ∷
-    counted (small 2 2) (told-to-4 ++ naming (6 ∷ 6 ∷ []) ∷ []) (1 ∷ 1 ∷ 2 ∷ 2 ∷ 1 ∷ 4 ∷ 1 ∷ 0 ∷ 1 ∷ 0 ∷ 0 ∷ 0 ∷ 0 ∷ 0 ∷ 0 ∷ 0 ∷ 0 ∷ []) ∷
+    counted traced (up-to-line-4 ++ naming (2 ∷ []) ∷ []) (1 ∷ 1 ∷ 2 ∷ 2 ∷ 1 ∷ 4 ∷ 0 ∷ 2 ∷ 0 ∷ 0 ∷ 0 ∷ 0 ∷ 0 ∷ 0 ∷ 0 ∷ 0 ∷ 0 ∷ []) ∷
+    counted (small 2 2) (up-to-line-4 ++ naming (6 ∷ 6 ∷ []) ∷ []) (1 ∷ 1 ∷ 2 ∷ 2 ∷ 1 ∷ 4 ∷ 1 ∷ 0 ∷ 1 ∷ 0 ∷ 0 ∷ 0 ∷ 0 ∷ 0 ∷ 0 ∷ 0 ∷ 0 ∷ []) ∷
     counted (small 2 2) (one 8 ∷ one 9 ∷ naming (9 ∷ 8 ∷ []) ∷ []) (1 ∷ 1 ∷ 2 ∷ 2 ∷ 1 ∷ 1 ∷ 0 ∷ 0 ∷ 2 ∷ 1 ∷ 1 ∷ 2 ∷ 0 ∷ 0 ∷ 0 ∷ 0 ∷ 0 ∷ []) ∷
-    counted traced (told-to-4 ++ naming (4 ∷ []) ∷ naming [] ∷ []) (2 ∷ 1 ∷ 2 ∷ 2 ∷ 3 ∷ 1 ∷ 2 ∷ 2 ∷ 1 ∷ 1 ∷ 0 ∷ 0 ∷ 0 ∷ 0 ∷ 0 ∷ 0 ∷ 0 ∷ []) ∷ []
+    counted traced (up-to-line-5 ++ naming [] ∷ []) (2 ∷ 1 ∷ 2 ∷ 2 ∷ 3 ∷ 1 ∷ 2 ∷ 2 ∷ 1 ∷ 1 ∷ 0 ∷ 0 ∷ 0 ∷ 0 ∷ 0 ∷ 0 ∷ 0 ∷ []) ∷ []
 
 -- row 9 and then a whole window of events
 unfoldable pub whole-window : List Happened
