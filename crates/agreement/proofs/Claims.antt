@@ -7,9 +7,9 @@ use Rattle.device.specs.Acceptance.{settings-tests-to}
 use Rattle.device.proofs.Acceptance.{settings-alike, above-then}
 use Rattle.summary.specs.Steps.{estimate}
 use Rattle.tracker.specs.State.{summary-of}
-use Rattle.agreement.specs.Calls.{agreement-tests-to, agreement-to, estimates-tests-to, same-estimates, estimates-to}
+use Rattle.agreement.specs.Calls.{agreement-tests-to, agreement-to, agreement-of, estimates-of, estimates-tests-to, same-estimates, estimates-to}
 use Rattle.agreement.specs.Later.{answers, memory-behind}
-use Rattle.agreement.specs.Claims.{Agree-exactly, Same-memory, For-ever-after, For-ever-after-of-answers, Finer, Older-not-enough, Agreements-stay}
+use Rattle.agreement.specs.Claims.{Agree-exactly, Same-memory, For-ever-after, Looks-alike, Third-alike, For-ever-after-of-answers, Finer, Older-not-enough, Agreements-stay}
 use Rattle.agreement.proofs.Calls.Tests.{agreement-passed, passed-estimates}
 use Rattle.agreement.proofs.Calls.Outcomes.{estimates-alike}
 use Rattle.agreement.proofs.Calls.SameEstimates.{same-estimates-alike}
@@ -35,6 +35,19 @@ unfolding For-ever-after
 for-ever-after s remap st s′ remap′ st′ agreed calls =
     let k = agreed-equal s remap st s′ remap′ st′ agreed in
     ((λ i. answers (k .settings i) (k .remaps i) (k .states i) calls), (λ i. memory-behind (k .settings i) (k .remaps i) (k .states i) calls))
+
+pub looks-alike : Looks-alike
+unfolding Looks-alike
+looks-alike A looks s remap st s′ remap′ st′ agreed calls =
+    let k = agreed-equal s remap st s′ remap′ st′ agreed in
+    λ i. looks (k .settings i) (k .remaps i) (memory-behind (k .settings i) (k .remaps i) (k .states i) calls)
+
+pub third-alike : Third-alike
+unfolding Third-alike Looks-alike
+third-alike s remap st s′ remap′ st′ agreed third its-remap its-memory calls = (
+  looks-alike _ (λ s remap st. agreement-of s remap st third its-remap its-memory) s remap st s′ remap′ st′ agreed calls,
+  looks-alike _ (λ s remap st. estimates-of s st third its-memory) s remap st s′ remap′ st′ agreed calls,
+)
 
 pub for-ever-after-of-answers : For-ever-after-of-answers
 unfolding For-ever-after-of-answers For-ever-after

@@ -32,13 +32,33 @@ Same-memory =
     agreement-of s remap st s′ remap′ st′ ≡ accepted true → st ≡ st′
 
 -- 'trackers that agree in this sense give equal answers to the same calls for ever after, each call being given the memory that the one before left'; and
--- the memory behind the calls is the same, so that a call that only looks at it answers alike too
+-- the memory behind the calls is the same
 unfoldable pub For-ever-after : Type 0
 For-ever-after =
     (s : Settings) (remap : List ℕ) (st : State) (s′ : Settings) (remap′ : List ℕ) (st′ : State) →
     agreement-of s remap st s′ remap′ st′ ≡ accepted true →
     (calls : List Call) →
     (answers s remap st calls ≡ answers s′ remap′ st′ calls) × (memory-behind s remap st calls ≡ memory-behind s′ remap′ st′ calls)
+
+-- 'the same calls' that only look at a tracker answer alike too, behind any calls: whatever is worked out from settings, remap and memory, as either
+-- agreement with a third tracker, a row's figure, the bound or the least counter count
+unfoldable pub Looks-alike : Type 1
+Looks-alike =
+    (A : Type 0) (looks : Settings → List ℕ → State → A) →
+    (s : Settings) (remap : List ℕ) (st : State) (s′ : Settings) (remap′ : List ℕ) (st′ : State) →
+    agreement-of s remap st s′ remap′ st′ ≡ accepted true →
+    (calls : List Call) → looks s remap (memory-behind s remap st calls) ≡ looks s′ remap′ (memory-behind s′ remap′ st′ calls)
+
+-- so `agree` and `estimates_agree` with a third tracker answer the same of both: yes, no, or refused with the same number
+unfoldable pub Third-alike : Type 0
+Third-alike =
+    (s : Settings) (remap : List ℕ) (st : State) (s′ : Settings) (remap′ : List ℕ) (st′ : State) →
+    agreement-of s remap st s′ remap′ st′ ≡ accepted true →
+    (third : Settings) (its-remap : List ℕ) (its-memory : State) (calls : List Call) →
+    let here = memory-behind s remap st calls in
+    let there = memory-behind s′ remap′ st′ calls in
+    (agreement-of s remap here third its-remap its-memory ≡ agreement-of s′ remap′ there third its-remap its-memory) ×
+    (estimates-of s here third its-memory ≡ estimates-of s′ there third its-memory)
 
 -- the same of the library: where `agree` answered yes, any answers to the same calls that meet their contracts are equal, with all that they left
 unfoldable pub For-ever-after-of-answers : Type 0

@@ -6,7 +6,8 @@ use Rattle.figures.specs.Remaps.{remaps}
 use Rattle.figures.specs.Holds.{holds}
 use Rattle.figures.specs.ByRow.{by-row}
 use Rattle.figures.specs.Agreements.{agreements}
-use Rattle.figures.specs.Claims.{Figures-hold, Edges-hold, Spellings-hold, Remaps-hold, Holds-hold, Rows-hold, Agreements-hold}
+use Rattle.figures.specs.Disturbances.{disturbances}
+use Rattle.figures.specs.Claims.{Figures-hold, Edges-hold, Spellings-hold, Remaps-hold, Holds-hold, Rows-hold, Agreements-hold, Disturbances-hold}
 use Rattle.figures.proofs.Tests.{holds-every}
 use Rattle.figures.proofs.Table.{figures-pass}
 use Rattle.figures.proofs.Edges.{edges-pass}
@@ -15,6 +16,7 @@ use Rattle.figures.proofs.Remaps.{remaps-pass}
 use Rattle.figures.proofs.Holds.{holds-pass}
 use Rattle.figures.proofs.ByRow.{by-row-pass}
 use Rattle.figures.proofs.Agreements.{agreements-pass}
+use Rattle.figures.proofs.Disturbances.{disturbances-pass}
 
 pub figures-hold : Figures-hold
 unfolding Figures-hold
@@ -43,3 +45,7 @@ rows-hold = holds-every by-row by-row-pass
 pub agreements-hold : Agreements-hold
 unfolding Agreements-hold
 agreements-hold = holds-every agreements agreements-pass
+
+pub disturbances-hold : Disturbances-hold
+unfolding Disturbances-hold
+disturbances-hold = holds-every disturbances disturbances-pass

@@ -7,4 +7,5 @@ pub mod Remaps
 pub mod Holds
 pub mod ByRow
 pub mod Agreements
+pub mod Disturbances
 pub mod Claims

@@ -25,12 +25,12 @@ use Rattle.limit.specs.Run.{left-by, state-after}
 use Rattle.bound.specs.Totals.{size, total, disturbers, bound-at, bound-of}
 use Rattle.bound.specs.Least.{with-counters, meets, or-else, first-from, least-of}
 use Rattle.bound.specs.Answers.{bound-answer-to, least-answer-to, settings-of}
-use Rattle.figures.specs.Table.{numbers, remap-figure, bound-figure, least-figure, position-of, begun, state-numbers, traced, line-4, line-5, line-6, activations, trace-input, trace-output, shown, figures}
+use Rattle.figures.specs.Table.{numbers, remap-figure, bound-figure, least-figure, position-of, begun, state-numbers, traced, calls-to-4, line-4, line-5, line-6, activations, trace-input, trace-output, shown, figures}
 use Rattle.figures.proofs.Tests.{every}
 
 pub figures-pass : T (every figures)
 unfolding
-    every same figures numbers remap-figure bound-figure least-figure position-of begun state-numbers traced line-4 line-5 line-6 activations trace-input trace-output shown
+    every same figures numbers remap-figure bound-figure least-figure position-of begun state-numbers traced calls-to-4 line-4 line-5 line-6 activations trace-input trace-output shown
     first-failed unless refuse tested within rows-allowed-to diameter-allowed block-allowed settings-tests-with settings-tests-to settings-tests-but-counters-to
     own-remap occurs-in all-occur remap-allowed physical hold-allowed repeated rows-from rows-between within-reach victims
     size total disturbers bound-at bound-of with-counters meets or-else first-from least-of bound-answer-to least-answer-to settings-of

@@ -70,7 +70,8 @@ by-large-window =
     row-figure-under own-remap large 262143 4096 188508 ∷
     row-figure-under own-remap large 174656 0 376947 ∷ []
 
--- refusals, 'the settings' .., 9, 14, and 21 for the position alone' in this order; the position at its limits and one above each
+-- refusals, 'the settings' .., 9, 14, and 21 for the position alone' in this order; the position at its limits and one above each; the tracked rows' limit is C
+-- also where C is above N
 unfoldable pub by-refusal : List Figure
 by-refusal =
     row-figure-at (settings-of 16 2 1 2 4 4 3) doubled 16 4 0 0 0 (7 ∷ []) ∷
@@ -82,7 +83,9 @@ by-refusal =
     row-figure-at traced own-remap 15 4 0 0 0 (21 ∷ []) ∷
     row-figure-at traced own-remap 15 3 5 0 0 (21 ∷ []) ∷
     row-figure-at traced own-remap 15 3 0 3 0 (21 ∷ []) ∷
-    row-figure-at traced own-remap 15 3 0 0 2000000001 (21 ∷ []) ∷ []
+    row-figure-at traced own-remap 15 3 0 0 2000000001 (21 ∷ []) ∷
+    row-figure-at (settings-of 16 2 1 20 4 4 4) own-remap 15 0 0 20 0 (0 ∷ 9 ∷ []) ∷
+    row-figure-at (settings-of 16 2 1 20 4 4 4) own-remap 15 0 0 21 0 (21 ∷ []) ∷ []
 
 unfoldable pub by-row : List Figure
 by-row = by-block ++ by-window ++ by-large-window ++ by-refusal

@@ -8,6 +8,7 @@ use Rattle.figures.specs.Remaps.{remaps}
 use Rattle.figures.specs.Holds.{holds}
 use Rattle.figures.specs.ByRow.{by-row}
 use Rattle.figures.specs.Agreements.{agreements}
+use Rattle.figures.specs.Disturbances.{disturbances}
 
 -- every figure of a table is what the definitions give
 unfoldable pub Table-holds : List Figure → Type 0
@@ -40,3 +41,7 @@ Rows-hold = Table-holds by-row
 -- and those of agreement
 unfoldable pub Agreements-hold : Type 0
 Agreements-hold = Table-holds agreements
+
+-- and those of the exact disturbance, of departures and of the silicon
+unfoldable pub Disturbances-hold : Type 0
+Disturbances-hold = Table-holds disturbances

@@ -8,7 +8,7 @@ use Rattle.device.specs.Remap.{own-remap, physical}
 use Rattle.tracker.specs.declared.Position.{Position}
 use Rattle.tracker.specs.State.{State}
 use Rattle.tracker.specs.Calls.{Refresh-call, Activation-call, set-up, activation-on, refresh-on}
-use Rattle.limit.specs.Run.{activation-of, state-after}
+use Rattle.limit.specs.Run.{Command, activation-of, state-after}
 use Rattle.listing.specs.Steps.{start}
 use Rattle.listing.specs.Texts.{listing}
 use Rattle.bound.specs.Answers.{bound-answer, least-answer, settings-of}
@@ -57,9 +57,13 @@ state-numbers st =
 unfoldable pub traced : Settings
 traced = settings-of 16 2 1 2 4 4 4
 
--- 'after line 4 the summary is ..': lines 2 to 4 are `A     5`, `A     5`, `A     2`
+-- its lines 2 to 4, `A     5`, `A     5`, `A     2`
+unfoldable pub calls-to-4 : List Command
+calls-to-4 = activation-of own-remap 5 1 ∷ activation-of own-remap 5 1 ∷ activation-of own-remap 2 1 ∷ []
+
+-- 'after line 4 the summary is ..'
 unfoldable pub line-4 : State
-line-4 = state-after traced (activation-of own-remap 5 1 ∷ activation-of own-remap 5 1 ∷ activation-of own-remap 2 1 ∷ []) (begun traced)
+line-4 = state-after traced calls-to-4 (begun traced)
 
 -- 'after line 5 it is ..': line 5 is `R`; the 'lent list' has three places that hold 9
 unfoldable pub line-5 : Refresh-call

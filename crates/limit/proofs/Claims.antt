@@ -18,7 +18,8 @@ use Rattle.tracker.proofs.States.StateOf.{read-back}
 use Rattle.tracker.proofs.Calls.SoundTests.{activation-refusals, refresh-refusals}
 use Rattle.summary.specs.Steps.{besides}
 use Rattle.limit.specs.Exact.{zeroed, disturbed-by, once, restored, renewed, after}
-use Rattle.limit.specs.Claims.{Demand-3, Demand-3-of-answers, Units-counted, Never-21, Events-modulo, Estimated, Window-figure, Own-block, Row-limit, Row-limit-of-answers, Row-figure-limits, Figures-closer}
+use Rattle.limit.specs.Claims.{Demand-3, Demand-3-of-answers, Units-counted, Example-counted, Never-21, Events-modulo, Estimated, Window-figure, Own-block, Row-limit, Row-limit-of-answers, Row-figure-limits, Figures-closer}
+use Rattle.limit.proofs.Example.{counted-by-computing}
 use Rattle.limit.proofs.Invariant.{inv-limit, inv-first, inv-present}
 use Rattle.limit.proofs.Run.{begun-accepted, plain-held, state-inv-run}
 use Rattle.limit.proofs.Answered.{answered-run}
@@ -43,6 +44,9 @@ units-counted s remap row x = (
   λ h k. repeated-sum h k (renewed s (physical remap row ∷ []) []) x,
   λ v. refl,
 )
+
+pub example-counted : Example-counted
+example-counted = counted-by-computing
 
 not-21 : (outside beyond other full : Bool) → refuse outside 9 (refuse beyond 15 (refuse other 14 (refuse full 22 0))) ≡ 21 → ⊥
 unfolding refuse

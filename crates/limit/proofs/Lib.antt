@@ -1,6 +1,7 @@
 -- The limit: the counter's laws, the averaging argument of one window, what is carried between windows, the invariant, runs of calls, each row's
 -- figures, the claims.
 pub mod Exact
+pub mod Example
 pub mod Scheme
 pub mod Window
 pub mod Block

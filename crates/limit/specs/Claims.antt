@@ -3,7 +3,7 @@
 use Prim.Native.Nat.{ℕ, _+_, _*_, _%_, _≤_, _<_}
 use mathlib.Core.Path.{_≡_}
 use mathlib.Core.Bool.{true, cond}
-use mathlib.Core.List.{List, List·Memᴰ}
+use mathlib.Core.List.{List, [], _∷_, List·Memᴰ}
 use lib.Dec.{eqb}
 use Rattle.device.specs.declared.Settings.{Settings}
 use Rattle.device.specs.Refusal.{first-failed}
@@ -14,6 +14,7 @@ use Rattle.summary.specs.Steps.{estimate}
 use Rattle.tracker.specs.State.{State, summary-of}
 use Rattle.tracker.specs.Calls.{victims-in, block-rows, activation-on, refresh-on}
 use Rattle.limit.specs.Exact.{Happened, activated, Exact, one-more, after, exact}
+use Rattle.limit.specs.Example.{held-by, sixteen-rows, up-to-line-4, up-to-line-5}
 use Rattle.limit.specs.Present.{present}
 use Rattle.limit.specs.Run.{Command, Begun, state-after, happened}
 use Rattle.limit.specs.Answered.{Answered}
@@ -42,6 +43,13 @@ Units-counted =
     ((h k : ℕ) → after s (activated remap row (h + k) true) x ≡ after s (activated remap row k true) (after s (activated remap row h true) x)) ×
     ((v : ℕ) → after s (activated remap row 1 true) x .disturbance v ≡
     one-more (victims-in s (physical remap row)) (λ w. cond (eqb (physical remap row) w) 0 (x .disturbance w)) v)
+
+-- what the counter holds after lines 4 and 5 of document 01's trace, worked out by hand: f and each row's number. Rows 5 and 3 (logical row 2) are
+-- activated; the event refreshes row 4, which it named, and rows 0 to 3
+unfoldable pub Example-counted : Type 0
+Example-counted =
+    (held-by sixteen-rows (exact sixteen-rows up-to-line-4) ≡ 0 ∷ 0 ∷ 0 ∷ 1 ∷ 0 ∷ 3 ∷ 0 ∷ 2 ∷ 0 ∷ 0 ∷ 0 ∷ 0 ∷ 0 ∷ 0 ∷ 0 ∷ 0 ∷ 0 ∷ []) ×
+    (held-by sixteen-rows (exact sixteen-rows up-to-line-5) ≡ 1 ∷ 1 ∷ 2 ∷ 2 ∷ 2 ∷ 1 ∷ 1 ∷ 2 ∷ 0 ∷ 0 ∷ 0 ∷ 0 ∷ 0 ∷ 0 ∷ 0 ∷ 0 ∷ 0 ∷ [])
 
 -- no call is refused with 21
 unfoldable pub Never-21 : Type 0

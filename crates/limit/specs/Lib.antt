@@ -1,5 +1,6 @@
--- The exact disturbance, runs of calls, sequences of answers, and what is claimed of them.
+-- The exact disturbance with an example, runs of calls, sequences of answers, and what is claimed of them.
 pub mod Exact
+pub mod Example
 pub mod Present
 pub mod Run
 pub mod Answered

@@ -4,6 +4,7 @@ use mathlib.Core.Bool.{true, false}
 use mathlib.Core.List.{List, []}
 use mathlib.Core.Option.{Option, none, some, Option·some-injective}
 use Prim.Native.Nat.{ℕ, _*_, _≤_, _<_}
+use lib.ListN.{take}
 use Rattle.laws.proofs.Cases.{clash, missing}
 use Rattle.device.specs.declared.Settings.{Settings}
 use Rattle.bound.specs.Totals.{bound-of}
@@ -12,14 +13,17 @@ use Rattle.limit.specs.ByRow.{Row-limited}
 use Rattle.limit.specs.Claims.{Demand-3, Row-limit}
 use Rattle.limit.proofs.Claims.{demand-3, row-limit}
 use Rattle.trace.specs.declared.Record.the-variants.{Activate}
+use Rattle.trace.specs.Texts.{outcomes}
 use Rattle.trace.proofs.Spelling.Numbers.{narrow-by}
-use Rattle.listing.specs.Steps.{Tracker, refused-step, record-step-to, record-step, line-step-to, step-to}
+use Rattle.listing.specs.Steps.{Tracker, start, refused-step, record-step-to, record-step, line-step-to, step-to}
+use Rattle.listing.specs.Texts.{passed}
+use Rattle.checker.specs.Departure.{departure}
 use Rattle.checker.specs.Claims.{Passes-exactly}
 use Rattle.checker.proofs.Claims.{passes-exactly}
 use Rattle.silicon.specs.Silicon.{Silicon, takes, silicon-after}
-use Rattle.silicon.specs.Claims.{Names-back, Stands-as, Stands-together, Takes-the-accepted, Silicon-limited}
+use Rattle.silicon.specs.Claims.{Names-back, Stands-as, Stands-together, Takes-the-accepted, Did-as, Did-as-required, Silicon-limited}
 use Rattle.silicon.proofs.Names.{names-read}
-use Rattle.silicon.proofs.Standing.{beside, beside-stopped, Matched, Stands, neither, both, earlier}
+use Rattle.silicon.proofs.Standing.{beside, beside-stopped, Matched, Stands, neither, both, earlier, matched-reached}
 use Rattle.silicon.proofs.ActivationLine.{refusal-prints, taken-prints, prints-taken, stopped-takes}
 use Rattle.silicon.proofs.Alongside.{alike-after}
 
@@ -69,6 +73,28 @@ takes-the-accepted trace given count d e row hold =
     let a = alike-after {Own = ⊥} trace given count (λ own. absurd own) in
     takes-by _ _ d (a .here .stands) e row hold
 
+-- the run that leads to the tracker tells what the silicon did
+matched-did : (t : Tracker) (did : List Happened) → Matched (Unit {0}) t did → Did-as t (beside t did)
+unfolding matched-reached
+matched-did t did m = record { reached = matched-reached m; same = m .same tt ∙ m .run .tells }
+
+did-by : {t : Option Tracker} {x : Option Silicon} → Stands (Unit {0}) t x → (u : Tracker) (d : Silicon) → t ≡ some u → x ≡ some d → Did-as u d
+did-by neither u d e stood = missing e
+did-by (both t did m) u d e stood =
+    subst (λ (d : Silicon). Did-as u d) (Option·some-injective (beside t did) d stood)
+    (subst (λ (u : Tracker). Did-as u (beside t did)) (Option·some-injective t u e) (matched-did t did m))
+did-by (earlier t did m) u d e stood = missing e
+
+-- behind a passed listing the `R` lines are the trace's own
+passed-alike : (trace given : List ℕ) → departure trace given ≡ none → (count : ℕ)
+    → Stands (Unit {0}) (passed start (take count (outcomes trace)) .tracker) (silicon-after count trace given)
+unfolding Passes-exactly silicon-after
+passed-alike trace given passes count = alike-after trace given count (λ own. passes-exactly trace given .0 passes) .here .stands
+
+pub did-as-required : Did-as-required
+unfolding Did-as-required
+did-as-required trace given passes count = did-by (passed-alike trace given passes count)
+
 -- each row's limits
 abbrev Limited : Settings → List Happened → ℕ → Type 0
 Limited s did row =
@@ -91,7 +117,5 @@ limited-by d (earlier t did m) e =
     subst (λ (d : Silicon). (row : ℕ) → row < d .settings .rows → Limited (d .settings) (d .did) row) (Option·some-injective (beside-stopped t did) d e) (matched-limited t did m)
 
 pub silicon-limited : Silicon-limited
-unfolding Silicon-limited Passes-exactly silicon-after
-silicon-limited trace given passes count d e row inside =
-    let a = alike-after {Own = Unit {0}} trace given count (λ own. passes-exactly trace given .0 passes) in
-    limited-by d (a .here .stands) e row inside
+unfolding Silicon-limited
+silicon-limited trace given passes count d = limited-by d (passed-alike trace given passes count)

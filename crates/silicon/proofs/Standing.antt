@@ -45,7 +45,7 @@ pub stands-by : {Own : Type 0} (t : Tracker) (did : List Happened) (d : Silicon)
 stands-by {Own} t did d same m = subst (λ (x : Silicon). Stands Own (some t) (some x)) same (both t did m)
 
 module _ {Own : Type 0} {t : Tracker} {did : List Happened} (m : Matched Own t did) where
-  pub matched-reached : Reached (t .settings) (t .state)
+  unfoldable pub matched-reached : Reached (t .settings) (t .state)
   matched-reached = let r = m .run in record { begun = r .begun; starts = r .starts; calls = r .calls; leads = r .leads }
 
   -- one call more

@@ -8,6 +8,8 @@ use lib.ListN.{length, getD, take}
 use Rattle.device.specs.Refusal.{accepted}
 use Rattle.bound.specs.Totals.{bound-of}
 use Rattle.limit.specs.Exact.{exact}
+use Rattle.limit.specs.Run.{happened}
+use Rattle.limit.specs.Reachable.{Reached}
 use Rattle.limit.specs.ByRow.{Row-limited}
 use Rattle.trace.specs.declared.Record.the-variants.{Activate}
 use Rattle.trace.specs.Texts.{outcomes}
@@ -48,6 +50,19 @@ Takes-the-accepted =
     (trace given : List ℕ) (count : ℕ) (d : Silicon) → silicon-after count trace given ≡ some d → (row hold : ℕ) →
     let prints = step (passed start (take count (outcomes trace))) (accepted (Activate row hold)) .prints in
     (takes d row hold ≡ true → prints ≡ []) × (prints ≡ [] → takes d row hold ≡ true)
+
+-- what the silicon did is what the counter is told of calls: of some that lead, after an accepted setting up, where a tracker stands
+pub record Did-as (t : Tracker) (d : Silicon) : Type 0 where
+  pub reached : Reached (t .settings) (t .state)
+  pub same : d .did ≡ happened (t .settings) (reached .calls) (reached .begun)
+
+-- 'if it took the accepted activations and no others and refreshed the rows it listed': behind a passed listing, after every line of the trace behind
+-- which its own listing has a tracker standing, the silicon did what happened in calls that lead to that tracker
+unfoldable pub Did-as-required : Type 0
+Did-as-required =
+    (trace given : List ℕ) → departure trace given ≡ none →
+    (count : ℕ) (t : Tracker) (d : Silicon) →
+    passed start (take count (outcomes trace)) .tracker ≡ some t → silicon-after count trace given ≡ some d → Did-as t d
 
 -- 'each row's limit, counted anew from each accepted `S`, holds for the silicon behind a passed listing': after every line of the trace each row's exact
 -- disturbance is at most 2 × H, at most H in the first window, and at most its closer figures

@@ -58,6 +58,10 @@ impl Disturbance {
         self.events < u64::from(self.settings.window)
     }
 
+    pub fn events(&self) -> u64 {
+        self.events
+    }
+
     pub fn counts(&self) -> &[u64] {
         &self.counts
     }

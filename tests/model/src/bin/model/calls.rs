@@ -83,7 +83,7 @@ pub fn answer(line: &str) -> Option<String> {
 fn read_remap(words: &mut Words) -> Option<Remap> {
     match words.word() {
         None => Some(OUR_REMAP),
-        Some("remap") => read_numbers(words),
+        Some("remap") => words.remap(),
         Some(_) => None,
     }
 }
@@ -92,17 +92,9 @@ fn read_remap(words: &mut Words) -> Option<Remap> {
 fn read_remaps(words: &mut Words) -> Option<(Remap, Remap)> {
     match words.word() {
         None => Some((OUR_REMAP, OUR_REMAP)),
-        Some("remap") => Some((read_numbers(words)?, read_numbers(words)?)),
+        Some("remap") => Some((words.remap()?, words.remap()?)),
         Some(_) => None,
     }
-}
-
-fn read_numbers(words: &mut Words) -> Option<Remap> {
-    let mut remap = OUR_REMAP;
-    for number in &mut remap {
-        *number = words.number()?;
-    }
-    Some(remap)
 }
 
 fn read_position(words: &mut Words) -> Option<Position> {

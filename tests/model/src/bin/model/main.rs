@@ -9,12 +9,15 @@
 //! - `model checks`: the same for the files that each line of standard input names
 //! - `model limit SEED RUNS`: random runs on which the limit on disturbance and each row's closer
 //!   figure have to hold
+//! - `model disturbance`: what the plain counter holds after the calls, or behind the trace and the
+//!   listing, that each line of standard input gives
 //! - `model silicon SEED RUNS`: the same of the silicon behind the listings of random traces, from the
 //!   two texts alone
 //! - `model silicons`: the same for the traces that the lines of standard input name
 
 mod calls;
 mod check;
+mod disturbance;
 mod limit;
 mod numbers;
 mod queries;
@@ -38,6 +41,7 @@ fn main() -> io::Result<()> {
         ["writer"] => answer_requests(),
         ["check", names @ ..] => exit(check::check_files(names)),
         ["checks"] => answer_lines(check::answer_pair),
+        ["disturbance"] => answer_lines(disturbance::answer),
         ["silicons"] => answer_lines(silicon::answer_trace),
         ["limit" | "silicon", seed, runs] => match (seed.parse(), runs.parse()) {
             (Ok(seed), Ok(runs)) if arguments[0] == "limit" => exit(limit::check(seed, runs)),
@@ -51,7 +55,7 @@ fn main() -> io::Result<()> {
 fn usage() -> i32 {
     eprintln!(
         "usage: model queries | calls | listing | rewrite | writer | check TRACE LISTING | checks | \
-         limit SEED RUNS | silicon SEED RUNS | silicons"
+         limit SEED RUNS | disturbance | silicon SEED RUNS | silicons"
     );
     2
 }

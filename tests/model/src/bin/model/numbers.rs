@@ -1,7 +1,8 @@
-//! Reads numbers, settings and lists of numbers from a query's words.
+//! Reads numbers, settings, remaps and lists of numbers from a query's words.
 
 use std::str::{FromStr, SplitWhitespace};
 
+use row_tracker_model::remap::{Remap, OUR_REMAP};
 use row_tracker_model::settings::Settings;
 
 pub struct Words<'a>(SplitWhitespace<'a>);
@@ -29,6 +30,14 @@ impl<'a> Words<'a> {
             window: self.number()?,
             block: self.number()?,
         })
+    }
+
+    pub fn remap(&mut self) -> Option<Remap> {
+        let mut remap = OUR_REMAP;
+        for number in &mut remap {
+            *number = self.number()?;
+        }
+        Some(remap)
     }
 
     /// The length, then that many numbers.
