@@ -6,7 +6,7 @@ ghost use Prim.Native.Nat.{_+_, _≤_};
 ghost use lib.Dec.{ltb};
 ghost use lib.ListN.{length};
 ghost use Rattle.input.specs.AtHand.{input-of, Came};
-ghost use Rattle.input.specs.Files.{is-descriptor, standard-input};
+ghost use Rattle.input.specs.Files.{is-descriptor, no-file, standard-input};
 
 // A file, and whether it is open for reading. No other crate can make one of a number.
 pub struct File {
@@ -37,6 +37,16 @@ pub fn is_open(file: File) -> bool
     ensures { λ r. ⌜ r ≡ file .opened ⌝ }
 {
     file.opened
+}
+
+// No file: one that was not opened.
+pub fn unopened() -> File
+    ensures { λ r. ⌜ r ≡ no-file ⌝ }
+{
+    File {
+        descriptor: -1,
+        opened: false,
+    }
 }
 
 // Standard input, which is open from the start.

@@ -1,6 +1,6 @@
 -- What lies behind one read of either file.
 use mathlib.Core.Path.{_≡_, refl, sym, _∙_, ap}
-use mathlib.Core.Bool.{true, false}
+use mathlib.Core.Bool.{Bool, true, false}
 use mathlib.Core.List.{List, _++_}
 use Prim.Native.Nat.{ℕ, _+_, _-_, _≤_, _<_}
 use native.Mathlib.Omega.{arith}
@@ -13,17 +13,15 @@ use Rattle.trace.proofs.Numbers.Digits.{slice-take-drop}
 use Rattle.input.specs.declared.Input.{Input}
 use Rattle.input.specs.declared.Input.the-variants.{Bytes, End, Failed}
 use Rattle.input.specs.AtHand.{Within, Came}
-use Rattle.listing.specs.Memory.{memory}
 use Rattle.turns.specs.declared.Turn.{Turn}
-use Rattle.turns.specs.Turns.{Turned, turn-of}
+use Rattle.turns.specs.Turns.{turn-in}
 use Rattle.checker.specs.declared.Compared.{Compared}
 use Rattle.checker.specs.Comparison.{compared}
 use Rattle.checker.proofs.Comparison.{few}
 use Rattle.rowcheck.specs.declared.Answer.the-variants.{Open, Departs}
 use Rattle.rowcheck.specs.declared.Check.{Check}
-use Rattle.rowcheck.specs.declared.Step.{Step}
-use Rattle.rowcheck.specs.Turns.{behind-trace, given-beside, behind-listing, beside, Read-beside, State, wants-trace, after-trace, after-listing}
-use Rattle.rowcheck.specs.Contracts.{Comparable, Carried, Trace-stepped, Listing-checked, Listing-stepped, Stepped}
+use Rattle.rowcheck.specs.Turns.{behind-trace, given-beside, behind-listing, beside, Read-beside, State, wants-trace, after-listing, Stepped, of-listing}
+use Rattle.rowcheck.specs.Contracts.{Comparable, Listing-checked}
 
 -- the bytes of a text from one place to another, as a part of it is lent
 part-slice : (text : List ℕ) (at len : ℕ) → at ≤ len → take (len - at) (drop at text) ≡ drop at (take len text)
@@ -88,43 +86,17 @@ unfolding beside
 read-whole input at end before after h c =
     record { came = rw (le-ltb at end h) c; most = λ inside. absurd (omega arith) }
 
-pub trace-lines : (k : Check) (input : Input) → behind-trace k input .lines ≡ k .lines
+pub trace-lines : (k : Check) (failed : Bool) → behind-trace k failed .lines ≡ k .lines
 unfolding behind-trace
-trace-lines k (Bytes len) = refl
-trace-lines k End = refl
-trace-lines k Failed = refl
-
--- what is carried is that of the turn
-pub carried-alike : {s s′ : Step} {counts marks bounds text out : List ℕ} → s′ .turn ≡ s .turn → Carried s counts marks bounds text out → Carried s′ counts marks bounds text out
-carried-alike e c =
-    record {
-      ready = rw e (c .ready);
-      banked = rw e (c .banked);
-      text-long = c .text-long;
-      out-long = c .out-long;
-      kept-few = rw e (c .kept-few);
-      end-few = rw e (c .end-few);
-    }
-
--- a step of the trace, by what listing and comparing left
-pub trace-stepped : {from to : State} {input : Input} {text : List ℕ} → Came input (from .turn .kept) (from .turn .text) text → to .turn ≡ turn-of (from .turn .memory) text (from .turn .kept) input (from .turn .buffer) → to .check ≡ behind-trace (from .check) input → Trace-stepped from to
-unfolding after-trace
-trace-stepped {input = input} {text = text} came turn check =
-    record { input = input; text = text; came = came; same = λ i. record { turn = turn i; check = check i } }
+trace-lines k true = refl
+trace-lines k false = refl
 
 -- a step of the listing leaves what the trace's did
-pub listing-stepped : {from to : State} {before after : List ℕ} → to .turn ≡ from .turn → Listing-checked (from .check) (to .check) (from .turn .buffer) (from .turn .end) before after → Listing-stepped from to before after
+pub listing-stepped : {from to : State} {before after : List ℕ} → wants-trace from ≡ false → to .turn ≡ from .turn → Listing-checked (from .check) (to .check) (from .turn .buffer) (from .turn .end) before after → Stepped from to
 unfolding after-listing
-listing-stepped turn c =
-    record { input = c .input; came = c .came; same = λ i. record { turn = turn i; check = c .same i } }
-
--- the file that is read is the one that is wanted
-pub stepped-trace : {from to : State} {before after : List ℕ} → wants-trace from ≡ true → Trace-stepped from to → Stepped from to before after
-stepped-trace wants s = record { trace = λ on. s; listing = λ off. clash (sym wants ∙ off) }
-
-pub stepped-listing : {from to : State} {before after : List ℕ} → wants-trace from ≡ false → Listing-stepped from to before after → Stepped from to before after
-stepped-listing wants s = record { trace = λ on. clash (sym on ∙ wants); listing = λ off. s }
+listing-stepped {before = before} {after = after} wants turn c =
+    of-listing wants (c .input) before after (c .came) (λ i. record { turn = turn i; check = c .same i })
 
 -- the turn that the code holds is the state's
-pub turn-alike : {t t′ : Turn} (counts text out : List ℕ) → t′ ≡ t → _≡_ {A = Turned} (record { memory = memory (t′ .place) counts; text = text; kept = t′ .kept; buffer = out; end = t′ .end; more = t′ .more }) (record { memory = memory (t .place) counts; text = text; kept = t .kept; buffer = out; end = t .end; more = t .more })
+pub turn-alike : {t t′ : Turn} (counts text out : List ℕ) → t′ ≡ t → turn-in t′ counts text out ≡ turn-in t counts text out
 turn-alike counts text out e = rw e

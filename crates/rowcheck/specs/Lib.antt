@@ -1,4 +1,5 @@
--- The program: what lies between two reads, and what a whole run answers.
+-- The program: what it answers, its steps, and what a whole run comes to.
+pub mod Answers
 pub mod Turns
 pub mod Contracts
 pub mod Claims

@@ -1,21 +1,23 @@
--- The program's turns: what lies behind a read of the trace and behind one of the listing, and what all turns come to.
+-- The program's steps: a read of the trace or of the listing and what lies behind it, chains of them, and what all reads come to.
 use Prim.Native.Nat.{ℕ, suc, _+_, _*_, _≤_, _<_}
 use mathlib.Core.Path.{_≡_}
 use mathlib.Core.Bool.{Bool, true, false, _&&_, cond}
-use mathlib.Core.List.{List, [], _∷_}
+use mathlib.Core.List.{List, [], _∷_, _++_}
 use mathlib.Core.Option.{Option, none, some}
 use lib.Dec.{leb, ltb}
 use lib.ListN.{length, take, drop}
-use Rattle.listing.specs.Memory.{memory, start-place}
+use Rattle.listing.specs.Memory.{start-place}
 use Rattle.listing.specs.Chunks.{line-room}
 use Rattle.input.specs.declared.Input.{Input}
 use Rattle.input.specs.declared.Input.the-variants.{Bytes, End, Failed}
-use Rattle.input.specs.AtHand.{Within, Came}
-use Rattle.turns.specs.Turns.{Turned, turn-of}
+use Rattle.input.specs.AtHand.{Within, Came, brought}
+use Rattle.turns.specs.Turns.{Turned, turn-of, first-turned}
+use Rattle.turns.specs.Turns.{Stepped as Turn-stepped}
 use Rattle.checker.specs.Comparison.{compared}
 use Rattle.rowcheck.specs.declared.Answer.{Answer}
 use Rattle.rowcheck.specs.declared.Answer.the-variants.{Open, Passes, Departs, TraceFailed, ListingFailed}
 use Rattle.rowcheck.specs.declared.Check.{Check}
+use Rattle.rowcheck.specs.declared.Step.{Step}
 
 -- nothing is answered yet
 unfoldable pub open-so-far : Answer → Bool
@@ -25,11 +27,10 @@ open-so-far Departs = false
 open-so-far TraceFailed = false
 open-so-far ListingFailed = false
 
--- behind a read of the trace: what it requires is to be compared from its start on, unless the read failed
-unfoldable pub behind-trace : Check → Input → Check
-behind-trace k (Bytes len) = record { at = 0; lines = k .lines; answer = Open }
-behind-trace k End = record { at = 0; lines = k .lines; answer = Open }
-behind-trace k Failed = record { at = 0; lines = k .lines; answer = TraceFailed }
+-- behind a read of the trace, which failed or not: what it requires is to be compared from its start on
+unfoldable pub behind-trace : Check → Bool → Check
+behind-trace k false = record { at = 0; lines = k .lines; answer = Open }
+behind-trace k true = record { at = 0; lines = k .lines; answer = TraceFailed }
 
 -- what bytes of the listing come to: where some are required, they are compared with these; where none is, they are surplus
 unfoldable pub given-beside : Check → List ℕ → ℕ → List ℕ → ℕ → Check
@@ -59,13 +60,18 @@ pub record State : Type 0 where
   pub turn : Turned
   pub check : Check
 
--- before the first read, whatever the memory holds
-unfoldable pub first-state : List ℕ → List ℕ → List ℕ → State
-first-state counts text buffer =
+-- before the first read
+unfoldable pub first-step : Step
+first-step =
     record {
-      turn = record { memory = memory start-place counts; text = text; kept = 0; buffer = buffer; end = 0; more = true };
+      turn = record { place = start-place; kept = 0; end = 0; more = true; failed = false };
       check = record { at = 0; lines = 0; answer = Open };
     }
+
+-- the same with what the memory holds
+unfoldable pub first-state : List ℕ → List ℕ → List ℕ → State
+first-state counts text buffer =
+    record { turn = first-turned counts text buffer; check = record { at = 0; lines = 0; answer = Open } }
 
 -- the trace is read again once all that it required is compared; else the listing is, to the end of what is required or, behind the trace's end, to its own
 unfoldable pub wants-trace : State → Bool
@@ -74,14 +80,49 @@ wants-trace q = q .turn .more && leb (q .turn .end) (q .check .at)
 -- behind a read of the trace, and behind one of the listing
 unfoldable pub after-trace : State → List ℕ → Input → State
 after-trace q text input =
-    record {
-      turn = turn-of (q .turn .memory) text (q .turn .kept) input (q .turn .buffer);
-      check = behind-trace (q .check) input;
-    }
+    let t = turn-of (q .turn .memory) text (q .turn .kept) input (q .turn .buffer) in
+    record { turn = t; check = behind-trace (q .check) (t .failed) }
 
 unfoldable pub after-listing : State → List ℕ → Input → State
 after-listing q given input =
     record { turn = q .turn; check = behind-listing (q .check) (q .turn .buffer) (q .turn .end) given input }
+
+-- a read of the file that is wanted, whatever it brought, and what lies behind it
+pub data Stepped (from to : State) : Type 0 where
+  of-trace : wants-trace from ≡ true → (s : Turn-stepped (from .turn) (to .turn)) → to .check ≡ behind-trace (from .check) (to .turn .failed)
+      → Stepped from to
+  of-listing : wants-trace from ≡ false → (input : Input) (before after : List ℕ) → Read-beside input (from .check .at) (from .turn .end) before after
+      → to ≡ after-listing from after input → Stepped from to
+
+-- the part of the trace that it brought, if any, and the part of the listing
+unfoldable pub trace-part : {from to : State} → Stepped from to → List (List ℕ)
+trace-part {from} (of-trace wants s same) = brought (s .input) (from .turn .kept) (s .text)
+trace-part (of-listing wants input before after came same) = []
+
+unfoldable pub listing-part : {from to : State} → Stepped from to → List (List ℕ)
+listing-part (of-trace wants s same) = []
+listing-part {from} (of-listing wants input before after came same) = brought input (beside (from .check .at) (from .turn .end)) after
+
+-- so many such steps, each from where the one before left off, while nothing is answered: the parts of the trace and those of the listing that the reads brought
+pub data Chain (first : State) : ℕ → State → List (List ℕ) → List (List ℕ) → Type 0 where
+  none-yet : Chain first 0 first [] []
+  one-more : {n : ℕ} {from to : State} {parts given : List (List ℕ)}
+      → Chain first n from parts given → open-so-far (from .check .answer) ≡ true → (s : Stepped from to)
+      → Chain first (suc n) to (parts ++ trace-part s) (given ++ listing-part s)
+
+-- as many reads as a run makes at most
+abbrev pub most-reads : ℕ
+most-reads = 35184372088832
+
+-- a run came to such a check: a chain of steps that went on until something was answered, or as many reads were made as a run makes at most
+pub record Ran (first : State) (k : Check) : Type 0 where
+  pub reads : ℕ
+  pub last : State
+  pub parts : List (List ℕ)
+  pub given : List (List ℕ)
+  pub chain : Chain first reads last parts given
+  pub came : last .check ≡ k
+  pub ends : open-so-far (k .answer) ≡ true → reads ≡ most-reads
 
 -- a run, read by read: the parts of the trace and those of the listing that are still to come, and what it answers: none where the listing passes, else
 -- the number of the line that departs. Of a read and of what lies behind it only the contracts of the functions are known

@@ -1,22 +1,27 @@
 // Checks a supplier's listing against a trace: two files, read through buffers of fixed size. The required listing is made part by part and compared as the
 // supplier's comes in.
-mod tell;
+mod line;
 
+use input::File;
 use input::Input;
+use libc::STDERR_FILENO;
+use libc::STDOUT_FILENO;
 use turns::Turn;
 ghost use mathlib.Core.Path.{_≡_};
-ghost use mathlib.Core.Bool.{true, _&&_};
+ghost use mathlib.Core.Bool.{_&&_};
 ghost use mathlib.Core.List.{[]};
 ghost use Prim.Native.Nat.{_+_, _≤_, _<_};
 ghost use lib.Dec.{leb};
 ghost use lib.ListN.{length};
 ghost use Rattle.aids.specs.Marks.{Marked};
 ghost use Rattle.aids.specs.Bounds.{all-bounds};
-ghost use Rattle.listing.specs.Memory.{start-place};
 ghost use Rattle.input.specs.declared.Input.the-variants.{End};
-ghost use Rattle.rowcheck.specs.declared.Answer.the-variants.{Open};
-ghost use Rattle.rowcheck.specs.Turns.{open-so-far, behind-trace, given-beside, behind-listing, Read-beside};
-ghost use Rattle.rowcheck.specs.Contracts.{Comparable, Carried-in, most-lines, Trace-stepped-in, Listing-checked, Stepped-in};
+ghost use Rattle.turns.specs.Turns.{turn-before, turn-left};
+ghost use Rattle.turns.specs.Turns.{Stepped as Turn-stepped};
+ghost use Rattle.turns.specs.Contracts.{Carried-in};
+ghost use Rattle.rowcheck.specs.Turns.{open-so-far, behind-trace, given-beside, behind-listing, Read-beside, first-step, Ran};
+ghost use Rattle.rowcheck.specs.Answers.{has-answer};
+ghost use Rattle.rowcheck.specs.Contracts.{Comparable, most-lines, Listing-checked, Stepped-in, Ran-in, fresh};
 
 // The tracker's tables: a count for every row of the largest bank, a word of marks for each 64 of them and one for each 64 of these, and as many bounds.
 const ROWS: usize = 262_144;
@@ -32,6 +37,24 @@ const OUT: usize = 339_968;
 
 // Reads enough for any files; each passes over no more lines than a buffer has bytes, so a line's number stays below 2 to the 64th.
 const TURNS: u64 = 35_184_372_088_832;
+
+// The file of the trace, and the length of its name.
+struct TraceFile {
+    file: File,
+    length: usize,
+}
+
+// The file of the listing, and the length of its name: another type, so that neither can stand for the other.
+struct ListingFile {
+    file: File,
+    length: usize,
+}
+
+// A file that was to be opened, and the length of its name.
+struct Named {
+    file: File,
+    length: usize,
+}
 
 // What a check has come to.
 pub enum Answer {
@@ -55,26 +78,21 @@ pub struct Step {
     pub check: Check,
 }
 
-// Behind a read of the trace: what it requires is to be compared from its start on.
-fn behind_trace(from: Check, input: Input) -> Check
-    ensures { λ r. ⌜ r ≡ behind-trace from input ⌝ }
+// Behind a read of the trace: what it requires is to be compared from its start on, unless the read failed.
+fn behind_trace(from: Check, failed: bool) -> Check
+    ensures { λ r. ⌜ r ≡ behind-trace from failed ⌝ }
 {
-    match input {
-        Input::Bytes(_) => Check {
-            at: 0,
-            lines: from.lines,
-            answer: Answer::Open,
-        },
-        Input::End => Check {
-            at: 0,
-            lines: from.lines,
-            answer: Answer::Open,
-        },
-        Input::Failed => Check {
+    if failed {
+        return Check {
             at: 0,
             lines: from.lines,
             answer: Answer::TraceFailed,
-        },
+        };
+    }
+    Check {
+        at: 0,
+        lines: from.lines,
+        answer: Answer::Open,
     }
 }
 
@@ -136,19 +154,19 @@ fn behind_listing(from: Check, required: &[u8], end: usize, given: &[u8], input:
 }
 
 // Reads the listing beside what is required and not yet compared, or, where nothing is, from the buffer's front on.
-fn read_listing(fd: i32, given: &mut [u8], at: usize, end: usize) -> Input
+fn read_listing(listing: ListingFile, given: &mut [u8], at: usize, end: usize) -> Input
     requires { ⌜ end ≤ length (now given) ⌝ }
     ensures { λ r. ⌜ Read-beside r at end (now (given .entry)) (now (given .exit)) ⌝ }
 {
     if at < end {
-        return input::read_from(fd, &mut given[0..end], at);
+        return input::read_from(listing.file, &mut given[0..end], at);
     }
-    input::read_from(fd, given, 0)
+    input::read_from(listing.file, given, 0)
 }
 
 // Before the first read.
 fn first_step() -> Step
-    ensures { λ r. ⌜ r ≡ record { turn = record { place = start-place; kept = 0; end = 0; more = true }; check = record { at = 0; lines = 0; answer = Open } } ⌝ }
+    ensures { λ r. ⌜ r ≡ first-step ⌝ }
 {
     let turn = turns::first_turn();
     Step {
@@ -164,36 +182,35 @@ fn first_step() -> Step
 // A read of the trace, and what lies behind it.
 fn trace_step(
     from: Step,
-    fd: i32,
+    trace: TraceFile,
     counts: &mut [u32],
     marks: &mut [u64],
     bounds: &mut [u32],
     text: &mut [u8],
     out: &mut [u8],
 ) -> Step
-    requires { ⌜ Carried-in from counts marks bounds text out ⌝ }
-    ensures { λ r. ⌜ Carried-in r (counts .exit) (marks .exit) (bounds .exit) (text .exit) (out .exit) × (r .check .lines ≡ from .check .lines) ⌝ }
-    ensures { λ r. ⌜ Trace-stepped-in from r counts text out ⌝ }
+    requires { ⌜ Carried-in (from .turn) counts marks bounds text out ⌝ }
+    ensures { λ r. ⌜ Carried-in (r .turn) (counts .exit) (marks .exit) (bounds .exit) (text .exit) (out .exit) × (r .check .lines ≡ from .check .lines) ⌝ }
+    ensures { λ r. ⌜ Turn-stepped (turn-before (from .turn) counts text out) (turn-left (r .turn) counts text out) × (r .check ≡ behind-trace (from .check) (r .turn .failed)) ⌝ }
 {
     let before = from.turn;
     let so_far = from.check;
-    let input = input::read_from(fd, text, before.kept);
-    let turn = turns::between_reads(before, counts, marks, bounds, text, input, out);
+    let turn = turns::next_turn(before, trace.file, counts, marks, bounds, text, out);
     Step {
         turn,
-        check: behind_trace(so_far, input),
+        check: behind_trace(so_far, turn.failed),
     }
 }
 
 // A read of the listing, and what lies behind it.
-fn listing_step(from: Step, fd: i32, given: &mut [u8], out: &[u8]) -> Step
+fn listing_step(from: Step, listing: ListingFile, given: &mut [u8], out: &[u8]) -> Step
     requires { ⌜ (from .turn .end ≤ length (now out)) × (from .turn .end ≤ length (now given)) × (from .check .lines + length (now given) ≤ 18446744073709551615) ⌝ }
     ensures { λ r. ⌜ (r .turn ≡ from .turn) × (r .check .lines ≤ from .check .lines + length (now (given .entry))) ⌝ }
     ensures { λ r. ⌜ Listing-checked (from .check) (r .check) (now (out .entry)) (from .turn .end) (now (given .entry)) (now (given .exit)) ⌝ }
 {
     let turn = from.turn;
     let so_far = from.check;
-    let input = read_listing(fd, given, so_far.at, turn.end);
+    let input = read_listing(listing, given, so_far.at, turn.end);
     Step {
         turn,
         check: behind_listing(so_far, out, turn.end, given, input),
@@ -224,8 +241,8 @@ fn wants_trace(more: bool, end: usize, at: usize) -> bool
 // A read of the file that is wanted next, and what lies behind it: the trace once all that it required is compared, else the listing.
 fn next_step(
     from: Step,
-    trace: i32,
-    listing: i32,
+    trace: TraceFile,
+    listing: ListingFile,
     counts: &mut [u32],
     marks: &mut [u64],
     bounds: &mut [u32],
@@ -233,9 +250,9 @@ fn next_step(
     out: &mut [u8],
     given: &mut [u8],
 ) -> Step
-    requires { ⌜ Carried-in from counts marks bounds text out × (length (now given) ≡ 339968) × (from .check .lines + 339968 ≤ 18446744073709551615) ⌝ }
-    ensures { λ r. ⌜ Carried-in r (counts .exit) (marks .exit) (bounds .exit) (text .exit) (out .exit) × (r .check .lines ≤ from .check .lines + 339968) ⌝ }
-    ensures { λ r. ⌜ Stepped-in from r counts text out given ⌝ }
+    requires { ⌜ Carried-in (from .turn) counts marks bounds text out × (length (now given) ≡ 339968) × (from .check .lines + 339968 ≤ 18446744073709551615) ⌝ }
+    ensures { λ r. ⌜ Carried-in (r .turn) (counts .exit) (marks .exit) (bounds .exit) (text .exit) (out .exit) × (r .check .lines ≤ from .check .lines + 339968) ⌝ }
+    ensures { λ r. ⌜ Stepped-in from r counts text out ⌝ }
 {
     let so_far = from.check;
     let turn = from.turn;
@@ -247,8 +264,8 @@ fn next_step(
 
 // Reads both files until the answer is known, or a read fails.
 fn run(
-    trace: i32,
-    listing: i32,
+    trace: TraceFile,
+    listing: ListingFile,
     counts: &mut [u32],
     marks: &mut [u64],
     bounds: &mut [u32],
@@ -257,11 +274,12 @@ fn run(
     given: &mut [u8],
 ) -> Check
     requires { ⌜ Marked (now counts) (now marks) × (length (now bounds) ≡ all-bounds) × (length (now text) ≡ 6144) × (length (now out) ≡ 339968) × (length (now given) ≡ 339968) ⌝ }
+    ensures { λ r. ⌜ Ran-in r counts text out ⌝ }
     ensures { λ r. ⌜ r .lines ≤ most-lines ⌝ }
 {
     let mut step = first_step();
     let mut left = TURNS;
-    while left > 0 && is_open(step.check) {
+    while input::reads_again(is_open(step.check), left) {
         step = next_step(
             step,
             trace,
@@ -279,7 +297,8 @@ fn run(
 }
 
 // Checks one open file against another, with memory of its own.
-fn check_files(trace: i32, listing: i32) -> Check
+fn check_files(trace: TraceFile, listing: ListingFile) -> Check
+    ensures { λ r. ⌜ Ran fresh r ⌝ }
     ensures { λ r. ⌜ r .lines ≤ most-lines ⌝ }
 {
     let mut counts = [0u32; ROWS];
@@ -300,18 +319,117 @@ fn check_files(trace: i32, listing: i32) -> Check
     )
 }
 
+// How to call it.
+fn tell_usage() {
+    io::write_all(
+        STDERR_FILENO,
+        b"rowcheck: two file names are needed: rowcheck TRACE LISTING\n",
+    );
+}
+
+// What is wrong with the file of a name.
+fn tell_file(wrong: &[u8], name: &[u8]) {
+    io::write_all(STDERR_FILENO, wrong);
+    io::write_all(STDERR_FILENO, b" ");
+    os::fail(name);
+}
+
+// Opens the file that an argument names, which goes to the buffer's front; where that fails, it is said.
+fn open(argument: usize, name: &mut [u8], wrong: &[u8]) -> Named
+    ensures { λ r. ⌜ r .length ≤ length (now (name .exit)) ⌝ }
+{
+    let length = os::arg(argument, name);
+    if os::errno() != 0 {
+        os::fail(wrong);
+        return Named {
+            file: input::unopened(),
+            length,
+        };
+    }
+    let file = input::open(&name[0..length]);
+    if !input::is_open(file) {
+        tell_file(wrong, &name[0..length]);
+    }
+    Named { file, length }
+}
+
+// The trace is the first argument's file.
+fn open_trace(name: &mut [u8]) -> TraceFile
+    ensures { λ r. ⌜ r .length ≤ length (now (name .exit)) ⌝ }
+{
+    let named = open(1, name, b"rowcheck: cannot open the trace");
+    let file = named.file;
+    TraceFile {
+        file,
+        length: named.length,
+    }
+}
+
+// The listing is the second's.
+fn open_listing(name: &mut [u8]) -> ListingFile
+    ensures { λ r. ⌜ r .length ≤ length (now (name .exit)) ⌝ }
+{
+    let named = open(2, name, b"rowcheck: cannot open the listing");
+    let file = named.file;
+    ListingFile {
+        file,
+        length: named.length,
+    }
+}
+
+// The answer on standard output; whether there is one.
+fn tell_answer(k: Check) -> bool
+    requires { ⌜ k .lines ≤ most-lines ⌝ }
+    ensures { λ r. ⌜ r ≡ has-answer (k .answer) ⌝ }
+{
+    let mut line = [0u8; 37];
+    let end = line::answer_line(k, &mut line);
+    if end == 0 {
+        return false;
+    }
+    if !io::write_all(STDOUT_FILENO, &line[..end]) {
+        os::fail(b"rowcheck: cannot write the answer");
+    }
+    true
+}
+
+// Why there is no answer, on standard error.
+fn tell_failure(k: Check, trace: &[u8], listing: &[u8]) {
+    let answer = k.answer;
+    match answer {
+        Answer::TraceFailed => tell_file(b"rowcheck: cannot read the trace", trace),
+        Answer::ListingFailed => tell_file(b"rowcheck: cannot read the listing", listing),
+        Answer::Open => {
+            io::write_all(STDERR_FILENO, b"rowcheck: the files do not end\n");
+        }
+        Answer::Passes => {}
+        Answer::Departs => {}
+    }
+}
+
 fn main() {
     if os::arg_count() != 3 {
-        tell::usage();
+        tell_usage();
         return;
     }
-    let trace = tell::open(1, b"rowcheck: cannot open the trace");
-    if trace < 0 {
+    let mut trace_name = io::buffer();
+    let trace = open_trace(&mut trace_name);
+    if !input::is_open(trace.file) {
         return;
     }
-    let listing = tell::open(2, b"rowcheck: cannot open the listing");
-    if listing < 0 {
+    let mut listing_name = io::buffer();
+    let listing = open_listing(&mut listing_name);
+    if !input::is_open(listing.file) {
         return;
     }
-    tell::answer(check_files(trace, listing));
+    let check = check_files(trace, listing);
+    if !tell_answer(check) {
+        let trace_end = trace.length;
+        let listing_end = listing.length;
+        tell_failure(
+            check,
+            &trace_name[0..trace_end],
+            &listing_name[0..listing_end],
+        );
+    }
 }

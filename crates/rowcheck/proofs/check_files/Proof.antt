@@ -1,4 +1,4 @@
--- `rowcheck::check_files` is safe: its tables track nothing at first.
+-- `rowcheck::check_files` meets its contract: its tables track nothing at first.
 use mathlib.Core.Path.{refl}
 use borrow.Author.Needs.{needs}
 use Rattle.listing.proofs.Memory.Zeros.{zeros-marked}
@@ -7,6 +7,9 @@ use Rattle.rowcheck.proofs.check_files.Tie as tie
 
 run-requires : tie.Need-run-requires
 run-requires c κs = (zeros-marked 262144 refl refl refl, search needs, search needs, search needs, search needs)
+
+returns : tie.Need-returns
+returns c = c .before .before .before .before .before .before .run .ensures
 
 pub check-files-spec : {M : Type 1} → statement M
 check-files-spec =
@@ -19,4 +22,4 @@ check-files-spec =
     (λ c. search needs)
     (λ c. search needs)
     run-requires
-    (λ c. search needs))
+    returns)

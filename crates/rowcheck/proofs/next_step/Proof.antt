@@ -2,8 +2,8 @@
 use mathlib.Core.Path.{sym, _∙_}
 use native.Mathlib.Omega.{arith}
 use borrow.Author.Needs.{needs}
-use Rattle.rowcheck.specs.Turns.{wants-trace}
-use Rattle.rowcheck.proofs.Steps.{carried-alike, listing-stepped, stepped-trace, stepped-listing, turn-alike}
+use Rattle.rowcheck.specs.Turns.{wants-trace, of-trace}
+use Rattle.rowcheck.proofs.Steps.{listing-stepped, turn-alike}
 use Rattle.rowcheck.proofs.next_step.Statement.{statement}
 use Rattle.rowcheck.proofs.next_step.Tie as tie
 
@@ -11,14 +11,14 @@ returns : tie.Need-returns
 unfolding wants-trace
 returns c =
     let t = c .before .before .before .before .before .before .before .before .before .before .trace-step .ensures in
-    ((t .0 .0, omega (arith, t .0 .1)), stepped-trace (sym (c .before .before .before .before .before .before .before .before .before .before .before .before .before .before .before .before .before .wants-trace .ensures) ∙ c .before .before .before .before .before .before .before .before .before .before .before .before .before .before .before .before .if1 .taken) (t .1))
+    ((t .0 .0, omega (arith, t .0 .1)), of-trace (sym (c .before .before .before .before .before .before .before .before .before .before .before .before .before .before .before .before .before .wants-trace .ensures) ∙ c .before .before .before .before .before .before .before .before .before .before .before .before .before .before .before .before .if1 .taken) (t .1 .0) (t .1 .1))
 
 returns-2 : tie.Need-returns-2
 unfolding wants-trace
 returns-2 c =
     let a = c .before .before .before .before .before .before .before .before .before .before .before .before .before .before .before in
     let l = c .before .before .listing-step .ensures in
-    ((carried-alike (l .0 .0) (a .pre .0), omega (arith, l .0 .1, a .pre .1)), stepped-listing (sym (c .before .before .before .before .before .before .wants-trace .ensures) ∙ c .before .before .before .before .before .if1 .left) (listing-stepped (turn-alike _ _ _ (l .0 .0)) (l .1)))
+    ((rw (l .0 .0) (a .pre .0), omega (arith, l .0 .1, a .pre .1)), listing-stepped (sym (c .before .before .before .before .before .before .wants-trace .ensures) ∙ c .before .before .before .before .before .if1 .left) (turn-alike _ _ _ (l .0 .0)) (l .1))
 
 pub next-step-spec : {M : Type 1} → statement M
 next-step-spec =
