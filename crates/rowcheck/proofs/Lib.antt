@@ -5,4 +5,5 @@ pub mod Chains
 pub mod Wanted
 pub mod TraceReads
 pub mod Runs
+pub mod Linked
 pub mod Claims

@@ -1,11 +1,20 @@
--- What is claimed of the program, besides its functions' contracts. proofs/Claims.antt proves it under the same name.
-use Prim.Native.Nat.{ℕ}
+-- What is claimed of the program, besides its functions' contracts. proofs/Claims.antt proves each under the same name.
+use Prim.Native.Nat.{ℕ, suc, _+_, _*_, _≤_, _<_}
 use mathlib.Core.Path.{_≡_}
-use mathlib.Core.List.{List}
-use mathlib.Core.Option.{Option}
-use Rattle.trace.specs.Texts.{joined}
+use mathlib.Core.List.{List, [], _∷_, _++_}
+use mathlib.Core.Option.{Option, none, some}
+use lib.ListN.{length}
+use Rattle.trace.specs.Texts.{joined, whole}
+use Rattle.listing.specs.Memory.{memory, start-place}
+use Rattle.listing.specs.Chunks.{line-room}
+use Rattle.listing.specs.Steps.{start}
+use Rattle.listing.specs.Texts.{listing}
+use Rattle.turns.specs.Turns.{Turns}
 use Rattle.checker.specs.Departure.{departure}
-use Rattle.rowcheck.specs.Turns.{first-state, Runs}
+use Rattle.rowcheck.specs.declared.Answer.the-variants.{Passes, Departs}
+use Rattle.rowcheck.specs.declared.Check.{Check}
+use Rattle.rowcheck.specs.Answers.{passes-line, answer-line}
+use Rattle.rowcheck.specs.Turns.{State, first-state, Chain, Ran, Runs}
 
 -- however both files come in parts: what a run answers is the first line at which all that the listing's reads brought departs from what all that the
 -- trace's reads brought requires
@@ -13,3 +22,31 @@ unfoldable pub Runs-checked : Type 0
 Runs-checked =
     (counts text buffer : List ℕ) (parts given : List (List ℕ)) (answer : Option ℕ) →
     Runs (first-state counts text buffer) parts given answer → answer ≡ departure (joined parts) (joined given)
+
+-- a chain of steps that ends in an answer is what `Runs-checked` speaks of, with that answer
+unfoldable pub Chain-runs : Type 0
+Chain-runs =
+    (counts text buffer : List ℕ) (reads : ℕ) (last : State) (parts given : List (List ℕ)) →
+    let first = first-state counts text buffer in
+    Chain first reads last parts given →
+    (last .check .answer ≡ Passes → Runs first parts given none) ×
+    (last .check .answer ≡ Departs → Runs first parts given (some (suc (last .check .lines))))
+
+-- of a run: where it says that the listing passes, nothing departs in what its reads brought; where it says that a line departs, that line is the first
+unfoldable pub Run-answers : Type 0
+Run-answers =
+    (counts text buffer : List ℕ) (k : Check) (ran : Ran (first-state counts text buffer) k) →
+    (k .answer ≡ Passes → departure (joined (ran .parts)) (joined (ran .given)) ≡ none) ×
+    (k .answer ≡ Departs → departure (joined (ran .parts)) (joined (ran .given)) ≡ some (suc (k .lines)))
+
+-- the line that is written is `passes` exactly where that is the answer
+unfoldable pub Says-passes : Type 0
+Says-passes = (k : Check) → (k .answer ≡ Passes → answer-line k ≡ passes-line) × (answer-line k ≡ passes-line → k .answer ≡ Passes)
+
+-- 'a listing that passes equals the program's output byte for byte, and what the program prints always passes': of what turns of `rowlist` print, and of a run
+-- of this program, however the same trace came in parts to each
+unfoldable pub Program-passes : Type 0
+Program-passes =
+    (counts text : List ℕ) (parts : List (List ℕ)) (out : List ℕ) → Turns (memory start-place counts) text 0 parts out →
+    (counts′ text′ buffer : List ℕ) (parts′ given : List (List ℕ)) (answer : Option ℕ) → Runs (first-state counts′ text′ buffer) parts′ given answer →
+    joined parts′ ≡ joined parts → (joined given ≡ out → answer ≡ none) × (answer ≡ none → joined given ≡ out)
