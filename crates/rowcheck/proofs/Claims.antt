@@ -20,10 +20,11 @@ use Rattle.rowcheck.specs.declared.Answer.the-variants.{Open, Passes, De
 use Rattle.rowcheck.specs.declared.Check.{Check}
 use Rattle.rowcheck.specs.Answers.{passes-line, departs-words, line-of, answer-line}
 use Rattle.rowcheck.specs.Turns.{first-state, passes, departs}
-use Rattle.rowcheck.specs.Claims.{Runs-checked, Chain-runs, Run-answers, Says-passes, Program-passes}
+use Rattle.rowcheck.specs.Claims.{Runs-checked, Chain-runs, Run-answers, Says-passes, Program-passes, Chains-exist}
 use Rattle.rowcheck.proofs.Wanted.{behind, required, to-answer, wanted, Fine}
 use Rattle.rowcheck.proofs.Runs.{runs-answer}
 use Rattle.rowcheck.proofs.Linked.{chain-runs-to}
+use Rattle.rowcheck.proofs.Example.{both-answers}
 
 fine-first : (counts text buffer : List ℕ) → Fine (first-state counts text buffer .turn) start
 unfolding first-state first-turned ended
@@ -73,3 +74,7 @@ program-passes counts text parts out turns counts′ text′ buffer parts′ giv
       λ alike. rw (answers, same) (exactly .1 (alike ∙ printed)),
       λ passed. exactly .0 (rw (sym same) (sym answers ∙ passed)) ∙ sym printed,
     )
+
+pub chains-exist : Chains-exist
+unfolding Chains-exist
+chains-exist counts text = both-answers counts text

@@ -6,4 +6,5 @@ pub mod Wanted
 pub mod TraceReads
 pub mod Runs
 pub mod Linked
+pub mod Example
 pub mod Claims

@@ -1,20 +1,19 @@
 -- What is claimed of the program, besides its functions' contracts. proofs/Claims.antt proves each under the same name.
-use Prim.Native.Nat.{ℕ, suc, _+_, _*_, _≤_, _<_}
+use Prim.Native.Nat.{ℕ, suc}
 use mathlib.Core.Path.{_≡_}
-use mathlib.Core.List.{List, [], _∷_, _++_}
+use mathlib.Core.List.{List, [], _∷_}
 use mathlib.Core.Option.{Option, none, some}
-use lib.ListN.{length}
-use Rattle.trace.specs.Texts.{joined, whole}
+use lib.ListN.{replicate}
+use Rattle.trace.specs.Texts.{joined}
 use Rattle.listing.specs.Memory.{memory, start-place}
-use Rattle.listing.specs.Chunks.{line-room}
-use Rattle.listing.specs.Steps.{start}
-use Rattle.listing.specs.Texts.{listing}
 use Rattle.turns.specs.Turns.{Turns}
 use Rattle.checker.specs.Departure.{departure}
+use Rattle.rowcheck.specs.declared.Answer.{Answer}
 use Rattle.rowcheck.specs.declared.Answer.the-variants.{Passes, Departs}
 use Rattle.rowcheck.specs.declared.Check.{Check}
 use Rattle.rowcheck.specs.Answers.{passes-line, answer-line}
 use Rattle.rowcheck.specs.Turns.{State, first-state, Chain, Ran, Runs}
+use Rattle.rowcheck.specs.Example.{example-trace, example-listing, other-listing}
 
 -- however both files come in parts: what a run answers is the first line at which all that the listing's reads brought departs from what all that the
 -- trace's reads brought requires
@@ -50,3 +49,17 @@ Program-passes =
     (counts text : List ℕ) (parts : List (List ℕ)) (out : List ℕ) → Turns (memory start-place counts) text 0 parts out →
     (counts′ text′ buffer : List ℕ) (parts′ given : List (List ℕ)) (answer : Option ℕ) → Runs (first-state counts′ text′ buffer) parts′ given answer →
     joined parts′ ≡ joined parts → (joined given ≡ out → answer ≡ none) × (answer ≡ none → joined given ≡ out)
+
+-- a chain of steps that brought such parts came to an answer
+pub record Answered (first : State) (parts given : List (List ℕ)) (answer : Answer) : Type 0 where
+  pub reads : ℕ
+  pub last : State
+  pub chain : Chain first reads last parts given
+  pub came : last .check .answer ≡ answer
+
+-- there are such chains, with either answer
+unfoldable pub Chains-exist : Type 0
+Chains-exist =
+    (counts text : List ℕ) →
+    let first = first-state counts text (replicate 310 0) in
+    Answered first (example-trace ∷ []) (example-listing ∷ []) Passes × Answered first (example-trace ∷ []) (other-listing ∷ []) Departs

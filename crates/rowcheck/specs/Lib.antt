@@ -2,4 +2,5 @@
 pub mod Answers
 pub mod Turns
 pub mod Contracts
+pub mod Example
 pub mod Claims
