@@ -11,7 +11,7 @@ ghost use mathlib.Core.Path.{_≡_};
 ghost use mathlib.Core.Bool.{_&&_};
 ghost use mathlib.Core.List.{[]};
 ghost use Prim.Native.Nat.{_+_, _≤_, _<_};
-ghost use lib.Dec.{leb};
+ghost use lib.Dec.{leb, ltb};
 ghost use lib.ListN.{length};
 ghost use Rattle.aids.specs.Marks.{Marked};
 ghost use Rattle.aids.specs.Bounds.{all-bounds};
@@ -217,7 +217,7 @@ fn listing_step(from: Step, listing: ListingFile, given: &mut [u8], out: &[u8]) 
     }
 }
 
-// Whether a run goes on.
+// Whether nothing is answered yet.
 fn is_open(k: Check) -> bool
     ensures { λ r. ⌜ r ≡ open-so-far (k .answer) ⌝ }
 {
@@ -229,6 +229,13 @@ fn is_open(k: Check) -> bool
         Answer::TraceFailed => false,
         Answer::ListingFailed => false,
     }
+}
+
+// Whether a run goes on: nothing is answered yet, and reads are left.
+fn runs_on(k: Check, left: u64) -> bool
+    ensures { λ r. ⌜ r ≡ open-so-far (k .answer) && ltb 0 left ⌝ }
+{
+    input::reads_again(is_open(k), left)
 }
 
 // Whether the trace is to be read next: it goes on, and all that it required so far is compared.
@@ -279,7 +286,7 @@ fn run(
 {
     let mut step = first_step();
     let mut left = TURNS;
-    while input::reads_again(is_open(step.check), left) {
+    while runs_on(step.check, left) {
         step = next_step(
             step,
             trace,
