@@ -1,5 +1,5 @@
 """Where a program's input or output fails: it ends, and what it has written is a prefix of what it
-writes otherwise.
+writes otherwise. It says what failed.
 
 Each failure starts the program, by `start`, on a file with its input or on a part of that, and says
 whether all went as it has to.
@@ -127,12 +127,29 @@ def of_first_part(start, trace):
         os.close(into)
 
 
-def check_failures(tally, command, failures, text, wanted, said=None):
-    """What the program says on standard error has to be a prefix of `said`, unless that is None."""
+# Which of them the program can say, and does: it cannot where standard error fails, nor where the signal of a closed pipe ends it.
+UNWRITTEN = output_full, output_closed, output_fills
+UNREAD = input_unreadable, input_closed, input_fails_later, input_fails_after_lines
+
+
+def words_of(failure, unread, unwritten):
+    """What the line on standard error begins with, or None where there is none."""
+    return unread if failure in UNREAD else unwritten if failure in UNWRITTEN else None
+
+
+def is_said(errors, words):
+    """One line that begins with these words and names the system's reason; without words, nothing."""
+    if words is None:
+        return errors == b""
+    return errors.startswith(words + b": ") and len(errors) > len(words) + 3 and errors.find(b"\n") == len(errors) - 1
+
+
+def check_failures(tally, command, failures, text, wanted, unread, unwritten):
+    """`unread` and `unwritten` are the words that the program says where it cannot read or write."""
     for failure in failures:
         with temporary_file(text) as trace, temporary_file() as errors:
             start = functools.partial(subprocess.Popen, command, stderr=errors)
             good = failure(start, trace, wanted)
-            if said is not None:
-                good = good and said.startswith(written(errors))
-            tally.check(good, f"{failure.__name__}: {failure.__doc__}")
+            said = written(errors)
+            tally.check(good and is_said(said, words_of(failure, unread, unwritten)),
+                        f"{failure.__name__}: {failure.__doc__} Said: {said}")

@@ -11,7 +11,8 @@ at places where blocks of bytes end, and on long texts. Each answer is held agai
 against the bytes that the listing has in common with what `rowlist` prints; pairs that are short enough
 are put to the library's call too (crates/test_check). One fixed and one fresh seed
 (--seed repeats a fresh one). What differs stays in target/check/. Then inputs and outputs that fail,
-inputs that are pipes, README.md's line for scripts (script.py), and memory. Of the model alone: the
+inputs that are pipes, README.md's line for scripts (script.py), memory, and builds of the program that must
+not compile (builds.py). Of the model alone: the
 disturbance of the silicon behind passed listings (tests/model/src/silicon.rs, supplier.rs).
 Exit status: 0 all equal; 1 a difference; 2 something is missing or cannot be built.
 """
@@ -30,6 +31,7 @@ sys.dont_write_bytecode = True
 TESTS = pathlib.Path(__file__).resolve().parents[1]
 sys.path[:0] = [str(TESTS), str(TESTS / "listing")]
 from broken import check_broken, check_memory, check_names, check_pipes
+from builds import check_builds
 from cases import CASES, LISTING, OWN, SETTINGS, TRACE
 from comparison import (
     BUILD_MODEL, FIXED_SEED, MODEL, ROOT, SHOWN, TIME_LIMIT, Tally, arguments_with_seeds, build, give_up,
@@ -370,6 +372,7 @@ def main():
     build(OUT, BUILD_MODEL)
     tally = Tally()
     test_model(tally)
+    check_builds(tally)
     compare = Comparison(tally, command, caller, rowlist)
     check_written(compare)
     check_every(compare)

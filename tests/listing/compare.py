@@ -27,7 +27,8 @@ from comparison import (
     BUILD_MODEL, FIXED_SEED, MODEL, ROOT, Tally, arguments_with_seeds, build, give_up,
 )
 from failures import (
-    check_failures, input_fails_after_lines, input_unreadable, output_fills, output_full, reader_leaves,
+    check_failures, input_closed, input_fails_after_lines, input_unreadable, output_closed, output_fills,
+    output_full, reader_leaves,
 )
 from programs import add_programs, command_of, difference, from_file, in_pieces, random_pieces, through_pipe
 from remaps import REVERSE
@@ -47,7 +48,9 @@ KEPT = ("smallest_bank", "bank_of_1040", "bank_of_65520", "bank_of_65536", "many
 TRICKLES = 20  # traces in small pieces for each seed
 MOST_BYTE_BY_BYTE = 5000  # bytes of a trace
 
-FAILURES = (output_full, reader_leaves, output_fills, input_unreadable, input_fails_after_lines)
+FAILURES = (output_full, output_closed, reader_leaves, output_fills, input_unreadable, input_closed,
+            input_fails_after_lines)
+WORDS = b"rowlist: cannot read the trace", b"rowlist: cannot write the listing"
 REFUSALS = (1, 2, 3, 4, 5, 6, 7, 9, 11, 14, 15, 22)  # those that a trace can earn
 LONG = {"long trace of a large bank": long_trace, "long trace of holds": long_holds}
 
@@ -196,7 +199,7 @@ def check_kept(tally, command):
 def check_broken(tally, command):
     tally.begin("input or output that fails")
     text = b"S    16     2    16    16     4     4     4\n" + b"A     5\nA    10\nR\n" * 20_000
-    check_failures(tally, command, FAILURES, text, model_listing(text))
+    check_failures(tally, command, FAILURES, text, model_listing(text), *WORDS)
 
 
 def main():

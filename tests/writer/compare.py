@@ -50,6 +50,7 @@ MODEL_WRITER = [MODEL, "writer"]
 TRICKLES = 15  # traces in small pieces for each seed
 PAIRS = 30  # pairs of traces, and traces that are listed, for each seed
 MEGABYTE = 10**6
+WORDS = b"tracefmt: cannot read the trace", b"tracefmt: cannot write the spelling"
 MOST_GROWTH = 1000  # kilobytes by which a long input may raise the program's memory
 REFUSALS = (1, 2, 3, 4, 5, 6, 7, 9, 11, 14, 15)  # those that a line can earn
 
@@ -170,10 +171,9 @@ def check_broken(tally, command):
     text = b"S    16     2    16    16     4     4     4\n" + b"A     5\nA    10\nR\n" * 20_000
     failures = (output_full, output_closed, reader_leaves, output_fills, input_unreadable, input_closed,
                 input_fails_later)
-    check_failures(tally, command, failures, text, text, said=b"")
-    fault = fault_line((text.count(b"\n") + 1, 9))
+    check_failures(tally, command, failures, text, text, *WORDS)
     failures = (output_full, output_closed, reader_leaves, output_fills, errors_full, errors_closed)
-    check_failures(tally, command, failures, text + b"A    16\nR\n", text, said=fault)
+    check_failures(tally, command, failures, text + b"A    16\nR\n", text, *WORDS)
 
 
 def check_memory(tally, command):
