@@ -8,10 +8,9 @@ use lib.ListN.{length}
 use lib.Seq.{length-take-le}
 use Rattle.listing.proofs.Memory.Progress.{represents-start}
 use Rattle.listing.proofs.Memory.Zeros.{banked-start}
-use Rattle.input.proofs.Again.{more-left, none-left}
-use Rattle.input.proofs.Runs.{ran-unwritten, ran-written}
+use Rattle.input.proofs.Runs.{ran-unwritten}
 use Rattle.turns.specs.Turns.{first-turned, none-yet, more-in}
-use Rattle.rowlist.proofs.Runs.{Going, steps-on}
+use Rattle.rowlist.proofs.Runs.{Going, some-left, goes-further, goes-no-further}
 use Rattle.rowlist.proofs.run.Statement.{statement}
 use Rattle.rowlist.proofs.run.Tie as tie
 
@@ -43,7 +42,7 @@ next-turn-requires : tie.Need-next-turn-requires Inv-loop μ-loop
 next-turn-requires c κs = c .before .before .before .before .before .before .before .loop .inv .carried
 
 sub-left : tie.Need-sub-left Inv-loop μ-loop
-sub-left c = omega (arith, more-left (c .before .before .before .before .before .before .before .before .before .before .before .before .before .before .before .before .before .before .loop .turn .more) (c .before .before .before .before .before .before .before .before .before .before .before .before .before .before .before .before .before .before .loop .left) (c .before .before .before .before .before .before .before .before .before .before .before .before .before .before .before .before .before .reads-again .ensures) (c .before .before .before .before .before .before .before .before .before .before .before .before .before .before .before .before .if1 .taken) .1)
+sub-left c = some-left (c .before .before .before .before .before .before .before .before .before .before .before .before .before .before .before .before .before .before .loop .inv) (c .before .before .before .before .before .before .before .before .before .before .before .before .before .before .before .before .before .reads-again .ensures) (c .before .before .before .before .before .before .before .before .before .before .before .before .before .before .before .before .if1 .taken)
 
 slice-reshare-prefix-write-all : tie.Need-slice-reshare-prefix-write-all Inv-loop μ-loop
 slice-reshare-prefix-write-all c = let n = c .before .before .before .before .before .before .before .before .before .before .next-turn .ensures .0 in omega (arith, n .end-few, n .out-long)
@@ -69,21 +68,13 @@ same-length-5 : tie.Need-same-length-5 Inv-loop μ-loop
 same-length-5 c = c .before .before .before .before .before .before .before .before .before .before .before .before .before .next-turn .ensures .0 .out-long ∙ sym (c .before .before .before .before .before .before .before .before .before .before .before .before .before .before .before .before .before .before .before .before .before .before .before .before .before .before .before .before .before .pre .3)
 
 returns : tie.Need-returns Inv-loop μ-loop
-returns c =
-    let n = c .before .before .before .before .before .before .before .before .before .before .before .before .before .next-turn in
-    let l = c .before .before .before .before .before .before .before .before .before .before .before .before .before .before .before .before .before .before .before .before .before .loop in
-    let on = more-left (l .turn .more) (l .left) (c .before .before .before .before .before .before .before .before .before .before .before .before .before .before .before .before .before .before .before .before .reads-again .ensures) (c .before .before .before .before .before .before .before .before .before .before .before .before .before .before .before .before .before .before .before .if1 .taken) in
-    ran-unwritten more-in (steps-on (l .inv .steps) (on .0) (on .1) (n .ensures .1))
+returns c = ran-unwritten more-in (goes-further (c .before .before .before .before .before .before .before .before .before .before .before .before .before .before .before .before .before .before .before .before .before .loop .inv) (c .before .before .before .before .before .before .before .before .before .before .before .before .before .before .before .before .before .before .before .before .reads-again .ensures) (c .before .before .before .before .before .before .before .before .before .before .before .before .before .before .before .before .before .before .before .if1 .taken) (c .before .before .before .before .before .before .before .before .before .before .before .before .before .next-turn .ensures .0) (c .before .before .before .before .before .before .before .before .before .before .before .before .before .next-turn .ensures .1) .steps)
 
 loop-less : tie.Need-loop-less Inv-loop μ-loop
-loop-less c = omega (arith, more-left (c .before .before .before .before .before .before .before .before .before .before .before .before .before .before .before .before .before .before .before .before .before .loop .turn .more) (c .before .before .before .before .before .before .before .before .before .before .before .before .before .before .before .before .before .before .before .before .before .loop .left) (c .before .before .before .before .before .before .before .before .before .before .before .before .before .before .before .before .before .before .before .before .reads-again .ensures) (c .before .before .before .before .before .before .before .before .before .before .before .before .before .before .before .before .before .before .before .if1 .taken) .1)
+loop-less c = omega (arith, some-left (c .before .before .before .before .before .before .before .before .before .before .before .before .before .before .before .before .before .before .before .before .before .loop .inv) (c .before .before .before .before .before .before .before .before .before .before .before .before .before .before .before .before .before .before .before .before .reads-again .ensures) (c .before .before .before .before .before .before .before .before .before .before .before .before .before .before .before .before .before .before .before .if1 .taken))
 
 loop-again : tie.Need-loop-again Inv-loop μ-loop
-loop-again c =
-    let n = c .before .before .before .before .before .before .before .before .before .before .before .before .before .next-turn in
-    let l = c .before .before .before .before .before .before .before .before .before .before .before .before .before .before .before .before .before .before .before .before .before .loop in
-    let on = more-left (l .turn .more) (l .left) (c .before .before .before .before .before .before .before .before .before .before .before .before .before .before .before .before .before .before .before .before .reads-again .ensures) (c .before .before .before .before .before .before .before .before .before .before .before .before .before .before .before .before .before .before .before .if1 .taken) in
-    record { carried = n .ensures .0; steps = steps-on (l .inv .steps) (on .0) (on .1) (n .ensures .1) }
+loop-again c = goes-further (c .before .before .before .before .before .before .before .before .before .before .before .before .before .before .before .before .before .before .before .before .before .loop .inv) (c .before .before .before .before .before .before .before .before .before .before .before .before .before .before .before .before .before .before .before .before .reads-again .ensures) (c .before .before .before .before .before .before .before .before .before .before .before .before .before .before .before .before .before .before .before .if1 .taken) (c .before .before .before .before .before .before .before .before .before .before .before .before .before .next-turn .ensures .0) (c .before .before .before .before .before .before .before .before .before .before .before .before .before .next-turn .ensures .1)
 
 same-length-6 : tie.Need-same-length-6 Inv-loop μ-loop
 same-length-6 c = c .before .before .loop .inv .carried .banked .marked .counts-long ∙ sym (c .before .before .before .before .before .before .before .before .before .before .pre .0 .counts-long)
@@ -101,9 +92,7 @@ same-length-10 : tie.Need-same-length-10 Inv-loop μ-loop
 same-length-10 c = c .before .before .loop .inv .carried .out-long ∙ sym (c .before .before .before .before .before .before .before .before .before .before .pre .3)
 
 returns-2 : tie.Need-returns-2 Inv-loop μ-loop
-returns-2 c =
-    let l = c .before .before .loop in
-    ran-written more-in (l .inv .steps) (none-left (l .turn .more) (l .left) (c .before .reads-again .ensures) (c .if1 .left))
+returns-2 c = goes-no-further (c .before .before .loop .inv) (c .before .reads-again .ensures) (c .if1 .left)
 
 pub run-spec : {M : Type 1} → statement M
 run-spec =

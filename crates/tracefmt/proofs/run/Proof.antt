@@ -4,10 +4,9 @@ use mathlib.Core.List.{[]}
 use native.Mathlib.Omega.{arith}
 use borrow.Author.Needs.{needs}
 use lib.Seq.{length-take-le}
-use Rattle.input.proofs.Again.{more-left, none-left}
-use Rattle.input.proofs.Runs.{ran-unwritten, ran-written}
-use Rattle.tracefmt.specs.Turns.{first-turn, first-state, none-yet, more-in}
-use Rattle.tracefmt.proofs.Runs.{Going, steps-on}
+use Rattle.input.proofs.Runs.{ran-unwritten}
+use Rattle.tracefmt.specs.Turns.{first-state, none-yet, more-in}
+use Rattle.tracefmt.proofs.Runs.{Going, carried-first, some-left, goes-further, goes-no-further}
 use Rattle.tracefmt.proofs.run.Statement.{statement}
 use Rattle.tracefmt.proofs.run.Tie as tie
 
@@ -18,12 +17,12 @@ abbrev μ-loop : tie.MeasureT-loop
 μ-loop text₀ out₀ file turn₀ left₀ text out turn left = left
 
 loop-holds : tie.Need-loop-holds Inv-loop μ-loop
-unfolding first-state first-turn
+unfolding first-state
 loop-holds c =
     let a = c .before .before .before .before in
     rw (c .first-turn .ensures)
     (record {
-      carried = record { text-long = a .pre .0; out-long = a .pre .1; kept-few = omega arith; end-few = omega arith };
+      carried = carried-first (a .pre .0) (a .pre .1);
       steps = record { reads = 0; parts = []; out = []; chain = none-yet; few = omega arith };
     })
 
@@ -31,9 +30,7 @@ next-turn-requires : tie.Need-next-turn-requires Inv-loop μ-loop
 next-turn-requires c κs = c .before .before .before .before .loop .inv .carried
 
 sub-left : tie.Need-sub-left Inv-loop μ-loop
-sub-left c =
-    let l = c .before .before .before .before .before .before .before .before .before .loop in
-    omega (arith, more-left (l .turn .more) (l .left) (c .before .before .before .before .before .before .before .before .reads-again .ensures) (c .before .before .before .before .before .before .before .if1 .taken) .1)
+sub-left c = some-left (c .before .before .before .before .before .before .before .before .before .loop .inv) (c .before .before .before .before .before .before .before .before .reads-again .ensures) (c .before .before .before .before .before .before .before .if1 .taken)
 
 slice-reshare-prefix-write-all : tie.Need-slice-reshare-prefix-write-all Inv-loop μ-loop
 slice-reshare-prefix-write-all c = let n = c .before .before .before .before .next-turn .ensures .0 in omega (arith, n .end-few, n .out-long)
@@ -50,22 +47,13 @@ same-length-2 : tie.Need-same-length-2 Inv-loop μ-loop
 same-length-2 c = c .before .before .before .before .before .before .before .next-turn .ensures .0 .out-long ∙ sym (c .before .before .before .before .before .before .before .before .before .before .before .before .before .before .before .before .before .pre .1)
 
 returns : tie.Need-returns Inv-loop μ-loop
-returns c =
-    let l = c .before .before .before .before .before .before .before .before .before .before .before .before .loop in
-    let on = more-left (l .turn .more) (l .left) (c .before .before .before .before .before .before .before .before .before .before .before .reads-again .ensures) (c .before .before .before .before .before .before .before .before .before .before .if1 .taken) in
-    ran-unwritten more-in (steps-on (l .inv .steps) (on .0) (on .1) (c .before .before .before .before .before .before .before .next-turn .ensures .1))
+returns c = ran-unwritten more-in (goes-further (c .before .before .before .before .before .before .before .before .before .before .before .before .loop .inv) (c .before .before .before .before .before .before .before .before .before .before .before .reads-again .ensures) (c .before .before .before .before .before .before .before .before .before .before .if1 .taken) (c .before .before .before .before .before .before .before .next-turn .ensures .0) (c .before .before .before .before .before .before .before .next-turn .ensures .1) .steps)
 
 loop-less : tie.Need-loop-less Inv-loop μ-loop
-loop-less c =
-    let l = c .before .before .before .before .before .before .before .before .before .before .before .before .loop in
-    omega (arith, more-left (l .turn .more) (l .left) (c .before .before .before .before .before .before .before .before .before .before .before .reads-again .ensures) (c .before .before .before .before .before .before .before .before .before .before .if1 .taken) .1)
+loop-less c = omega (arith, some-left (c .before .before .before .before .before .before .before .before .before .before .before .before .loop .inv) (c .before .before .before .before .before .before .before .before .before .before .before .reads-again .ensures) (c .before .before .before .before .before .before .before .before .before .before .if1 .taken))
 
 loop-again : tie.Need-loop-again Inv-loop μ-loop
-loop-again c =
-    let l = c .before .before .before .before .before .before .before .before .before .before .before .before .loop in
-    let n = c .before .before .before .before .before .before .before .next-turn .ensures in
-    let on = more-left (l .turn .more) (l .left) (c .before .before .before .before .before .before .before .before .before .before .before .reads-again .ensures) (c .before .before .before .before .before .before .before .before .before .before .if1 .taken) in
-    record { carried = n .0; steps = steps-on (l .inv .steps) (on .0) (on .1) (n .1) }
+loop-again c = goes-further (c .before .before .before .before .before .before .before .before .before .before .before .before .loop .inv) (c .before .before .before .before .before .before .before .before .before .before .before .reads-again .ensures) (c .before .before .before .before .before .before .before .before .before .before .if1 .taken) (c .before .before .before .before .before .before .before .next-turn .ensures .0) (c .before .before .before .before .before .before .before .next-turn .ensures .1)
 
 same-length-3 : tie.Need-same-length-3 Inv-loop μ-loop
 same-length-3 c = c .before .before .loop .inv .carried .text-long ∙ sym (c .before .before .before .before .before .before .before .pre .0)
@@ -74,9 +62,7 @@ same-length-4 : tie.Need-same-length-4 Inv-loop μ-loop
 same-length-4 c = c .before .before .loop .inv .carried .out-long ∙ sym (c .before .before .before .before .before .before .before .pre .1)
 
 returns-2 : tie.Need-returns-2 Inv-loop μ-loop
-returns-2 c =
-    let l = c .before .before .loop in
-    ran-written more-in (l .inv .steps) (none-left (l .turn .more) (l .left) (c .before .reads-again .ensures) (c .if1 .left))
+returns-2 c = goes-no-further (c .before .before .loop .inv) (c .before .reads-again .ensures) (c .if1 .left)
 
 pub run-spec : {M : Type 1} → statement M
 run-spec =
