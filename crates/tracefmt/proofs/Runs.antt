@@ -1,15 +1,15 @@
 -- How far a run is between two steps, one step further, and what it comes to.
 use mathlib.Core.Path.{_≡_}
 use mathlib.Core.Bool.{Bool, true, false, _&&_}
-use mathlib.Core.List.{List, _++_}
-use Prim.Native.Nat.{ℕ, suc, _-_, _≤_}
+use mathlib.Core.List.{List}
+use Prim.Native.Nat.{ℕ, _-_, _≤_}
 use native.Mathlib.Omega.{arith}
 use lib.Dec.{ltb}
 use lib.ListN.{length, take}
 use Rattle.input.specs.AtHand.{brought}
 use Rattle.input.specs.Runs.{Ran}
 use Rattle.input.proofs.Again.{more-left, none-left}
-use Rattle.input.proofs.Runs.{Steps, ran-written}
+use Rattle.input.proofs.Runs.{Steps, steps-further, ran-written}
 use Rattle.tracefmt.specs.declared.Turn.{Turn}
 use Rattle.tracefmt.specs.Turns.{State, first-turn, Stepped, Chain, one-more, more-in}
 use Rattle.tracefmt.specs.Contracts.{Carried}
@@ -32,13 +32,8 @@ module _ {first : State} {text out : List ℕ} {turn : Turn} {left : ℕ} {again
   goes-further {out′ = out′} {turn′ = turn′} on carried step =
       record {
         carried = carried;
-        steps = record {
-          reads = suc (going .steps .reads);
-          parts = going .steps .parts ++ brought (step .input) (turn .kept) (step .text);
-          out = going .steps .out ++ take (turn′ .end) out′;
-          chain = one-more (going .steps .chain) (more-left (turn .more) left tested on .0) step;
-          few = omega (arith, going .steps .few, some-left on);
-        };
+        steps = steps-further (brought (step .input) (turn .kept) (step .text)) (take (turn′ .end) out′) (going .steps) (some-left on)
+            (λ n parts out chain. one-more chain (more-left (turn .more) left tested on .0) step);
       }
 
   -- and where it does not, the run is over

@@ -7,14 +7,19 @@ use native.Mathlib.Nat.{zero-add}
 use native.Mathlib.Omega.{arith}
 use lib.ListN.{length, take}
 use Rattle.trace.specs.Output.{Prints}
-use Rattle.listing.specs.Memory.{Memory, Ready}
+use Rattle.aids.specs.Marks.{Marked}
+use Rattle.aids.specs.Bounds.{all-bounds}
+use Rattle.listing.specs.Memory.{Memory, Ready, start-place}
 use Rattle.listing.specs.Chunks.{next-number, Chunked, chunk, last-line}
+use Rattle.listing.proofs.Memory.Progress.{represents-start}
+use Rattle.listing.proofs.Memory.Zeros.{banked-start}
 use Rattle.listing.proofs.Parts.Moves.{steady-chunk}
 use Rattle.listing.proofs.Chunks.LastLine.{length-last-line}
 use Rattle.input.specs.declared.Input.{Input}
 use Rattle.input.specs.declared.Input.the-variants.{Bytes, End, Failed}
 use Rattle.input.specs.AtHand.{Within}
 use Rattle.turns.specs.Turns.{Turned, turn-of}
+use Rattle.turns.specs.Contracts.{Carried}
 
 pub record Steady (most room : ℕ) (q : Turned) : Type 0 where
   pub ready : Ready (q .memory)
@@ -42,3 +47,15 @@ turn-chunk m text kept len buffer q e = rw e
 pub turn-end : (m : Memory) (text : List ℕ) (kept : ℕ) (buffer : List ℕ) {buffer′ : List ℕ} {end : ℕ} → Prints buffer 0 (last-line (next-number (m .lines)) (take kept text) (length buffer)) buffer′ end → record { memory = m; text = text; kept = kept; buffer = buffer′; end = end; more = false; failed = false } ≡ turn-of m text kept End buffer
 unfolding turn-of
 turn-end m text kept buffer p = rw (p .holds, p .behind, zero-add)
+
+-- before the first read the tables track nothing
+pub carried-first : {counts marks bounds text out : List ℕ} → Marked counts marks → length bounds ≡ all-bounds → length text ≡ 6144 → length out ≡ 339968 → Carried (record { place = start-place; kept = 0; end = 0; more = true; failed = false }) counts marks bounds text out
+carried-first {counts} marked bounds-long text-long out-long =
+    record {
+      ready = represents-start counts .ready;
+      banked = banked-start marked bounds-long;
+      text-long = text-long;
+      out-long = out-long;
+      kept-few = omega arith;
+      end-few = omega arith;
+    }

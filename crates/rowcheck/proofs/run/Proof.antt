@@ -4,9 +4,8 @@ use mathlib.Core.Path.{_≡_, refl, sym, _∙_}
 use mathlib.Core.List.{[]}
 use native.Mathlib.Omega.{arith}
 use borrow.Author.Needs.{needs}
-use Rattle.listing.proofs.Memory.Progress.{represents-start}
-use Rattle.listing.proofs.Memory.Zeros.{banked-start}
 use Rattle.input.proofs.Again.{more-left, none-left}
+use Rattle.turns.proofs.Turns.{carried-first}
 use Rattle.turns.specs.Turns.{first-turned}
 use Rattle.rowcheck.specs.Turns.{open-so-far, first-step, first-state, none-yet}
 use Rattle.rowcheck.proofs.Chains.{Going, steps-on, ran}
@@ -26,14 +25,7 @@ loop-holds c =
     let a = c .before .before .before .before .before .before .before in
     rw (c .first-step .ensures)
     (record {
-      carried = record {
-        ready = represents-start (a .args .counts .now) .ready;
-        banked = banked-start (a .pre .0) (a .pre .1);
-        text-long = a .pre .2;
-        out-long = a .pre .3;
-        kept-few = omega arith;
-        end-few = omega arith;
-      };
+      carried = carried-first (a .pre .0) (a .pre .1) (a .pre .2) (a .pre .3);
       given-long = a .pre .4;
       few-lines = omega arith;
       steps = record { reads = 0; parts = []; given = []; chain = none-yet; few = omega arith };

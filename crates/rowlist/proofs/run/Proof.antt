@@ -6,9 +6,8 @@ use native.Mathlib.Omega.{arith}
 use borrow.Author.Needs.{needs}
 use lib.ListN.{length}
 use lib.Seq.{length-take-le}
-use Rattle.listing.proofs.Memory.Progress.{represents-start}
-use Rattle.listing.proofs.Memory.Zeros.{banked-start}
 use Rattle.input.proofs.Runs.{ran-unwritten}
+use Rattle.turns.proofs.Turns.{carried-first}
 use Rattle.turns.specs.Turns.{first-turned, none-yet, more-in}
 use Rattle.rowlist.proofs.Runs.{Going, some-left, goes-further, goes-no-further}
 use Rattle.rowlist.proofs.run.Statement.{statement}
@@ -27,14 +26,7 @@ loop-holds c =
     let a = c .before .before .before .before .before .before .before in
     rw (c .first-turn .ensures)
     (record {
-      carried = record {
-        ready = represents-start (a .args .counts .now) .ready;
-        banked = banked-start (a .pre .0) (a .pre .1);
-        text-long = a .pre .2;
-        out-long = a .pre .3;
-        kept-few = omega arith;
-        end-few = omega arith;
-      };
+      carried = carried-first (a .pre .0) (a .pre .1) (a .pre .2) (a .pre .3);
       steps = record { reads = 0; parts = []; out = []; chain = none-yet; few = omega arith };
     })
 
