@@ -37,15 +37,15 @@ runs-checked counts text buffer parts given answer run = runs-answer (fine-first
 
 pub chain-runs : Chain-runs
 unfolding Chain-runs
-chain-runs counts text buffer reads last parts given chain = (
+chain-runs counts text buffer other reads last left parts given chain = (
   λ passed. chain-runs-to chain (passes passed),
   λ departed. chain-runs-to chain (departs [] [] departed),
 )
 
 pub run-answers : Run-answers
 unfolding Run-answers Chain-runs Runs-checked
-run-answers counts text buffer k ran =
-    let answers = chain-runs counts text buffer (ran .reads) (ran .last) (ran .parts) (ran .given) (ran .chain) in
+run-answers counts text buffer other k ran =
+    let answers = chain-runs counts text buffer other (ran .reads) (ran .last) (ran .left) (ran .parts) (ran .given) (ran .chain) in
     let came = ran .came in (
       λ passed. sym (runs-checked counts text buffer (ran .parts) (ran .given) none (answers .0 (ap (λ (c : Check). c .answer) came ∙ passed))),
       λ departed.
@@ -77,4 +77,4 @@ program-passes counts text parts out turns counts′ text′ buffer parts′ giv
 
 pub chains-exist : Chains-exist
 unfolding Chains-exist
-chains-exist counts text = both-answers counts text
+chains-exist counts text other = both-answers counts text other

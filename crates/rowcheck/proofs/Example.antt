@@ -24,7 +24,7 @@ use Rattle.rowcheck.specs.Turns.{behind-trace, given-beside, behind-list
 use Rattle.rowcheck.specs.Example.{example-trace, example-listing, other-listing}
 use Rattle.rowcheck.specs.Claims.{Answered}
 
-module _ (counts text : List ℕ) where
+module _ (counts text other : List ℕ) where
   abbrev first : State
   first = first-state counts text (replicate 310 0)
 
@@ -37,7 +37,7 @@ module _ (counts text : List ℕ) where
   abbrev trace-ended : State
   trace-ended = after-trace (listing-read example-listing) (listing-read example-listing .turn .text) End
 
-  pub both-answers : Answered first (example-trace ∷ []) (example-listing ∷ []) Passes × Answered first (example-trace ∷ []) (other-listing ∷ []) Departs
+  pub both-answers : Answered first other (example-trace ∷ []) (example-listing ∷ []) Passes × Answered first other (example-trace ∷ []) (other-listing ∷ []) Departs
   unfolding
       first-state first-turned after-trace turn-of behind-trace after-listing behind-listing given-beside beside wants-trace open-so-far compared counted
       example-trace example-listing other-listing own-remap brought trace-part listing-part Within
@@ -48,27 +48,29 @@ module _ (counts text : List ℕ) where
     record {
       reads = 4;
       last = after-listing trace-ended [] End;
-      chain = one-more
-          (one-more
-          (one-more
-          (one-more none-yet refl
-          (of-trace refl (record { input = Bytes 2; text = example-trace; came = record { front = refl; within = (omega arith, omega arith) }; room = omega arith; same = refl }) refl))
+      left = [];
+      chain = one-more {after = []}
+          (one-more {after = example-listing}
+          (one-more {after = example-listing}
+          (one-more {after = other} none-yet refl
+          (of-trace refl (record { input = Bytes 2; text = example-trace; came = record { front = refl; within = (omega arith, omega arith) }; room = omega arith; same = refl }) refl refl))
           refl
-          (of-listing refl (Bytes 18) [] example-listing (record { came = record { front = refl; within = (omega arith, omega arith) }; most = λ inside. (omega arith, omega arith) }) refl))
+          (of-listing refl (Bytes 18) (record { came = record { front = refl; within = (omega arith, omega arith) }; most = λ inside. (omega arith, omega arith) }) refl))
           refl
-          (of-trace refl (record { input = End; text = listing-read example-listing .turn .text; came = record { front = refl; within = tt }; room = omega arith; same = refl }) refl))
+          (of-trace refl (record { input = End; text = listing-read example-listing .turn .text; came = record { front = refl; within = tt }; room = omega arith; same = refl }) refl refl))
           refl
-          (of-listing refl End [] [] (record { came = record { front = refl; within = tt }; most = λ inside. tt }) refl);
+          (of-listing refl End (record { came = record { front = refl; within = tt }; most = λ inside. tt }) refl);
       came = refl;
     },
     record {
       reads = 2;
       last = listing-read other-listing;
-      chain = one-more
-          (one-more none-yet refl
-          (of-trace refl (record { input = Bytes 2; text = example-trace; came = record { front = refl; within = (omega arith, omega arith) }; room = omega arith; same = refl }) refl))
+      left = other-listing;
+      chain = one-more {after = other-listing}
+          (one-more {after = other} none-yet refl
+          (of-trace refl (record { input = Bytes 2; text = example-trace; came = record { front = refl; within = (omega arith, omega arith) }; room = omega arith; same = refl }) refl refl))
           refl
-          (of-listing refl (Bytes 18) [] other-listing (record { came = record { front = refl; within = (omega arith, omega arith) }; most = λ inside. (omega arith, omega arith) }) refl);
+          (of-listing refl (Bytes 18) (record { came = record { front = refl; within = (omega arith, omega arith) }; most = λ inside. (omega arith, omega arith) }) refl);
       came = refl;
     },
   )

@@ -80,34 +80,34 @@ module _ (from to : State) {parts given : List (List ℕ)} {answer : Option ℕ}
   listing-back Failed before after came same =
       clash (sym (ap (λ (q : State). failed-read (q .check .answer)) same) ∙ runs-read run)
 
-step-back : {from to : State} {parts given : List (List ℕ)} {answer : Option ℕ} → open-so-far (from .check .answer) ≡ true → (s : Stepped from to) → Ends to parts given → Runs to parts given answer → Runs from (trace-part s ++ parts) (listing-part s ++ given) answer
+step-back : {from to : State} {before after : List ℕ} {parts given : List (List ℕ)} {answer : Option ℕ} → open-so-far (from .check .answer) ≡ true → (s : Stepped from to before after) → Ends to parts given → Runs to parts given answer → Runs from (trace-part s ++ parts) (listing-part s ++ given) answer
 unfolding trace-part listing-part
-step-back {from} {to} on (of-trace wants s check) ends run =
+step-back {from} {to} on (of-trace wants s check untouched) ends run =
     trace-back from to (is-open (from .check .answer) on) wants ends run (s .input) (s .text) (s .came) (s .room) (s .same) check
-step-back {from} {to} on (of-listing wants input before after came same) ends run =
+step-back {from} {to} {before} {after} on (of-listing wants input came same) ends run =
     listing-back from to (is-open (from .check .answer) on) wants ends run input before after came same
 
-ends-back : {from to : State} {parts given : List (List ℕ)} → open-so-far (from .check .answer) ≡ true → (s : Stepped from to) → Ends to parts given → Ends from (trace-part s ++ parts) (listing-part s ++ given)
+ends-back : {from to : State} {before after : List ℕ} {parts given : List (List ℕ)} → open-so-far (from .check .answer) ≡ true → (s : Stepped from to before after) → Ends to parts given → Ends from (trace-part s ++ parts) (listing-part s ++ given)
 unfolding trace-part wants-trace after-listing
-ends-back {from} on (of-trace wants s check) ends =
+ends-back {from} on (of-trace wants s check untouched) ends =
     record {
       trace-ended = λ off. clash (sym (and-both (from .turn .more) (leb (from .turn .end) (from .check .at)) wants .0) ∙ off);
       answered = λ shut. clash (sym on ∙ shut);
     }
-ends-back on (of-listing wants input before after came same) ends =
+ends-back on (of-listing wants input came same) ends =
     record {
       trace-ended = λ off. ends .trace-ended (ap (λ (q : State). q .turn .more) same ∙ off);
       answered = λ shut. clash (sym on ∙ shut);
     }
 
 -- back over a whole chain
-chain-back : {first q : State} {n : ℕ} {parts given more more-given : List (List ℕ)} {answer : Option ℕ} → Chain first n q parts given → Ends q more more-given → Runs q more more-given answer → Runs first (parts ++ more) (given ++ more-given) answer
+chain-back : {first q : State} {buffer after : List ℕ} {n : ℕ} {parts given more more-given : List (List ℕ)} {answer : Option ℕ} → Chain first buffer n q after parts given → Ends q more more-given → Runs q more more-given answer → Runs first (parts ++ more) (given ++ more-given) answer
 chain-back none-yet ends run = run
 chain-back {more = more} {more-given = more-given} (one-more {parts = parts} {given = given} chain on s) ends run =
     rw (append-assoc parts (trace-part s) more, append-assoc given (listing-part s) more-given)
     (chain-back chain (ends-back on s ends) (step-back on s ends run))
 
 -- nothing is still to come behind its end
-pub chain-runs-to : {first last : State} {n : ℕ} {parts given : List (List ℕ)} {answer : Option ℕ} → Chain first n last parts given → Runs last [] [] answer → Runs first parts given answer
+pub chain-runs-to : {first last : State} {buffer after : List ℕ} {n : ℕ} {parts given : List (List ℕ)} {answer : Option ℕ} → Chain first buffer n last after parts given → Runs last [] [] answer → Runs first parts given answer
 chain-runs-to {parts = parts} {given = given} chain run =
     rw (append-nil parts, append-nil given) at (chain-back chain (record { trace-ended = λ off. refl; answered = λ shut. refl }) run)

@@ -92,10 +92,9 @@ trace-lines k true = refl
 trace-lines k false = refl
 
 -- a step of the listing leaves what the trace's did
-pub listing-stepped : {from to : State} {before after : List ℕ} → wants-trace from ≡ false → to .turn ≡ from .turn → Listing-checked (from .check) (to .check) (from .turn .buffer) (from .turn .end) before after → Stepped from to
+pub listing-stepped : {from to : State} {before after : List ℕ} → wants-trace from ≡ false → to .turn ≡ from .turn → Listing-checked (from .check) (to .check) (from .turn .buffer) (from .turn .end) before after → Stepped from to before after
 unfolding after-listing
-listing-stepped {before = before} {after = after} wants turn c =
-    of-listing wants (c .input) before after (c .came) (λ i. record { turn = turn i; check = c .same i })
+listing-stepped wants turn c = of-listing wants (c .input) (c .came) (λ i. record { turn = turn i; check = c .same i })
 
 -- the turn that the code holds is the state's
 pub turn-alike : {t t′ : Turn} (counts text out : List ℕ) → t′ ≡ t → turn-in t′ counts text out ≡ turn-in t counts text out

@@ -25,16 +25,16 @@ Runs-checked =
 -- a chain of steps that ends in an answer is what `Runs-checked` speaks of, with that answer
 unfoldable pub Chain-runs : Type 0
 Chain-runs =
-    (counts text buffer : List ℕ) (reads : ℕ) (last : State) (parts given : List (List ℕ)) →
+    (counts text buffer other : List ℕ) (reads : ℕ) (last : State) (left : List ℕ) (parts given : List (List ℕ)) →
     let first = first-state counts text buffer in
-    Chain first reads last parts given →
+    Chain first other reads last left parts given →
     (last .check .answer ≡ Passes → Runs first parts given none) ×
     (last .check .answer ≡ Departs → Runs first parts given (some (suc (last .check .lines))))
 
 -- of a run: where it says that the listing passes, nothing departs in what its reads brought; where it says that a line departs, that line is the first
 unfoldable pub Run-answers : Type 0
 Run-answers =
-    (counts text buffer : List ℕ) (k : Check) (ran : Ran (first-state counts text buffer) k) →
+    (counts text buffer other : List ℕ) (k : Check) (ran : Ran (first-state counts text buffer) other k) →
     (k .answer ≡ Passes → departure (joined (ran .parts)) (joined (ran .given)) ≡ none) ×
     (k .answer ≡ Departs → departure (joined (ran .parts)) (joined (ran .given)) ≡ some (suc (k .lines)))
 
@@ -51,15 +51,16 @@ Program-passes =
     joined parts′ ≡ joined parts → (joined given ≡ out → answer ≡ none) × (answer ≡ none → joined given ≡ out)
 
 -- a chain of steps that brought such parts came to an answer
-pub record Answered (first : State) (parts given : List (List ℕ)) (answer : Answer) : Type 0 where
+pub record Answered (first : State) (other : List ℕ) (parts given : List (List ℕ)) (answer : Answer) : Type 0 where
   pub reads : ℕ
   pub last : State
-  pub chain : Chain first reads last parts given
+  pub left : List ℕ
+  pub chain : Chain first other reads last left parts given
   pub came : last .check .answer ≡ answer
 
 -- there are such chains, with either answer
 unfoldable pub Chains-exist : Type 0
 Chains-exist =
-    (counts text : List ℕ) →
+    (counts text other : List ℕ) →
     let first = first-state counts text (replicate 310 0) in
-    Answered first (example-trace ∷ []) (example-listing ∷ []) Passes × Answered first (example-trace ∷ []) (other-listing ∷ []) Departs
+    Answered first other (example-trace ∷ []) (example-listing ∷ []) Passes × Answered first other (example-trace ∷ []) (other-listing ∷ []) Departs

@@ -34,13 +34,15 @@ abbrev pub state-of : Step → List ℕ → List ℕ → List ℕ → State
 state-of s counts text out = record { turn = turn-in (s .turn) counts text out; check = s .check }
 
 -- a step and a run, of the code's parameters
-abbrev pub Stepped-in : Step → Step → Lent → Lent → Lent → Type 0
-Stepped-in s r counts text out =
+abbrev pub Stepped-in : Step → Step → Lent → Lent → Lent → Lent → Type 0
+Stepped-in s r counts text out given =
     Stepped (state-of s (now (counts .entry)) (now (text .entry)) (now (out .entry))) (state-of r (now (counts .exit)) (now (text .exit)) (now (out .exit)))
+    (now (given .entry)) (now (given .exit))
 
-abbrev pub Ran-in : Check → Lent → Lent → Lent → Type 0
-Ran-in r counts text out = Ran (first-state (now (counts .entry)) (now (text .entry)) (now (out .entry))) r
+abbrev pub Ran-in : Check → Lent → Lent → Lent → Lent → Type 0
+Ran-in r counts text out given =
+    Ran (first-state (now (counts .entry)) (now (text .entry)) (now (out .entry))) (now (given .entry)) r
 
--- before the first read, in memory that is all 0
-abbrev pub fresh : State
-fresh = first-state (replicate 262144 0) (replicate 6144 0) (replicate 339968 0)
+-- a run in memory that is all 0 at first
+abbrev pub Ran-fresh : Check → Type 0
+Ran-fresh r = Ran (first-state (replicate 262144 0) (replicate 6144 0) (replicate 339968 0)) (replicate 339968 0) r

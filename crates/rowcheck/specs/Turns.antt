@@ -87,40 +87,43 @@ unfoldable pub after-listing : State → List ℕ → Input → State
 after-listing q given input =
     record { turn = q .turn; check = behind-listing (q .check) (q .turn .buffer) (q .turn .end) given input }
 
--- a read of the file that is wanted, whatever it brought, and what lies behind it
-pub data Stepped (from to : State) : Type 0 where
+-- a read of the file that is wanted, whatever it brought, and what lies behind it; with the buffer for the listing before and after, which a read of the
+-- trace leaves as it is
+pub data Stepped (from to : State) (before after : List ℕ) : Type 0 where
   of-trace : wants-trace from ≡ true → (s : Turn-stepped (from .turn) (to .turn)) → to .check ≡ behind-trace (from .check) (to .turn .failed)
-      → Stepped from to
-  of-listing : wants-trace from ≡ false → (input : Input) (before after : List ℕ) → Read-beside input (from .check .at) (from .turn .end) before after
-      → to ≡ after-listing from after input → Stepped from to
+      → after ≡ before → Stepped from to before after
+  of-listing : wants-trace from ≡ false → (input : Input) → Read-beside input (from .check .at) (from .turn .end) before after
+      → to ≡ after-listing from after input → Stepped from to before after
 
 -- the part of the trace that it brought, if any, and the part of the listing
-unfoldable pub trace-part : {from to : State} → Stepped from to → List (List ℕ)
-trace-part {from} (of-trace wants s same) = brought (s .input) (from .turn .kept) (s .text)
-trace-part (of-listing wants input before after came same) = []
+unfoldable pub trace-part : {from to : State} {before after : List ℕ} → Stepped from to before after → List (List ℕ)
+trace-part {from} (of-trace wants s same untouched) = brought (s .input) (from .turn .kept) (s .text)
+trace-part (of-listing wants input came same) = []
 
-unfoldable pub listing-part : {from to : State} → Stepped from to → List (List ℕ)
-listing-part (of-trace wants s same) = []
-listing-part {from} (of-listing wants input before after came same) = brought input (beside (from .check .at) (from .turn .end)) after
+unfoldable pub listing-part : {from to : State} {before after : List ℕ} → Stepped from to before after → List (List ℕ)
+listing-part (of-trace wants s same untouched) = []
+listing-part {from} {after = after} (of-listing wants input came same) = brought input (beside (from .check .at) (from .turn .end)) after
 
 -- so many such steps, each from where the one before left off, while nothing is answered: the parts of the trace and those of the listing that the reads brought
-pub data Chain (first : State) : ℕ → State → List (List ℕ) → List (List ℕ) → Type 0 where
-  none-yet : Chain first 0 first [] []
-  one-more : {n : ℕ} {from to : State} {parts given : List (List ℕ)}
-      → Chain first n from parts given → open-so-far (from .check .answer) ≡ true → (s : Stepped from to)
-      → Chain first (suc n) to (parts ++ trace-part s) (given ++ listing-part s)
+pub data Chain (first : State) (buffer : List ℕ) : ℕ → State → List ℕ → List (List ℕ) → List (List ℕ) → Type 0 where
+  none-yet : Chain first buffer 0 first buffer [] []
+  one-more : {n : ℕ} {from to : State} {before after : List ℕ} {parts given : List (List ℕ)}
+      → Chain first buffer n from before parts given → open-so-far (from .check .answer) ≡ true → (s : Stepped from to before after)
+      → Chain first buffer (suc n) to after (parts ++ trace-part s) (given ++ listing-part s)
 
 -- as many reads as a run makes at most
 abbrev pub most-reads : ℕ
 most-reads = 35184372088832
 
--- a run came to such a check: a chain of steps that went on until something was answered, or as many reads were made as a run makes at most
-pub record Ran (first : State) (k : Check) : Type 0 where
+-- a run came to such a check, the buffer for the listing holding this at first: a chain of steps that went on until something was answered, or as many reads
+-- were made as a run makes at most
+pub record Ran (first : State) (buffer : List ℕ) (k : Check) : Type 0 where
   pub reads : ℕ
   pub last : State
+  pub left : List ℕ
   pub parts : List (List ℕ)
   pub given : List (List ℕ)
-  pub chain : Chain first reads last parts given
+  pub chain : Chain first buffer reads last left parts given
   pub came : last .check ≡ k
   pub ends : open-so-far (k .answer) ≡ true → reads ≡ most-reads
 

@@ -19,9 +19,9 @@ ghost use Rattle.input.specs.declared.Input.the-variants.{End};
 ghost use Rattle.turns.specs.Turns.{turn-before, turn-left};
 ghost use Rattle.turns.specs.Turns.{Stepped as Turn-stepped};
 ghost use Rattle.turns.specs.Contracts.{Carried-in};
-ghost use Rattle.rowcheck.specs.Turns.{open-so-far, behind-trace, given-beside, behind-listing, Read-beside, first-step, Ran};
+ghost use Rattle.rowcheck.specs.Turns.{open-so-far, behind-trace, given-beside, behind-listing, Read-beside, first-step};
 ghost use Rattle.rowcheck.specs.Answers.{has-answer};
-ghost use Rattle.rowcheck.specs.Contracts.{Comparable, most-lines, Listing-checked, Stepped-in, Ran-in, fresh};
+ghost use Rattle.rowcheck.specs.Contracts.{Comparable, most-lines, Listing-checked, Stepped-in, Ran-in, Ran-fresh};
 
 // The tracker's tables: a count for every row of the largest bank, a word of marks for each 64 of them and one for each 64 of these, and as many bounds.
 const ROWS: usize = 262_144;
@@ -259,7 +259,7 @@ fn next_step(
 ) -> Step
     requires { ⌜ Carried-in (from .turn) counts marks bounds text out × (length (now given) ≡ 339968) × (from .check .lines + 339968 ≤ 18446744073709551615) ⌝ }
     ensures { λ r. ⌜ Carried-in (r .turn) (counts .exit) (marks .exit) (bounds .exit) (text .exit) (out .exit) × (r .check .lines ≤ from .check .lines + 339968) ⌝ }
-    ensures { λ r. ⌜ Stepped-in from r counts text out ⌝ }
+    ensures { λ r. ⌜ Stepped-in from r counts text out given ⌝ }
 {
     let so_far = from.check;
     let turn = from.turn;
@@ -281,7 +281,7 @@ fn run(
     given: &mut [u8],
 ) -> Check
     requires { ⌜ Marked (now counts) (now marks) × (length (now bounds) ≡ all-bounds) × (length (now text) ≡ 6144) × (length (now out) ≡ 339968) × (length (now given) ≡ 339968) ⌝ }
-    ensures { λ r. ⌜ Ran-in r counts text out ⌝ }
+    ensures { λ r. ⌜ Ran-in r counts text out given ⌝ }
     ensures { λ r. ⌜ r .lines ≤ most-lines ⌝ }
 {
     let mut step = first_step();
@@ -305,7 +305,7 @@ fn run(
 
 // Checks one open file against another, with memory of its own.
 fn check_files(trace: TraceFile, listing: ListingFile) -> Check
-    ensures { λ r. ⌜ Ran fresh r ⌝ }
+    ensures { λ r. ⌜ Ran-fresh r ⌝ }
     ensures { λ r. ⌜ r .lines ≤ most-lines ⌝ }
 {
     let mut counts = [0u32; ROWS];

@@ -1,5 +1,5 @@
 -- `rowcheck::next_step` meets its contract: by the file that it reads.
-use mathlib.Core.Path.{sym, _∙_}
+use mathlib.Core.Path.{refl, sym, _∙_}
 use native.Mathlib.Omega.{arith}
 use borrow.Author.Needs.{needs}
 use Rattle.rowcheck.specs.Turns.{wants-trace, of-trace}
@@ -11,7 +11,7 @@ returns : tie.Need-returns
 unfolding wants-trace
 returns c =
     let t = c .before .before .before .before .before .before .before .before .before .before .trace-step .ensures in
-    ((t .0 .0, omega (arith, t .0 .1)), of-trace (sym (c .before .before .before .before .before .before .before .before .before .before .before .before .before .before .before .before .before .wants-trace .ensures) ∙ c .before .before .before .before .before .before .before .before .before .before .before .before .before .before .before .before .if1 .taken) (t .1 .0) (t .1 .1))
+    ((t .0 .0, omega (arith, t .0 .1)), of-trace (sym (c .before .before .before .before .before .before .before .before .before .before .before .before .before .before .before .before .before .wants-trace .ensures) ∙ c .before .before .before .before .before .before .before .before .before .before .before .before .before .before .before .before .if1 .taken) (t .1 .0) (t .1 .1) refl)
 
 returns-2 : tie.Need-returns-2
 unfolding wants-trace

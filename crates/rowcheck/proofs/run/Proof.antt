@@ -14,7 +14,7 @@ use Rattle.rowcheck.proofs.run.Tie as tie
 
 abbrev Inv-loop : tie.InvT-loop
 Inv-loop trace listing counts₀ marks₀ bounds₀ text₀ out₀ given₀ step₀ left₀ counts marks bounds text out given step left =
-    Going (first-state counts₀ text₀ out₀) counts marks bounds text out given step left
+    Going (first-state counts₀ text₀ out₀) given₀ counts marks bounds text out given step left
 
 abbrev μ-loop : tie.MeasureT-loop
 μ-loop trace listing counts₀ marks₀ bounds₀ text₀ out₀ given₀ step₀ left₀ counts marks bounds text out given step left = left
