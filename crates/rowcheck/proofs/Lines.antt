@@ -71,10 +71,18 @@ digits-few (suc room) zero = omega arith
 digits-few (suc room) (suc m) =
     omega (arith, length-append (digits-before room (suc m / 10)) ((digit-0 + suc m % 10) ∷ []), digits-few room (suc m / 10))
 
-pub length-decimal : (n : ℕ) → length (decimal n) ≤ 20
+length-decimal : (n : ℕ) → length (decimal n) ≤ 20
 unfolding decimal
 length-decimal n =
     omega (arith, length-append (digits-before 19 (n / 10)) ((digit-0 + n % 10) ∷ []), digits-few 19 (n / 10))
+
+-- so a number that is printed ends within as many places
+pub decimal-within : (n : ℕ) {before after : List ℕ} {at place : ℕ} → Prints before at (decimal n) after place → place ≤ at + 20
+decimal-within n p = omega (arith, p .behind, length-decimal n)
+
+-- words, a number and a byte 10, one behind the other: the line of a departure, if the number is its line's
+pub departure-printed : (n lines : ℕ) {a b c d : List ℕ} {number end place : ℕ} → Prints a 0 departs-words b number → Prints b number (decimal n) c end → Prints c end (10 ∷ []) d place → n ≡ suc lines → Prints a 0 (departs-words ++ decimal (suc lines) ++ 10 ∷ []) d place
+departure-printed n lines words digits last same = rw (← same) (prints-then (prints-then words digits) last)
 
 pub fewest-twenty : (n k : ℕ) → n < 18446744073709551616 → Fewest 10 1 n k → k ≤ 20
 fewest-twenty n k small fewest =
