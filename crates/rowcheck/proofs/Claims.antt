@@ -1,6 +1,6 @@
 -- The claims of specs/Claims.antt, under their own names.
 use mathlib.Core.Path.{_≡_, refl, sym, _∙_, ap}
-use mathlib.Core.List.{List, [], _∷_, _++_}
+use mathlib.Core.List.{List, []}
 use mathlib.Core.Option.{none, some}
 use Prim.Native.Nat.{ℕ, suc}
 use native.Mathlib.Omega.{arith}
@@ -18,9 +18,9 @@ use Rattle.turns.proofs.Claims.{turns-listed}
 use Rattle.rowcheck.specs.declared.Answer.{Answer}
 use Rattle.rowcheck.specs.declared.Answer.the-variants.{Open, Passes, Departs, TraceFailed, ListingFailed}
 use Rattle.rowcheck.specs.declared.Check.{Check}
-use Rattle.rowcheck.specs.Answers.{passes-line, departs-words, line-of, answer-line}
+use Rattle.rowcheck.specs.Answers.{digits-before, decimal, passes-line, departs-words, line-of, answer-line}
 use Rattle.rowcheck.specs.Turns.{first-state, passes, departs}
-use Rattle.rowcheck.specs.Claims.{Runs-checked, Chain-runs, Run-answers, Says-passes, Program-passes, Chains-exist}
+use Rattle.rowcheck.specs.Claims.{Runs-checked, Chain-runs, Run-answers, Says-passes, Lines-shown, Program-passes, Chains-exist}
 use Rattle.rowcheck.proofs.Wanted.{behind, required, to-answer, wanted, Fine}
 use Rattle.rowcheck.proofs.Runs.{runs-answer}
 use Rattle.rowcheck.proofs.Linked.{chain-runs-to}
@@ -64,6 +64,10 @@ only-passes ListingFailed lines e = zero-one (cc)
 pub says-passes : Says-passes
 unfolding Says-passes answer-line line-of
 says-passes k = (λ passed. rw passed, λ said. only-passes (k .answer) (k .lines) said)
+
+pub lines-shown : Lines-shown
+unfolding Lines-shown line-of departs-words decimal digits-before
+lines-shown = (refl, refl, refl)
 
 pub program-passes : Program-passes
 unfolding Program-passes Runs-checked Turns-listed Passes-exactly

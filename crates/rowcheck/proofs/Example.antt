@@ -1,10 +1,9 @@
 -- Runs on a trace of one line, by computing: with what it requires the run passes, with another listing line 1 departs.
-use mathlib.Core.Path.{_≡_, refl}
-use mathlib.Core.Bool.{true, false}
+use mathlib.Core.Path.{refl}
 use mathlib.Core.List.{List, [], _∷_}
 use Prim.Native.Nat.{ℕ}
 use native.Mathlib.Omega.{arith}
-use lib.ListN.{length, replicate}
+use lib.ListN.{replicate}
 use Rattle.device.specs.Remap.{own-remap}
 use Rattle.trace.specs.Numbers.{is-digit, digits, number, field, fields, digit-or-blank, columns-before, printed, written}
 use Rattle.trace.specs.Lines.{line, ended, extent}
@@ -19,7 +18,7 @@ use Rattle.checker.specs.Comparison.{counted, compared}
 use Rattle.input.specs.declared.Input.the-variants.{Bytes, End}
 use Rattle.input.specs.AtHand.{Within, brought}
 use Rattle.turns.specs.Turns.{turn-of, first-turned}
-use Rattle.rowcheck.specs.declared.Answer.the-variants.{Open, Passes, Departs}
+use Rattle.rowcheck.specs.declared.Answer.the-variants.{Passes, Departs}
 use Rattle.rowcheck.specs.Turns.{behind-trace, given-beside, behind-listing, beside, State, first-state, wants-trace, after-trace, after-listing, open-so-far, of-trace, of-listing, trace-part, listing-part, none-yet, one-more}
 use Rattle.rowcheck.specs.Example.{example-trace, example-listing, other-listing}
 use Rattle.rowcheck.specs.Claims.{Answered}

@@ -8,7 +8,7 @@ use borrow.Author.Tests.{lt-ltb, le-ltb, ltb-true}
 use lib.Dec.{ltb}
 use lib.ListN.{length, take, drop, length-append}
 use lib.Seq.{take-append-le, take-take, length-slice}
-use Rattle.laws.proofs.Cases.{split, clash}
+use Rattle.laws.proofs.Cases.{split}
 use Rattle.trace.proofs.Numbers.Digits.{slice-take-drop}
 use Rattle.input.specs.declared.Input.{Input}
 use Rattle.input.specs.declared.Input.the-variants.{Bytes, End, Failed}

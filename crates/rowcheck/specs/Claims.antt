@@ -11,7 +11,7 @@ use Rattle.checker.specs.Departure.{departure}
 use Rattle.rowcheck.specs.declared.Answer.{Answer}
 use Rattle.rowcheck.specs.declared.Answer.the-variants.{Passes, Departs}
 use Rattle.rowcheck.specs.declared.Check.{Check}
-use Rattle.rowcheck.specs.Answers.{passes-line, answer-line}
+use Rattle.rowcheck.specs.Answers.{passes-line, line-of, answer-line}
 use Rattle.rowcheck.specs.Turns.{State, first-state, Chain, Ran, Runs}
 use Rattle.rowcheck.specs.Example.{example-trace, example-listing, other-listing}
 
@@ -41,6 +41,13 @@ Run-answers =
 -- the line that is written is `passes` exactly where that is the answer
 unfoldable pub Says-passes : Type 0
 Says-passes = (k : Check) → (k .answer ≡ Passes → answer-line k ≡ passes-line) × (answer-line k ≡ passes-line → k .answer ≡ Passes)
+
+-- lines as they are printed: `departs at line 2`, `departs at line 10`, and the highest number that a run can come to, which has 20 digits
+unfoldable pub Lines-shown : Type 0
+Lines-shown =
+    (line-of Departs 1 ≡ 100 ∷ 101 ∷ 112 ∷ 97 ∷ 114 ∷ 116 ∷ 115 ∷ 32 ∷ 97 ∷ 116 ∷ 32 ∷ 108 ∷ 105 ∷ 110 ∷ 101 ∷ 32 ∷ 50 ∷ 10 ∷ []) ×
+    (line-of Departs 9 ≡ 100 ∷ 101 ∷ 112 ∷ 97 ∷ 114 ∷ 116 ∷ 115 ∷ 32 ∷ 97 ∷ 116 ∷ 32 ∷ 108 ∷ 105 ∷ 110 ∷ 101 ∷ 32 ∷ 49 ∷ 48 ∷ 10 ∷ []) ×
+    (line-of Departs 11961560610296037376 ≡ 100 ∷ 101 ∷ 112 ∷ 97 ∷ 114 ∷ 116 ∷ 115 ∷ 32 ∷ 97 ∷ 116 ∷ 32 ∷ 108 ∷ 105 ∷ 110 ∷ 101 ∷ 32 ∷ 49 ∷ 49 ∷ 57 ∷ 54 ∷ 49 ∷ 53 ∷ 54 ∷ 48 ∷ 54 ∷ 49 ∷ 48 ∷ 50 ∷ 57 ∷ 54 ∷ 48 ∷ 51 ∷ 55 ∷ 51 ∷ 55 ∷ 55 ∷ 10 ∷ [])
 
 -- 'a listing that passes equals the program's output byte for byte, and what the program prints always passes': of what turns of `rowlist` print, and of a run
 -- of this program, however the same trace came in parts to each

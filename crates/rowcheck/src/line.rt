@@ -1,7 +1,6 @@
 // The answer on standard output, as bytes in a lent array.
 use crate::Answer;
 use crate::Check;
-ghost use mathlib.Core.Path.{_≡_};
 ghost use mathlib.Core.List.{[], _∷_, _++_};
 ghost use Prim.Native.Nat.{suc, _+_, _≤_};
 ghost use lib.ListN.{length};

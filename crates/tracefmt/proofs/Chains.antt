@@ -1,10 +1,9 @@
 -- Chains of steps are turns: those that came to a faulty line or to the input's end, and what lies before the end of any.
 use mathlib.Core.Path.{_≡_, refl, sym, _∙_}
 use mathlib.Core.Bool.{true, false}
-use mathlib.Core.List.{List, [], _∷_, _++_, append-assoc}
+use mathlib.Core.List.{List, [], _++_, append-assoc}
 use mathlib.Core.Option.{Option, none, some}
 use Prim.Native.Nat.{ℕ, _≤_}
-use native.Mathlib.Omega.{arith}
 use lib.ListN.{length, take}
 use Rattle.laws.proofs.Cases.{clash}
 use Rattle.spelling.specs.declared.Standing.{Standing}
@@ -14,7 +13,7 @@ use Rattle.input.specs.declared.Input.the-variants.{Bytes, End, Failed}
 use Rattle.input.specs.AtHand.{Came, brought}
 use Rattle.tracefmt.specs.declared.Place.{Place}
 use Rattle.tracefmt.specs.Rewriting.{Progress}
-use Rattle.tracefmt.specs.Turns.{progress-of, Turned, State, Stepped, Chain, none-yet, one-more, Turns, goes-on, stops, ends}
+use Rattle.tracefmt.specs.Turns.{progress-of, Turned, State, Chain, none-yet, one-more, Turns, goes-on, stops, ends}
 
 -- turns behind a state of a chain
 abbrev pub Turns-behind : State → List (List ℕ) → List ℕ → Progress → Type 0

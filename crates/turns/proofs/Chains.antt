@@ -1,17 +1,16 @@
 -- Chains of steps are turns: of those that came to the input's end, and of what lies before the end of any.
-use mathlib.Core.Path.{_≡_, refl, sym, _∙_, ap, subst}
+use mathlib.Core.Path.{_≡_, sym, _∙_, ap}
 use mathlib.Core.Bool.{true, false}
-use mathlib.Core.List.{List, [], _∷_, _++_, append-assoc, append-nil}
-use Prim.Native.Nat.{ℕ, suc, _+_, _*_, _≤_}
+use mathlib.Core.List.{List, _++_, append-assoc}
+use Prim.Native.Nat.{ℕ, _+_, _*_, _≤_}
 use native.Mathlib.Omega.{arith}
-use lib.ListN.{length, take, drop}
+use lib.ListN.{length, take}
 use Rattle.laws.proofs.Cases.{clash}
-use Rattle.listing.specs.Memory.{Memory}
 use Rattle.listing.specs.Chunks.{line-room}
 use Rattle.input.specs.declared.Input.{Input}
 use Rattle.input.specs.declared.Input.the-variants.{Bytes, End, Failed}
-use Rattle.input.specs.AtHand.{Within, Came, brought}
-use Rattle.turns.specs.Turns.{Turned, turn-of, Stepped, Chain, none-yet, one-more, Turns, goes-on, stops}
+use Rattle.input.specs.AtHand.{Came, brought}
+use Rattle.turns.specs.Turns.{Turned, turn-of, Chain, none-yet, one-more, Turns, goes-on, stops}
 
 -- turns behind a state of a chain
 abbrev pub Turns-behind : Turned → List (List ℕ) → List ℕ → Type 0

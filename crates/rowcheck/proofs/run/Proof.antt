@@ -1,6 +1,6 @@
 -- `rowcheck::run` meets its contract. The invariant: the memory is a listing's, the steps so far are a chain from the first on, and the reads that are left pass
 -- over no more lines than a number of 64 bits holds.
-use mathlib.Core.Path.{_≡_, refl, sym, _∙_}
+use mathlib.Core.Path.{refl, sym, _∙_}
 use mathlib.Core.List.{[]}
 use native.Mathlib.Omega.{arith}
 use borrow.Author.Needs.{needs}

@@ -1,10 +1,8 @@
 -- `rowlist::run` meets its contract. The invariant: memory and tables are a listing's, and the steps so far are a chain from the first on.
-use mathlib.Core.Path.{_≡_, refl, sym, _∙_}
-use mathlib.Core.List.{List, []}
-use Prim.Native.Nat.{ℕ, _≤_}
+use mathlib.Core.Path.{sym, _∙_}
+use mathlib.Core.List.{[]}
 use native.Mathlib.Omega.{arith}
 use borrow.Author.Needs.{needs}
-use lib.ListN.{length}
 use lib.Seq.{length-take-le}
 use Rattle.input.proofs.Runs.{ran-unwritten}
 use Rattle.turns.proofs.Turns.{carried-first}

@@ -1,5 +1,5 @@
 -- `tracefmt::run` meets its contract. The invariant: the steps so far are a chain from the first on.
-use mathlib.Core.Path.{_≡_, sym, _∙_}
+use mathlib.Core.Path.{sym, _∙_}
 use mathlib.Core.List.{[]}
 use native.Mathlib.Omega.{arith}
 use borrow.Author.Needs.{needs}
