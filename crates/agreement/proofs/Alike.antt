@@ -12,8 +12,8 @@ use Rattle.laws.proofs.Same.{same-alike, alike-same}
 use Rattle.device.specs.declared.Settings.{Settings}
 use Rattle.summary.specs.Entries.{Entry}
 use Rattle.summary.specs.Tables.{entries-of, read}
-use Rattle.tracker.specs.declared.Position.{Position}
-use Rattle.tracker.specs.State.{State, summary-of}
+use Rattle.state.specs.declared.Position.{Position}
+use Rattle.state.specs.State.{State, summary-of}
 use Rattle.agreement.specs.Calls.{same-settings, same-position, same-tracked}
 
 itself : (n : ℕ) → eqb n n ≡ true

@@ -6,7 +6,7 @@ use Rattle.device.specs.Refusal.{tested}
 use Rattle.device.specs.Acceptance.{settings-tests-to}
 use Rattle.device.proofs.Acceptance.{settings-alike, above-then}
 use Rattle.summary.specs.Steps.{estimate}
-use Rattle.tracker.specs.State.{summary-of}
+use Rattle.state.specs.State.{summary-of}
 use Rattle.agreement.specs.Calls.{agreement-tests-to, agreement-to, agreement-of, estimates-of, estimates-tests-to, same-estimates, estimates-to}
 use Rattle.agreement.specs.Later.{answers, memory-behind}
 use Rattle.agreement.specs.Claims.{Agree-exactly, Same-memory, For-ever-after, Looks-alike, Third-alike, For-ever-after-of-answers, Finer, Older-not-enough, Agreements-stay}

@@ -10,8 +10,8 @@ use Rattle.device.specs.declared.Settings.{Settings}
 use Rattle.device.specs.Refusal.{first-failed, accepted, tested}
 use Rattle.summary.specs.Entries.{rows-of, counts-of}
 use Rattle.summary.specs.Tables.{table}
-use Rattle.tracker.specs.State.{State, summary-of}
-use Rattle.tracker.proofs.States.Valid.{Facts}
+use Rattle.state.specs.State.{State, summary-of}
+use Rattle.state.proofs.Valid.{Facts}
 use Rattle.agreement.specs.Calls.{same-settings, same-position, same-tracked, agreement-tests, agreement-to, agreement-of}
 use Rattle.agreement.proofs.Calls.Tests.{compared, agreement-passed}
 use Rattle.agreement.proofs.Alike.{same-settings-alike, alike-same-settings, same-position-alike, alike-same-position, same-tracked-alike, alike-same-tracked}

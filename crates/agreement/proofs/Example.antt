@@ -9,9 +9,8 @@ use Rattle.device.specs.Victims.{rows-from, rows-between, within-reach, victims
 use Rattle.summary.specs.Entries.{rows-of, counts-of, has, count-or, without, without-all, entered, has-count, top, picks}
 use Rattle.summary.specs.Steps.{empty, estimate, disturb, disturb-each, drop-rows, activation, picked}
 use Rattle.summary.specs.Tables.{table, entries-of, read}
-use Rattle.tracker.specs.State.{summary-of, state-of, zeros, ascending, counts-allowed, valid}
-use Rattle.tracker.specs.Calls.{victims-in, tables-long, set-up-tests-to, activation-tests-to, refresh-tests-to, kept-unless, set-up-to, activation-to, refresh-to}
-use Rattle.tracker.specs.Answers.{given}
+use Rattle.state.specs.State.{summary-of, state-of, zeros, ascending, counts-allowed, valid, tables-long, given}
+use Rattle.tracker.specs.Calls.{victims-in, set-up-tests-to, activation-tests-to, refresh-tests-to, kept-unless, set-up-to, activation-to, refresh-to}
 use Rattle.agreement.specs.Calls.{same-settings, same-position, same-tracked, agreement-tests-to, agreement-to, estimates-tests-to, same-estimates, estimates-to}
 use Rattle.agreement.specs.Example.{one-counter, one-place, once-activated, event-after}
 use Rattle.agreement.specs.Later.{settings-by, remap-by, answer-to, position-after, memory-after, memory-behind}

@@ -3,7 +3,7 @@ use mathlib.Core.Path.{_≡_, refl, sym, _∙_, ap}
 use mathlib.Core.List.{List, _∷_}
 use Prim.Native.Nat.{ℕ}
 use Rattle.device.specs.declared.Settings.{Settings}
-use Rattle.tracker.specs.State.{State}
+use Rattle.state.specs.State.{State}
 use Rattle.tracker.specs.Answers.{set-up-call, activation-call, refresh-call}
 use Rattle.agreement.specs.Later.{Call, Answer, set-up-answer, activation-answer, refresh-answer, answer-to, memory-after, answers}
 use Rattle.agreement.specs.Answered.{Came, Answered, no-call, set-up-answered, activation-answered, refresh-answered}

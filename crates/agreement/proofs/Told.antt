@@ -2,13 +2,14 @@
 use mathlib.Core.Path.{_≡_, refl}
 use mathlib.Core.List.{List, [], _∷_}
 use Rattle.laws.proofs.Cases.{zero-one}
+use Rattle.state.specs.State.{given}
 use Rattle.tracker.specs.declared.SetUp.{SetUp}
 use Rattle.tracker.specs.declared.SetUp.the-variants.{Ready, Refused as SetUp-refused}
 use Rattle.tracker.specs.declared.Activation.{Activation}
 use Rattle.tracker.specs.declared.Activation.the-variants.{Accepted as Activation-accepted, Refused as Activation-refused}
 use Rattle.tracker.specs.declared.Refreshed.{Refreshed}
 use Rattle.tracker.specs.declared.Refreshed.the-variants.{Accepted as Refresh-accepted, Refused as Refresh-refused}
-use Rattle.tracker.specs.Answers.{given, set-up-call, set-up-outcome, activation-call, activation-accepts, activation-refusal, activation-position, refresh-call, refresh-accepts, refresh-refusal, refresh-count, refresh-position}
+use Rattle.tracker.specs.Answers.{set-up-call, set-up-outcome, activation-call, activation-accepts, activation-refusal, activation-position, refresh-call, refresh-accepts, refresh-refusal, refresh-count, refresh-position}
 use Rattle.agreement.specs.Later.{Answer, set-up-answer, activation-answer, refresh-answer}
 use Rattle.agreement.specs.Answered.{Came, set-up-came, activation-came, refresh-came}
 

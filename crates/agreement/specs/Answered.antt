@@ -4,12 +4,12 @@ use Prim.Native.Nat.{ℕ}
 use mathlib.Core.Path.{_≡_}
 use mathlib.Core.List.{List, [], _∷_}
 use Rattle.device.specs.declared.Settings.{Settings}
+use Rattle.state.specs.State.{State, given}
 use Rattle.tracker.specs.declared.SetUp.{SetUp}
 use Rattle.tracker.specs.declared.Activation.{Activation}
 use Rattle.tracker.specs.declared.Refreshed.{Refreshed}
-use Rattle.tracker.specs.State.{State}
 use Rattle.tracker.specs.Calls.{set-up, activation-on, refresh-on}
-use Rattle.tracker.specs.Answers.{given, set-up-call, set-up-outcome, activation-call, activation-position, refresh-call, refresh-position}
+use Rattle.tracker.specs.Answers.{set-up-call, set-up-outcome, activation-call, activation-position, refresh-call, refresh-position}
 use Rattle.agreement.specs.Later.{Brought, settings-by, remap-by, Call, set-up-by, activation-by, refresh-by, position-after}
 
 -- what came of a call: the answer itself, and what both tables and, of an event, the lent list hold

@@ -10,9 +10,8 @@ use Rattle.device.specs.Refusal.{Test, unless, first-failed, Outcome, accepted,
 use Rattle.device.specs.Acceptance.{most-rows, settings-tests-to}
 use Rattle.device.specs.Remap.{remap-allowed}
 use Rattle.summary.specs.Steps.{Summary, estimate}
-use Rattle.tracker.specs.declared.Position.{Position}
-use Rattle.tracker.specs.State.{State, summary-of, valid}
-use Rattle.tracker.specs.Calls.{tables-long}
+use Rattle.state.specs.declared.Position.{Position}
+use Rattle.state.specs.State.{State, summary-of, valid, tables-long}
 
 -- 'equal settings': all seven
 unfoldable pub same-settings : Settings → Settings → Bool

@@ -7,7 +7,7 @@ use Rattle.device.specs.declared.Settings.{Settings}
 use Rattle.device.specs.Refusal.{first-failed, accepted, refused}
 use Rattle.device.specs.Remap.{own-remap}
 use Rattle.device.specs.Claims.{Alike}
-use Rattle.tracker.specs.State.{State, summary-of}
+use Rattle.state.specs.State.{State, summary-of}
 use Rattle.agreement.specs.declared.Agreement.{Agreement}
 use Rattle.agreement.specs.Calls.{agreement-tests, agreement-to, estimates-to, agreement-of, estimates-of}
 use Rattle.agreement.specs.Answers.{agreement-outcome}

@@ -12,7 +12,7 @@ use Rattle.device.specs.Refusal.{Test, unless}
 use Rattle.device.specs.declared.Settings.{Settings}
 use Rattle.summary.specs.Contracts.{Holds, summary}
 use Rattle.summary.specs.declared.Tally.{Tally}
-use Rattle.tracker.specs.Calls.{tables-long}
+use Rattle.state.specs.State.{tables-long}
 
 -- both settings' tests, then 8
 unfoldable pub both-tables-tests : Settings → List ℕ → List ℕ → Settings → List ℕ → List ℕ → List Test

@@ -4,9 +4,8 @@ use Prim.Native.Nat.{ℕ}
 use mathlib.Core.List.{[], _∷_}
 use Rattle.device.specs.declared.Settings.{Settings}
 use Rattle.device.specs.Remap.{own-remap}
-use Rattle.tracker.specs.State.{State}
+use Rattle.state.specs.State.{State, given}
 use Rattle.tracker.specs.Calls.{refresh-on, Refresh-call}
-use Rattle.tracker.specs.Answers.{given}
 use Rattle.agreement.specs.Later.{own, set-up-by, activation-by, memory-behind}
 
 -- a bank of 16 rows with one counter

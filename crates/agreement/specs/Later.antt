@@ -3,10 +3,9 @@ use Prim.Native.Nat.{ℕ}
 use mathlib.Core.List.{List, [], _∷_}
 use Rattle.device.specs.declared.Settings.{Settings}
 use Rattle.device.specs.Refusal.{Outcome, accepted, refused}
-use Rattle.tracker.specs.declared.Position.{Position}
-use Rattle.tracker.specs.State.{State}
+use Rattle.state.specs.declared.Position.{Position}
+use Rattle.state.specs.State.{State, given}
 use Rattle.tracker.specs.Calls.{SetUp-call, Activation-call, Refresh-call, set-up, activation-on, refresh-on}
-use Rattle.tracker.specs.Answers.{given}
 
 -- the settings and remap ('fold') that a call brings: those of the tracker that was compared, whatever was brought since, or any others
 pub data Brought : Type 0 where

@@ -4,14 +4,12 @@ mod estimates;
 mod same;
 
 use device::Settings;
+use state::Position;
 use summary::Tally;
-use tracker::Position;
 ghost use mathlib.Core.Path.{_≡_};
 ghost use mathlib.Core.Bool.{_&&_, true};
 ghost use Rattle.device.specs.Refusal.{first-failed};
-ghost use Rattle.tracker.specs.State.{valid};
-ghost use Rattle.tracker.specs.Calls.{tables-long};
-ghost use Rattle.tracker.specs.Answers.{lent};
+ghost use Rattle.state.specs.State.{valid, tables-long, lent};
 ghost use Rattle.agreement.specs.Calls.{agreement-tests, estimates-tests, agreement-of, estimates-of};
 ghost use Rattle.agreement.specs.Answers.{agreement-outcome};
 ghost use Rattle.agreement.specs.Contracts.{both-tables-tests};
@@ -41,10 +39,10 @@ fn tables_refusal(
     if k2 != 0 {
         return k2;
     }
-    if !tracker::tables_long(s, rows, counts) {
+    if !state::tables_long(s, rows, counts) {
         return 8;
     }
-    device::refuse_unless(tracker::tables_long(s2, rows2, counts2), 8, 0)
+    device::refuse_unless(state::tables_long(s2, rows2, counts2), 8, 0)
 }
 
 // Whether both states, of tables of the right length, break no rule.
@@ -61,7 +59,7 @@ fn both_valid(
     requires { ⌜ (tables-long s (now rows) (now counts) && tables-long s2 (now rows2) (now counts2)) ≡ true ⌝ }
     ensures { λ r. ⌜ r ≡ (valid s (lent (rows .entry) (counts .entry) p) && valid s2 (lent (rows2 .entry) (counts2 .entry) p2)) ⌝ }
 {
-    tracker::valid_memory(s, rows, counts, p) && tracker::valid_memory(s2, rows2, counts2, p2)
+    state::valid_memory(s, rows, counts, p) && state::valid_memory(s2, rows2, counts2, p2)
 }
 
 // The refusal of `agree`, or 0.

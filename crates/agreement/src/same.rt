@@ -1,6 +1,6 @@
 // What two trackers have to have the same: settings, remap, position, and the tracked rows with their counts.
 use device::Settings;
-use tracker::Position;
+use state::Position;
 ghost use mathlib.Core.Path.{_≡_};
 ghost use mathlib.Core.Bool.{_&&_};
 ghost use Prim.Native.Nat.{_≤_};

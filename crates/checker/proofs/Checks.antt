@@ -12,14 +12,14 @@ use lib.ListN.{length, getD, take, drop, length-drop, drop-of-length-le}
 use lib.Seq.{drop-drop, drop-cons, length-take-le, take-all}
 use Rattle.laws.proofs.Cases.{clash}
 use Rattle.trace.specs.Lines.{ended}
-use Rattle.trace.specs.Output.{Prints}
-use Rattle.trace.proofs.Output.{take-printed}
-use Rattle.listing.specs.declared.Place.{Place}
-use Rattle.listing.specs.Steps.{start}
+use Rattle.columns.specs.Output.{Prints}
+use Rattle.columns.proofs.Output.{take-printed}
+use Rattle.steps.specs.declared.Place.{Place}
+use Rattle.steps.specs.Steps.{start}
 use Rattle.listing.specs.Texts.{listing}
-use Rattle.listing.specs.Memory.{Memory, memory, start-place}
-use Rattle.listing.specs.Chunks.{next-number, Going, last-line}
-use Rattle.listing.proofs.Memory.Progress.{represents-start}
+use Rattle.steps.specs.Memory.{Memory, memory, start-place, next-number}
+use Rattle.listing.specs.Chunks.{Going, last-line}
+use Rattle.steps.proofs.Memory.Progress.{represents-start}
 use Rattle.listing.proofs.Chunks.LastLine.{last-line-listing}
 use Rattle.checker.specs.declared.Checking.{Checking}
 use Rattle.checker.specs.declared.Compared.{Compared}
@@ -112,14 +112,14 @@ module _ {trace given : List ℕ} {m : Memory} {k : Checking} (r : Reaches trace
     departs-onward = record { more = λ on. clash (sym on); goes = λ on. clash (sym on); last = λ off on. clash (sym on) }
 
     -- where the piece has no room for a line more, lines may be left
-    pub passes-onward : length buffer ≡ 4096 → Onward trace k (record { place = place; taken = k .taken + q .taken; passed = k .passed + q .end; lines = f .lines; same = true; more = ltb (4096 - q .end) 200 })
-    passes-onward long =
+    pub passes-onward : (room : ℕ) → length buffer ≡ 4096 → 200 ≤ room → room ≤ 4096 → Onward trace k (record { place = place; taken = k .taken + q .taken; passed = k .passed + q .end; lines = f .lines; same = true; more = ltb (4096 - q .end) room })
+    passes-onward room long least most =
         record {
-          more = λ on. let full = ltb-true (4096 - q .end) 200 on in omega (arith, full, c .spent);
+          more = λ on. let full = ltb-true (4096 - q .end) room on in omega (arith, full, c .spent);
           goes = λ on. refl;
           last = λ off on.
-              let room = ltb-false (4096 - q .end) 200 off in
-              ap ended (sym (drop-drop (q .taken) (k .taken) trace)) ∙ c .roomy (omega (arith, room, long));
+              let left = ltb-false (4096 - q .end) room off in
+              ap ended (sym (drop-drop (q .taken) (k .taken) trace)) ∙ c .roomy (omega (arith, left, long));
         }
 
 -- the rest of a text, as a part of it is read
@@ -134,14 +134,17 @@ module _ (n : ℕ) {before required piece : List ℕ} {end : ℕ} (p : Prints be
   pub last-most : n ≤ passed → passed ≤ length given → f .lines ≤ length given
   last-most fewer within = rw last-compared (omega (arith, few n required (drop passed given) .given-few, length-drop passed given))
 
-  pub last-off : f .all ≡ false → some (f .lines + 1) ≡ departing n required (drop passed given)
-  last-off all = sym (rw (add-one (f .lines), last-compared) (whole-off n required (drop passed given) (rw last-compared at all)))
+  pub last-off : (line : ℕ) → f .all ≡ false → line ≡ f .lines + 1 → some line ≡ departing n required (drop passed given)
+  last-off line all is = sym (rw (is, add-one (f .lines), last-compared) (whole-off n required (drop passed given) (rw last-compared at all)))
 
-  pub last-surplus : f .all ≡ true → (end ≡ length given - passed → ⊥) → some (f .lines + 1) ≡ departing n required (drop passed given)
-  last-surplus all long =
+  pub last-surplus : (line : ℕ) → f .all ≡ true → (end ≡ length given - passed → ⊥) → line ≡ f .lines + 1 → some line ≡ departing n required (drop passed given)
+  last-surplus line all long is =
       sym
-      (rw (add-one (f .lines), last-compared)
+      (rw (is, add-one (f .lines), last-compared)
       (whole-surplus n required (drop passed given) (rw last-compared at all) (λ same. long (omega (arith, same, p .behind, length-drop passed given)))))
+
+  pub last-fits : f .all ≡ true → end ≤ length given - passed
+  last-fits all = omega (arith, few n required (drop passed given) .all-given (rw last-compared at all), p .behind, length-drop passed given)
 
   pub last-passes : f .all ≡ true → end ≡ length given - passed → none ≡ departing n required (drop passed given)
   last-passes all long =
@@ -162,8 +165,8 @@ reaches-start trace given counts =
     }
 
 module _ {trace given : List ℕ} {m : Memory} {k : Checking} (r : Reaches trace given m k) where
-  pub reached-departs : k .same ≡ false → some (k .lines + 1) ≡ departure trace given
-  reached-departs off = sym (r .answer ∙ rw (off, add-one (k .lines)))
+  pub reached-departs : (line : ℕ) → k .same ≡ false → line ≡ k .lines + 1 → some line ≡ departure trace given
+  reached-departs line off is = sym (r .answer ∙ rw (off, is, add-one (k .lines)))
 
   pub reached-last : k .same ≡ true → ended (drop (k .taken) trace) ≡ false → departing (k .lines) (last-line (next-number (m .lines)) (drop (k .taken) trace) 18) (drop (k .passed) given) ≡ departure trace given
   reached-last on unended =

@@ -12,9 +12,9 @@ use Rattle.laws.specs.Same.{same}
 use Rattle.laws.proofs.Cases.{split, clash, zero-one, missing}
 use Rattle.laws.proofs.Same.{same-alike, alike-same}
 use Rattle.trace.specs.Texts.{lines, whole}
-use Rattle.listing.specs.Steps.{start}
+use Rattle.steps.specs.Steps.{start}
 use Rattle.listing.specs.Texts.{listing}
-use Rattle.listing.proofs.Steps.LineEnds.{listing-whole}
+use Rattle.listing.proofs.Texts.{listing-whole}
 use Rattle.checker.specs.Departure.{departure-from, departing, departure}
 use Rattle.checker.specs.Claims.{Passes-exactly, First-departing, Unended-departs}
 use Rattle.checker.proofs.Comparison.{cons-alike, departing-alike, departing-other, departing-missing, departing-surplus, departing-none}

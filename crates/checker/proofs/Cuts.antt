@@ -8,10 +8,10 @@ use lib.ListN.{length, take, drop, take-append-drop}
 use lib.Seq.{take-at, length-take-le}
 use Rattle.trace.specs.Lines.{ended}
 use Rattle.trace.specs.Texts.{most-kept, kept-bytes}
-use Rattle.trace.proofs.Output.{take-printed, prints-long}
-use Rattle.listing.specs.Steps.{Progress}
+use Rattle.columns.proofs.Output.{take-printed, prints-long}
+use Rattle.steps.specs.Steps.{Progress}
 use Rattle.listing.specs.Texts.{listing, after}
-use Rattle.listing.specs.Memory.{Memory, Represents}
+use Rattle.steps.specs.Memory.{Memory, Represents}
 use Rattle.listing.specs.Chunks.{Going, part, Chunked, chunk}
 use Rattle.listing.proofs.Texts.{listing-cut, listing-kept}
 use Rattle.listing.proofs.Chunks.Lines.{done-part, all-taken}

@@ -6,7 +6,7 @@ use mathlib.Core.List.{List}
 use mathlib.Core.Option.{none, some}
 use lib.ListN.{take}
 use Rattle.trace.specs.Texts.{lines, whole}
-use Rattle.listing.specs.Steps.{start}
+use Rattle.steps.specs.Steps.{start}
 use Rattle.listing.specs.Texts.{listing}
 use Rattle.checker.specs.Departure.{departure}
 

@@ -6,9 +6,9 @@ use mathlib.Core.List.{List}
 use mathlib.Core.Option.{some}
 use lib.ListN.{length, take, drop}
 use Rattle.trace.specs.Lines.{ended}
-use Rattle.listing.specs.Steps.{Progress}
+use Rattle.steps.specs.Steps.{Progress}
 use Rattle.listing.specs.Texts.{listing}
-use Rattle.listing.specs.Memory.{Memory, Represents}
+use Rattle.steps.specs.Memory.{Memory, Represents}
 use Rattle.checker.specs.declared.Checking.{Checking}
 use Rattle.checker.specs.Departure.{departing, departure}
 

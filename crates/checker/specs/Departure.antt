@@ -5,7 +5,7 @@ use mathlib.Core.List.{List, [], _∷_}
 use mathlib.Core.Option.{Option, none, some}
 use Rattle.laws.specs.Same.{same}
 use Rattle.trace.specs.Texts.{lines}
-use Rattle.listing.specs.Steps.{start}
+use Rattle.steps.specs.Steps.{start}
 use Rattle.listing.specs.Texts.{listing}
 
 -- required lines and given ones, from a number on: none where they are the same, else the number of the first given line that departs; 'a missing line

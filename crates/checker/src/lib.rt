@@ -1,13 +1,13 @@
 // Checking a listing: it is what a trace requires, or the number of its first line that departs.
-use listing::Place;
+use steps::Place;
 ghost use mathlib.Core.Path.{_≡_};
 ghost use mathlib.Core.Bool.{true, false};
 ghost use Prim.Native.Nat.{_+_, _-_, _≤_};
 ghost use lib.ListN.{length, drop, replicate};
 ghost use Rattle.aids.specs.Marks.{Marked};
 ghost use Rattle.aids.specs.Bounds.{all-bounds};
-ghost use Rattle.listing.specs.Memory.{memory-of, start-place, Banked-in};
-ghost use Rattle.listing.specs.Chunks.{next-number, last-line};
+ghost use Rattle.steps.specs.Memory.{memory-of, start-place, Banked-in, next-number};
+ghost use Rattle.listing.specs.Chunks.{last-line};
 ghost use Rattle.checker.specs.Departure.{departing, departure};
 ghost use Rattle.checker.specs.Comparison.{compared, verdict-of};
 ghost use Rattle.checker.specs.Contracts.{Stands-at, Reaches, Onward};

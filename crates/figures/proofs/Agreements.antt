@@ -8,8 +8,8 @@ use Rattle.device.specs.Victims.{rows-from, rows-between, within-reach, victims
 use Rattle.summary.specs.Entries.{rows-of, counts-of, has, count-or, without, without-all, raised, entered, has-count, without-count, top, picks}
 use Rattle.summary.specs.Steps.{empty, estimate, in-rows, disturb, disturb-each, drop-rows, spread, besides, picked, taken-out, cleared-if, sources, event}
 use Rattle.summary.specs.Tables.{table, entries-of, read}
-use Rattle.tracker.specs.State.{summary-of, state-of, zeros, ascending, counts-allowed, valid}
-use Rattle.tracker.specs.Calls.{victims-in, block-rows, ends-window, next-event, tables-long, refresh-tests-to, kept-unless, refresh-to}
+use Rattle.state.specs.State.{summary-of, state-of, zeros, ascending, counts-allowed, valid, tables-long}
+use Rattle.tracker.specs.Calls.{victims-in, block-rows, ends-window, next-event, refresh-tests-to, kept-unless, refresh-to}
 use Rattle.agreement.specs.Calls.{same-settings, same-position, same-tracked, agreement-tests-to, agreement-to, estimates-tests-to, same-estimates, estimates-to}
 use Rattle.bound.specs.Answers.{settings-of}
 use Rattle.figures.specs.Table.{state-numbers, shown}

@@ -9,8 +9,8 @@ use Rattle.device.specs.Victims.{rows-from, rows-between, within-reach, victims
 use Rattle.summary.specs.Entries.{rows-of, counts-of, has, count-or, without, without-all, raised, entered, has-count, without-count, top, picks}
 use Rattle.summary.specs.Steps.{empty, in-rows, disturb, disturb-each, drop-rows, spread, activation, besides, picked, taken-out, cleared-if, sources, event}
 use Rattle.summary.specs.Tables.{table, entries-of, read}
-use Rattle.tracker.specs.State.{summary-of, state-of, zeros, ascending, counts-allowed, valid}
-use Rattle.tracker.specs.Calls.{victims-in, block-rows, ends-window, next-event, tables-long, set-up-tests-to, activation-tests-to, refresh-tests-to, kept-unless, set-up-to, activation-to, refresh-to}
+use Rattle.state.specs.State.{summary-of, state-of, zeros, ascending, counts-allowed, valid, tables-long}
+use Rattle.tracker.specs.Calls.{victims-in, block-rows, ends-window, next-event, set-up-tests-to, activation-tests-to, refresh-tests-to, kept-unless, set-up-to, activation-to, refresh-to}
 use Rattle.bound.specs.Answers.{settings-of}
 use Rattle.figures.specs.Table.{state-numbers, shown}
 use Rattle.figures.specs.Edges.{small, whole, two-places, untracked, refusal-of, set-up-numbers, activation-numbers, event-numbers, set-up-under, set-up-figure, held-under, activation-under, activation-figure, event-figure, set-up-edges, activation-edges, event-edges, wide, fresh, wide-figure, across, behind-all, tracks-one, subarray-edges, large, large-figure, large-edges, edges}

@@ -5,14 +5,14 @@ use Rattle.laws.specs.Same.{same}
 use Rattle.device.specs.Refusal.{first-failed, unless, refuse}
 use Rattle.device.specs.Acceptance.{within, rows-allowed-to, diameter-allowed, block-allowed, settings-tests-with, settings-tests-to}
 use Rattle.device.specs.Hold.{hold-allowed}
-use Rattle.trace.specs.Numbers.{is-digit, digits, number, field, fields, digit-or-blank, columns-before, printed, written}
+use Rattle.columns.specs.Numbers.{is-digit, digits, number, field, fields, digit-or-blank, columns-before, printed, written}
 use Rattle.trace.specs.Lines.{line, ended, extent}
 use Rattle.trace.specs.Records.{as-settings, numbered, settings, activation, refresh, record-of}
 use Rattle.trace.specs.Reading.{or-refused, reading-by, reading}
 use Rattle.trace.specs.Texts.{in-front, lines, read, outcomes}
-use Rattle.trace.specs.Output.{number-columns}
-use Rattle.trace.specs.Spelling.{settings-numbers, spelled-line, activation-spelling, record-spelling, answer-spelling, spelling}
-use Rattle.trace.specs.Writing.{standing-behind, activation-fault, event-fault, fault-to, first-fault-to, before-fault-to, room-fault, writing-fault-to, writing-by, writing-to}
+use Rattle.columns.specs.Output.{number-columns}
+use Rattle.canonical.specs.Spelling.{settings-numbers, spelled-line, activation-spelling, record-spelling, answer-spelling, spelling}
+use Rattle.canonical.specs.Writing.{standing-behind, activation-fault, event-fault, fault-to, first-fault-to, before-fault-to, room-fault, writing-fault-to, writing-by, writing-to}
 use Rattle.bound.specs.Answers.{settings-of}
 use Rattle.figures.specs.Table.{numbers, shown}
 use Rattle.figures.specs.Spellings.{respelled-input, respelled-output, set, held, row, event, blank, set-16, writing-figure, refused-figure, spellings}

@@ -10,15 +10,15 @@ use Rattle.device.specs.Victims.{rows-from, rows-between, within-reach, victims
 use Rattle.summary.specs.Entries.{rows-of, counts-of, has, count-or, without, without-all, raised, entered, has-count, without-count, top, picks}
 use Rattle.summary.specs.Steps.{empty, in-rows, disturb, disturb-each, drop-rows, spread, activation, besides, picked, taken-out, cleared-if, sources, event}
 use Rattle.summary.specs.Tables.{table, entries-of, read}
-use Rattle.tracker.specs.State.{summary-of, state-of, zeros, ascending, counts-allowed, valid}
-use Rattle.tracker.specs.Calls.{victims-in, block-rows, ends-window, next-event, tables-long, set-up-tests-to, activation-tests-to, refresh-tests-to, kept-unless, set-up-to, activation-to, refresh-to}
-use Rattle.trace.specs.Numbers.{is-digit, digits, number, field, fields, digit-or-blank, columns-before, printed}
+use Rattle.state.specs.State.{summary-of, state-of, zeros, ascending, counts-allowed, valid, tables-long}
+use Rattle.tracker.specs.Calls.{victims-in, block-rows, ends-window, next-event, set-up-tests-to, activation-tests-to, refresh-tests-to, kept-unless, set-up-to, activation-to, refresh-to}
+use Rattle.columns.specs.Numbers.{is-digit, digits, number, field, fields, digit-or-blank, columns-before, printed}
 use Rattle.trace.specs.Lines.{line, ended, extent}
 use Rattle.trace.specs.Records.{as-settings, numbered, settings, activation as activation-record, refresh as refresh-record, record-of}
 use Rattle.trace.specs.Reading.{or-refused, reading-by, reading}
-use Rattle.trace.specs.Output.{number-columns, refusal-line}
-use Rattle.listing.specs.Output.{bound-line, refresh-line}
-use Rattle.listing.specs.Steps.{start, refused-step, set-up-step, answered, activation-step, refresh-step, record-step-to, line-step-to, loaded-behind, step-to, next-to}
+use Rattle.columns.specs.Output.{number-columns, refusal-line}
+use Rattle.steps.specs.Output.{bound-line, refresh-line}
+use Rattle.steps.specs.Steps.{start, refused-step, set-up-step, answered, activation-step, refresh-step, record-step-to, line-step-to, loaded-behind, step-to, next-to}
 use Rattle.trace.specs.Texts.{in-front, lines, read as read-line, outcomes}
 use Rattle.listing.specs.Texts.{listed-to, listing-to}
 use Rattle.limit.specs.Run.{left-by, state-after}

@@ -5,7 +5,7 @@ use mathlib.Core.List.{List, [], _∷_, _++_}
 use Rattle.device.specs.declared.Settings.{Settings}
 use Rattle.device.specs.Refusal.{Outcome, accepted, refused}
 use Rattle.device.specs.Remap.{own-remap}
-use Rattle.tracker.specs.State.{State}
+use Rattle.state.specs.State.{State}
 use Rattle.agreement.specs.Calls.{agreement-of, estimates-of}
 use Rattle.bound.specs.Answers.{settings-of}
 use Rattle.figures.specs.Table.{Figure, shown}
@@ -88,6 +88,8 @@ refused-figures =
     agreement-between (small 2 0) own-remap (untracked 0 0) (small 3 1) own-remap (untracked 0 0) (3 ∷ []) (3 ∷ []) ∷
     agreement-between (small 2 1) doubled (one-place 0 0) (small 3 1) own-remap (untracked 0 0) (2 ∷ []) (2 ∷ []) ∷
     agreement-between (small 2 1) doubled (untracked 4 0) (small 2 1) own-remap (one-place 0 0) (8 ∷ []) (8 ∷ []) ∷
+    agreement-between (small 2 1) doubled (untracked 4 0) (small 2 1) own-remap (untracked 0 0) (14 ∷ []) (21 ∷ []) ∷
+    agreement-between (small 2 1) doubled (untracked 0 0) (small 2 1) own-remap (untracked 4 0) (14 ∷ []) (21 ∷ []) ∷
     agreement-between (small 2 1) own-remap (untracked 4 0) (small 2 1) doubled (untracked 0 0) (14 ∷ []) (21 ∷ []) ∷
     agreement-between (small 2 1) own-remap (untracked 4 0) (small 2 1) own-remap (untracked 0 0) (21 ∷ []) (21 ∷ []) ∷ []
 

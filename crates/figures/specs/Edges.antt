@@ -6,7 +6,7 @@ use Rattle.device.specs.declared.Settings.{Settings}
 use Rattle.device.specs.Refusal.{Outcome, accepted, refused}
 use Rattle.device.specs.Remap.{own-remap}
 use Rattle.summary.specs.Steps.{empty}
-use Rattle.tracker.specs.State.{State, state-of}
+use Rattle.state.specs.State.{State, state-of}
 use Rattle.tracker.specs.Calls.{SetUp-call, Activation-call, Refresh-call, set-up, activation-on, refresh-on}
 use Rattle.bound.specs.Answers.{settings-of}
 use Rattle.figures.specs.Table.{Figure, shown, state-numbers}

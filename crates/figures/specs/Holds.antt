@@ -4,11 +4,11 @@ use Prim.Native.Nat.{ℕ}
 use mathlib.Core.List.{List, [], _∷_, _++_}
 use Rattle.device.specs.declared.Settings.{Settings}
 use Rattle.device.specs.Remap.{own-remap}
-use Rattle.tracker.specs.State.{State}
+use Rattle.state.specs.State.{State}
 use Rattle.bound.specs.Answers.{settings-of}
 use Rattle.trace.specs.Texts.{outcomes}
-use Rattle.trace.specs.Spelling.{spelling}
-use Rattle.listing.specs.Steps.{start}
+use Rattle.canonical.specs.Spelling.{spelling}
+use Rattle.steps.specs.Steps.{start}
 use Rattle.listing.specs.Texts.{listing}
 use Rattle.figures.specs.Table.{Figure, shown}
 use Rattle.figures.specs.Edges.{small, two-places, untracked, held-under}

@@ -6,9 +6,9 @@ use Rattle.device.specs.Refusal.{Outcome, accepted}
 use Rattle.trace.specs.declared.Record.{Record}
 use Rattle.trace.specs.declared.Record.the-variants.{Remap}
 use Rattle.trace.specs.Records.{as-sixteen}
-use Rattle.tracker.specs.State.{State}
+use Rattle.state.specs.State.{State}
 use Rattle.tracker.specs.Calls.{set-up}
-use Rattle.listing.specs.Steps.{start}
+use Rattle.steps.specs.Steps.{start}
 use Rattle.listing.specs.Texts.{listing}
 use Rattle.figures.specs.Table.{Figure, shown}
 use Rattle.figures.specs.Edges.{small, two-places, untracked, set-up-numbers, set-up-under, activation-under, wide, fresh}

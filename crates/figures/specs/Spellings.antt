@@ -7,8 +7,8 @@ use Rattle.device.specs.Refusal.{Outcome, accepted, refused}
 use Rattle.trace.specs.declared.Record.{Record}
 use Rattle.trace.specs.declared.Record.the-variants.{Set, Activate, Refresh, Blank}
 use Rattle.trace.specs.Texts.{outcomes}
-use Rattle.trace.specs.Spelling.{spelling}
-use Rattle.trace.specs.Writing.{first-fault, before-fault, writing}
+use Rattle.canonical.specs.Spelling.{spelling}
+use Rattle.canonical.specs.Writing.{first-fault, before-fault, writing}
 use Rattle.bound.specs.Answers.{settings-of}
 use Rattle.figures.specs.Table.{Figure, numbers, shown}
 

@@ -5,11 +5,11 @@ use lib.ListN.{replicate}
 use Rattle.device.specs.declared.Settings.{Settings}
 use Rattle.device.specs.Refusal.{Outcome, accepted, refused}
 use Rattle.device.specs.Remap.{own-remap, physical}
-use Rattle.tracker.specs.declared.Position.{Position}
-use Rattle.tracker.specs.State.{State}
+use Rattle.state.specs.declared.Position.{Position}
+use Rattle.state.specs.State.{State}
 use Rattle.tracker.specs.Calls.{Refresh-call, Activation-call, set-up, activation-on, refresh-on}
 use Rattle.limit.specs.Run.{Command, activation-of, state-after}
-use Rattle.listing.specs.Steps.{start}
+use Rattle.steps.specs.Steps.{start}
 use Rattle.listing.specs.Texts.{listing}
 use Rattle.bound.specs.Answers.{bound-answer, least-answer, settings-of}
 

@@ -30,10 +30,10 @@ unfolding bytes-at-hand
 bytes-some kept zero some = absurd (some refl)
 bytes-some kept (suc more) some = refl
 
-pub input-bytes : (got : ℤ) (kept room more : ℕ) → ltZ got (pos 0) ≡ false → more ≡ clamped got room → (more ≡ 0 → ⊥) → Bytes (kept + more) ≡ input-of got kept room
+pub input-bytes : (got : ℤ) (kept room more : ℕ) → ltZ got (pos 0) ≡ false → more ≡ clamped got room → (more ≡ 0 → ⊥) → (len : ℕ) → len ≡ kept + more → Bytes len ≡ input-of got kept room
 unfolding input-of
-input-bytes (pos n) kept room more up came some = rw (← came) (bytes-some kept more some)
-input-bytes (negsuc k) kept room more up came some = clash up
+input-bytes (pos n) kept room more up came some len sum = rw (sum, ← came) (bytes-some kept more some)
+input-bytes (negsuc k) kept room more up came some len sum = clash up
 
 within-bytes : (kept more most : ℕ) → kept + more ≤ most → Within (bytes-at-hand kept more) kept most
 unfolding bytes-at-hand Within

@@ -3,9 +3,9 @@ use mathlib.Core.Path.{_≡_, refl, sym, _∙_, ap}
 use mathlib.Core.List.{List, [], _∷_, _++_}
 use lib.ListN.{take}
 use Rattle.device.specs.declared.Settings.{Settings}
-use Rattle.tracker.specs.State.{State}
+use Rattle.state.specs.State.{State, given}
 use Rattle.tracker.specs.Calls.{SetUp-call, Activation-call, Refresh-call}
-use Rattle.tracker.specs.Answers.{given, set-up-call, activation-call, refresh-call}
+use Rattle.tracker.specs.Answers.{set-up-call, activation-call, refresh-call}
 use Rattle.limit.specs.Exact.{Happened, activated, refreshed}
 use Rattle.limit.specs.Run.{Command, activation-of, refresh-into, left-by, told-by, state-after, happened, Begun}
 use Rattle.limit.specs.Answered.{Answered, set-up-answered, activation-answered, refresh-answered}

@@ -3,7 +3,7 @@ use mathlib.Core.Path.{_≡_, refl, sym}
 use mathlib.Core.Bool.{cond}
 use mathlib.Core.List.{List, List·Memᴰ}
 use Prim.Native.Nat.{ℕ, suc, _+_, _-_, _*_, _%_, _≤_, _<_, min}
-use native.Mathlib.Nat.{div-mul-le-self, div-lt-iff-lt-mul, lt-div-mul-add, div-eq-of-lt-le}
+use native.Mathlib.Nat.{le-trans, mul-le-mul-left, div-mul-le-self, div-lt-iff-lt-mul, lt-div-mul-add, div-eq-of-lt-le}
 use native.Mathlib.Omega.{arith}
 use borrow.Author.Tests.{ltb-true}
 use lib.Dec.{ltb}
@@ -19,6 +19,10 @@ use Rattle.limit.specs.Exact.{Exact}
 use Rattle.limit.specs.ByRow.{own-event, first-figure, carried-most, second-figure, row-figure, Row-limited}
 use Rattle.limit.proofs.Recent.{Recent}
 use Rattle.limit.proofs.Invariant.{Inv, inv-present}
+
+-- what a window brings, and what is carried into it
+within-both : {d cur old first most later : ℕ} → d ≤ cur + old → cur ≤ first → old ≤ most → old ≤ later → d ≤ first + min most later
+within-both parts window small carried = omega arith
 
 -- a row of block b, with k events behind it in a window
 within-events : (n block b k row : ℕ) → n ≡ b + suc k → b * block ≤ row → n * block ≤ row + suc k * block
@@ -66,12 +70,15 @@ module _ (s : Settings) (ok : Accepted s) (row : ℕ) (inside : row < s .rows) w
   inv-row-limited {e} {a} {sum} {x} {y} i =
       let carry = i .carry in
       let parts = carry .split row inside in
-      let window = inv-present s ok i row in
+      let window : y .disturbance row ≤ first-figure s e = le-trans (inv-present s ok i row) (bound-grows s (omega arith)) in
       let at : x .refreshes % s .window ≡ e = i .counted in
       record {
         in-first = λ first. rw at (omega (arith, carry .first first row inside));
         passed = λ gone. let behind : own-event s row < e = omega (arith, gone) in rw at (omega (arith, carry .passed row inside (own-passed e behind)));
-        otherwise = rw at (omega (arith, carry .small row inside, carried-own (i .recent refl)));
+        otherwise =
+            rw at
+            (within-both parts window (carry .small row inside)
+            (le-trans (carried-own (i .recent refl)) (mul-le-mul-left (disturbers s) (omega arith))));
       }
 
 -- the first of two figures where b is below e, else the second

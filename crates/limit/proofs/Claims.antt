@@ -12,9 +12,9 @@ use Rattle.device.specs.Hold.{hold-allowed, repeated}
 use Rattle.device.proofs.Acceptance.{accepted-settings}
 use Rattle.device.proofs.Hold.{repeated-sum}
 use Rattle.bound.specs.Totals.{bound-of}
-use Rattle.tracker.specs.State.{state-of}
+use Rattle.state.specs.State.{state-of}
+use Rattle.state.proofs.StateOf.{read-back}
 use Rattle.tracker.specs.Calls.{activation-to, refresh-to}
-use Rattle.tracker.proofs.States.StateOf.{read-back}
 use Rattle.tracker.proofs.Calls.SoundTests.{activation-refusals, refresh-refusals}
 use Rattle.summary.specs.Steps.{besides}
 use Rattle.limit.specs.Exact.{zeroed, disturbed-by, once, restored, renewed, after}
@@ -36,7 +36,8 @@ pub demand-3-of-answers : Demand-3-of-answers
 unfolding Demand-3-of-answers Demand-3
 demand-3-of-answers s st told a row inside =
     let k = answered-run a in
-    rw (k .tells) (demand-3 s (k .begun) (k .starts) (k .calls) row inside)
+    let limited = demand-3 s (k .begun) (k .starts) (k .calls) row inside in
+    rw (k .tells) (omega (arith, limited .0), limited .1)
 
 pub units-counted : Units-counted
 unfolding Units-counted after repeated renewed restored zeroed disturbed-by once besides

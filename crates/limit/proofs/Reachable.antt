@@ -11,7 +11,7 @@ use Rattle.device.specs.Acceptance.{settings-tests}
 use Rattle.device.specs.Remap.{remap-allowed}
 use Rattle.device.specs.Hold.{hold-allowed}
 use Rattle.summary.specs.Steps.{Summary}
-use Rattle.tracker.specs.State.{State, state-of}
+use Rattle.state.specs.State.{State, state-of}
 use Rattle.tracker.specs.Calls.{activation-on, refresh-on, activation-tests, refresh-tests}
 use Rattle.tracker.proofs.Calls.SoundTests.{Held, activation-refusals, refresh-refusals}
 use Rattle.limit.specs.Run.{Command, activation-of, refresh-into, left-by, state-after, Begun}

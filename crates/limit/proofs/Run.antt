@@ -18,10 +18,10 @@ use Rattle.laws.proofs.Cases.{split, zero-one}
 use Rattle.device.proofs.Remap.{physical-below}
 use Rattle.device.proofs.Acceptance.{Accepted, accepted-settings as accepted-facts}
 use Rattle.summary.specs.Steps.{Summary, empty, activation, picked, event}
-use Rattle.tracker.specs.declared.Position.{Position}
-use Rattle.tracker.specs.State.{State, state-of}
+use Rattle.state.specs.declared.Position.{Position}
+use Rattle.state.specs.State.{State, state-of}
+use Rattle.state.proofs.StateOf.{read-back}
 use Rattle.tracker.specs.Calls.{kept-unless, set-up-tests, set-up-to, activation-to, refresh-to, block-rows, ends-window, next-event, victims-in}
-use Rattle.tracker.proofs.States.StateOf.{read-back}
 use Rattle.tracker.proofs.Calls.Ready.{set-up-ready}
 use Rattle.tracker.proofs.Calls.SoundTests.{Held, activation-refusals, refresh-refusals}
 use Rattle.limit.specs.Exact.{Happened, Exact, at-rest, after, after-all, exact}

@@ -6,13 +6,13 @@ use mathlib.Core.List.{List, [], _∷_, _++_}
 use lib.ListN.{take}
 use Rattle.device.specs.declared.Settings.{Settings}
 use Rattle.device.specs.Refusal.{accepted}
-use Rattle.tracker.specs.declared.Position.{Position}
+use Rattle.state.specs.declared.Position.{Position}
+use Rattle.state.specs.State.{State, given}
 use Rattle.tracker.specs.declared.SetUp.{SetUp}
 use Rattle.tracker.specs.declared.Activation.{Activation}
 use Rattle.tracker.specs.declared.Refreshed.{Refreshed}
-use Rattle.tracker.specs.State.{State}
 use Rattle.tracker.specs.Calls.{set-up, activation-on, refresh-on}
-use Rattle.tracker.specs.Answers.{given, set-up-call, set-up-outcome, activation-call, activation-accepts, activation-position, refresh-call, refresh-accepts, refresh-count, refresh-position}
+use Rattle.tracker.specs.Answers.{set-up-call, set-up-outcome, activation-call, activation-accepts, activation-position, refresh-call, refresh-accepts, refresh-count, refresh-position}
 use Rattle.limit.specs.Exact.{Happened, activated, refreshed}
 
 -- a sequence of answers: the tables and position that the last one left, and what the counter was told

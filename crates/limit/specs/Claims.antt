@@ -11,7 +11,7 @@ use Rattle.device.specs.Acceptance.{settings-tests}
 use Rattle.device.specs.Remap.{physical}
 use Rattle.bound.specs.Totals.{bound-at, bound-of}
 use Rattle.summary.specs.Steps.{estimate}
-use Rattle.tracker.specs.State.{State, summary-of}
+use Rattle.state.specs.State.{State, summary-of}
 use Rattle.tracker.specs.Calls.{victims-in, block-rows, activation-on, refresh-on}
 use Rattle.limit.specs.Exact.{Happened, activated, Exact, one-more, after, exact}
 use Rattle.limit.specs.Example.{held-by, sixteen-rows, up-to-line-4, up-to-line-5}

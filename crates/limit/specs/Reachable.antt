@@ -2,7 +2,7 @@
 use mathlib.Core.Path.{_≡_}
 use mathlib.Core.List.{List}
 use Rattle.device.specs.declared.Settings.{Settings}
-use Rattle.tracker.specs.State.{State}
+use Rattle.state.specs.State.{State}
 use Rattle.limit.specs.Run.{Command, Begun, state-after}
 
 -- a state that some list of calls reaches after an accepted setting up

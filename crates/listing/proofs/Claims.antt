@@ -13,11 +13,11 @@ use Rattle.listing.specs.Texts.{passed, listing-to, listing, after}
 use Rattle.trace.specs.Texts.{outcomes, most-kept, kept-bytes, joined}
 use Rattle.listing.specs.Chunks.{part, chunk}
 use Rattle.listing.specs.Parts.{comes, lists, keeps, ends}
-use Rattle.listing.specs.Steps.{Progress, start, next-to, next}
+use Rattle.steps.specs.Steps.{Progress, start, next-to, next}
 use Rattle.listing.specs.Claims.{Parts-joined, Part-moves, Chunk-moves, End-moves, Loaded-allowed, Listings-stay}
-use Rattle.listing.proofs.Steps.Alike.{Standing-alike, listed-alike, step-above}
-use Rattle.listing.proofs.Memory.Progress.{loadable-behind}
-use Rattle.listing.proofs.Texts.{listing-cut, listing-kept}
+use Rattle.steps.proofs.Steps.Alike.{Standing-alike, step-above}
+use Rattle.steps.proofs.Memory.Progress.{loadable-behind}
+use Rattle.listing.proofs.Texts.{listing-cut, listing-kept, listed-alike}
 use Rattle.listing.proofs.Chunks.Lines.{done-part, all-taken}
 use Rattle.listing.proofs.Chunks.LastLine.{last-line-listing}
 use Rattle.listing.proofs.Parts.Moves.{printed-taken}

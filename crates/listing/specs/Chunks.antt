@@ -1,37 +1,18 @@
 -- Lines taken from the front of the bytes at hand: while there is room to print in, and all that have ended between two reads.
-use Prim.Native.Nat.{ℕ, _+_, _%_}
+use Prim.Native.Nat.{ℕ, _+_}
 use mathlib.Core.Bool.{Bool, _&&_, cond}
 use mathlib.Core.List.{List, [], _∷_, _++_}
 use lib.Dec.{leb, ltb}
 use lib.ListN.{length, take, drop}
 use denote.Ref.{now}
 use Rattle.laws.specs.Lent.{Lent}
-use Rattle.device.specs.Refusal.{Outcome}
-use Rattle.trace.specs.declared.Record.{Record}
-use Rattle.trace.specs.Numbers.{written}
+use Rattle.columns.specs.Numbers.{written}
 use Rattle.trace.specs.Lines.{ended}
 use Rattle.listing.specs.declared.Part.{Part}
 use Rattle.listing.specs.declared.Chunk.{Chunk}
-use Rattle.trace.specs.Output.{line-modulus, refusal-line}
-use Rattle.listing.specs.Steps.{Step, line-step, loaded-behind}
+use Rattle.columns.specs.Output.{refusal-line}
 use Rattle.trace.specs.Texts.{lines, read, kept-bytes}
-use Rattle.listing.specs.Memory.{Memory, memory-of}
-
--- the number of the line behind so many
-unfoldable pub next-number : ℕ → ℕ
-next-number lines = lines % line-modulus + 1
-
--- what the next line does, as it was read, and what it leaves
-unfoldable pub step-in : Memory → Outcome Record → Step
-step-in m o = line-step (next-number (m .lines)) (m .loaded) (m .tracker) o
-
-unfoldable pub next-in : Memory → Outcome Record → Memory
-next-in m o =
-    record {
-      tracker = step-in m o .tracker;
-      loaded = loaded-behind (m .loaded) o;
-      lines = next-number (m .lines);
-    }
+use Rattle.steps.specs.Memory.{Memory, memory-of, step-in, next-in}
 
 -- the room before a line: the longest that is printed has 110 bytes
 abbrev pub line-room : ℕ

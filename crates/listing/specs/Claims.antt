@@ -11,10 +11,10 @@ use Rattle.device.specs.Refusal.{accepted}
 use Rattle.device.specs.Remap.{remap-allowed}
 use Rattle.trace.specs.declared.Record.the-variants.{Set}
 use Rattle.trace.specs.Claims.{All-alike}
-use Rattle.listing.specs.Steps.{Progress, start, refused-step, step-to}
+use Rattle.steps.specs.Steps.{Progress, start, refused-step, step-to}
 use Rattle.listing.specs.Texts.{listing-to, listing, after}
-use Rattle.listing.specs.Memory.{Memory, Represents}
-use Rattle.listing.specs.Chunks.{next-number, line-room, part, chunk, last-line}
+use Rattle.steps.specs.Memory.{Memory, Represents, next-number}
+use Rattle.listing.specs.Chunks.{line-room, part, chunk, last-line}
 use Rattle.trace.specs.Texts.{outcomes, joined}
 use Rattle.listing.specs.Parts.{Printed, Moves}
 

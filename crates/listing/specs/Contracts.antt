@@ -1,76 +1,17 @@
--- Inner relations, in which the functions of this crate promise each other what a line did. The public calls' contracts do not name them: those are
--- equations with Chunks.antt.
+-- Inner relations, in which the functions of this crate promise each other what a run of activations did. The public calls' contracts do not name them:
+-- those are equations with Chunks.antt.
 use Prim.Native.Nat.{ℕ, zero, suc, _+_, _≤_}
 use mathlib.Core.Path.{_≡_}
-use mathlib.Core.Bool.{not}
 use mathlib.Core.List.{List}
-use mathlib.Core.Option.{Option}
-use lib.Dec.{leb, ltb}
 use lib.ListN.{length, drop}
-use denote.Ref.{now}
-use Rattle.laws.specs.Lent.{Lent}
-use Rattle.device.specs.Refusal.{Outcome, accepted, refused, refuse}
-use Rattle.device.specs.Hold.{hold-allowed}
-use Rattle.dense.specs.declared.Tally.{Tally}
 use Rattle.trace.specs.Texts.{lines}
-use Rattle.trace.specs.Output.{refusal-line, Prints}
-use Rattle.listing.specs.declared.Place.{Place}
-use Rattle.listing.specs.declared.Listed.{Listed}
-use Rattle.listing.specs.Output.{bound-line}
-use Rattle.listing.specs.Steps.{Tracker, Step}
-use Rattle.listing.specs.Memory.{Memory, memory-of, Ready}
-use Rattle.listing.specs.Chunks.{next-number, line-room, going}
-
--- what a settings line prints, by the bound's answer
-unfoldable pub settings-line : ℕ → Outcome ℕ → List ℕ
-settings-line number (accepted h) = bound-line h
-settings-line number (refused k) = refusal-line number k
-
--- a place with another loaded remap, at a line
-abbrev pub at-line : Place → List ℕ → ℕ → Place
-at-line p loaded line =
-    record {
-      active = p .active;
-      settings = p .settings;
-      remap = p .remap;
-      events = p .events;
-      activations = p .activations;
-      tally = p .tally;
-      loaded = loaded;
-      lines = line;
-    }
-
--- a place whose tracker moved on, at a line
-abbrev pub moved : Place → ℕ → ℕ → Tally → ℕ → Place
-moved p events activations tally line =
-    record {
-      active = p .active;
-      settings = p .settings;
-      remap = p .remap;
-      events = events;
-      activations = activations;
-      tally = tally;
-      loaded = p .loaded;
-      lines = line;
-    }
-
--- the refusal of an activation line, 0 where there is none: of the tests, those that a state which a listing reached can fail
-unfoldable pub activation-refusal : Place → ℕ → ℕ → ℕ
-activation-refusal p row hold =
-    refuse (not (p .active)) 11
-    (refuse (not (ltb row (p .settings .rows))) 9
-    (refuse (not (hold-allowed hold)) 15
-    (refuse (not (leb (p .activations + hold) (p .settings .interval))) 22 0)))
+use Rattle.steps.specs.Memory.{Memory, Ready, next-number}
+use Rattle.listing.specs.Chunks.{line-room, going}
 
 -- the number of lines behind so many more
 unfoldable pub numbers-on : ℕ → ℕ → ℕ
 numbers-on lines zero = lines
 numbers-on lines (suc count) = next-number (numbers-on lines count)
-
--- what a line left carried, with its number as so many lines, and what it printed
-pub record Leaves (step : Step) (loaded : List ℕ) (line : ℕ) (m : Memory) (before : List ℕ) (at : ℕ) (after : List ℕ) (end : ℕ) : Type 0 where
-  pub printed : Prints before at (step .prints) after end
-  pub left : m ≡ record { tracker = step .tracker; loaded = loaded; lines = line }
 
 -- accepted activations passed over lines: what is left to do behind them is what was to be done, however much is printed and whatever room there is
 pub record Runs-on (text : List ℕ) (m : Memory) (from : ℕ) (m′ : Memory) (to : ℕ) : Type 0 where
@@ -80,12 +21,3 @@ pub record Runs-on (text : List ℕ) (m : Memory) (from : ℕ) (m′ : Memory) (
   pub same : (buffer : List ℕ) (end : ℕ) → end + line-room ≤ length buffer →
       going (record { memory = m; taken = from; buffer = buffer; end = end }) (lines (drop from text)) ≡
       going (record { memory = m′; taken = to; buffer = buffer; end = end }) (lines (drop to text))
-
--- the same of the functions' parameters: a line that printed something, and one that prints nothing
-abbrev pub Lists-line : Step → List ℕ → ℕ → Lent → Lent → ℕ → Listed → Type 0
-Lists-line step loaded line counts out at r =
-    Leaves step loaded line (memory-of (r .place) (counts .exit)) (now (out .entry)) at (now (out .exit)) (r .end)
-
-abbrev pub Leaves-in : Option Tracker → List ℕ → ℕ → Lent → Place → Type 0
-Leaves-in tracker loaded line counts p =
-    memory-of p (counts .exit) ≡ record { tracker = tracker; loaded = loaded; lines = line }

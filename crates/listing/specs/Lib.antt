@@ -1,8 +1,5 @@
--- The listing: what the program prints, line by line and for a whole text.
-pub mod Output
-pub mod Steps
+-- The listing of a text, whole and in parts.
 pub mod Texts
-pub mod Memory
 pub mod Chunks
 pub mod Parts
 pub mod Claims

@@ -5,10 +5,10 @@ use mathlib.Core.Bool.{true, false}
 use mathlib.Core.List.{List, [], _∷_, _++_}
 use lib.ListN.{take}
 use Rattle.trace.specs.Lines.{ended}
-use Rattle.listing.specs.Steps.{Progress}
+use Rattle.steps.specs.Steps.{Progress}
 use Rattle.trace.specs.Texts.{whole, most-kept}
 use Rattle.listing.specs.Texts.{listing, after}
-use Rattle.listing.specs.Memory.{Memory, Represents}
+use Rattle.steps.specs.Memory.{Memory, Represents}
 
 -- from where the listing is, with these bytes at hand and these parts still to come, all that is printed
 pub data Printed : Progress → List ℕ → List (List ℕ) → List ℕ → Type 0 where

@@ -5,7 +5,7 @@ use Rattle.device.specs.Refusal.{Outcome}
 use Rattle.device.specs.Acceptance.{most-rows}
 use Rattle.trace.specs.declared.Record.{Record}
 use Rattle.trace.specs.Texts.{outcomes}
-use Rattle.listing.specs.Steps.{Progress, step-to, next-to, next}
+use Rattle.steps.specs.Steps.{Progress, step-to, next-to, next}
 
 -- what lines print, one after another, where N may be up to the most
 unfoldable pub listed-to : ℕ → Progress → List (Outcome Record) → List ℕ

@@ -1,40 +1,19 @@
 // The listing: what the program prints for a trace that comes in parts.
-mod line;
-mod print;
-mod record;
 mod run;
 
+use columns::LINES;
 use dense::Tally;
 use device::Settings;
-use trace::LINES;
+use steps::Place;
 ghost use mathlib.Core.Path.{_≡_};
 ghost use Prim.Native.Nat.{_+_, _*_, _≤_};
 ghost use lib.ListN.{length};
-ghost use Rattle.listing.specs.Memory.{memory-of, start-place, Ready, Banked-in};
-ghost use Rattle.trace.specs.Output.{Prints-into};
-ghost use Rattle.listing.specs.Chunks.{next-number, line-room, part, part-left, chunk, chunk-left, last-line};
+ghost use Rattle.steps.specs.Memory.{memory-of, start-place, Ready, Banked-in, next-number};
+ghost use Rattle.columns.specs.Output.{Prints-into};
+ghost use Rattle.listing.specs.Chunks.{line-room, part, part-left, chunk, chunk-left, last-line};
 
 // Room for the longest line that is printed, which has 110 bytes.
 const ROOM: usize = 200;
-
-// Where a listing is: whether a tracker stands, its settings and remap, its events and activations so far and what goes with its counts, the remap that is
-// loaded for the next, and the lines so far, which count modulo 10,000,000,000.
-pub struct Place {
-    pub active: bool,
-    pub settings: Settings,
-    pub remap: [u32; 16],
-    pub events: u32,
-    pub activations: u32,
-    pub tally: Tally,
-    pub loaded: [u32; 16],
-    pub lines: u64,
-}
-
-// Where the listing is behind a line, and the place behind what was printed.
-pub struct Listed {
-    pub place: Place,
-    pub end: usize,
-}
 
 // Where the listing is behind a run of lines that print nothing, and the place behind them.
 pub struct Ran {
@@ -121,7 +100,7 @@ pub fn list_part(
                 end,
             };
         }
-        let listed = record::list_line(place, counts, marks, bounds, answer, out, end);
+        let listed = steps::list_line(place, counts, marks, bounds, answer, out, end);
         place = listed.place;
         end = listed.end;
         at = next;
@@ -143,7 +122,7 @@ pub fn list_end(p: Place, text: &[u8], out: &mut [u8]) -> usize
     if out.len() < 18 {
         return 0;
     }
-    trace::print_refusal(out, 0, p.lines % LINES + 1, 11)
+    columns::print_refusal(out, 0, p.lines % LINES + 1, 11)
 }
 
 // What lies between two reads: of the first bytes of the text, the lines that have ended are listed, and the first 128 bytes of what is left go to

@@ -1,13 +1,12 @@
 // A run of accepted activation lines, each of one unit: they print nothing, and what they change stands in a few numbers and the tables. The physical row is
 // worked out in place, as `device::physical_row` does, which would get a copy of the remap with each line.
-use crate::Place;
 use crate::Ran;
-use crate::line;
-use trace::LINES;
+use columns::LINES;
+use steps::Place;
 ghost use mathlib.Core.Path.{_≡_};
 ghost use Prim.Native.Nat.{_≤_};
 ghost use lib.ListN.{length};
-ghost use Rattle.listing.specs.Memory.{memory-of, Ready, Banked-in};
+ghost use Rattle.steps.specs.Memory.{memory-of, Ready, Banked-in};
 ghost use Rattle.listing.specs.Contracts.{numbers-on, Runs-on};
 
 // The number of lines, counted modulo 10,000,000,000, behind so many more.
@@ -63,8 +62,18 @@ pub fn run_activations(
         row = trace::activation_row(text, at);
     }
     let lines = lines_behind(p.lines, (at - from) / 8);
+    let loaded = p.loaded;
     Ran {
-        place: line::moved(p, p.events, activations, tally, lines),
+        place: Place {
+            active: p.active,
+            settings: s,
+            remap,
+            events: p.events,
+            activations,
+            tally,
+            loaded,
+            lines,
+        },
         taken: at,
     }
 }

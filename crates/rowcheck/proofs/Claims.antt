@@ -5,8 +5,8 @@ use mathlib.Core.Option.{none, some}
 use Prim.Native.Nat.{ℕ, suc}
 use native.Mathlib.Omega.{arith}
 use Rattle.trace.specs.Lines.{ended}
-use Rattle.listing.specs.Steps.{start}
-use Rattle.listing.proofs.Memory.Progress.{represents-start}
+use Rattle.steps.specs.Steps.{start}
+use Rattle.steps.proofs.Memory.Progress.{represents-start}
 use Rattle.turns.specs.Turns.{first-turned}
 use Rattle.checker.specs.Departure.{departure}
 use Rattle.checker.specs.Claims.{Passes-exactly}

@@ -5,15 +5,15 @@ use Prim.Native.Nat.{ℕ}
 use native.Mathlib.Omega.{arith}
 use lib.ListN.{replicate}
 use Rattle.device.specs.Remap.{own-remap}
-use Rattle.trace.specs.Numbers.{is-digit, digits, number, field, fields, digit-or-blank, columns-before, printed, written}
+use Rattle.columns.specs.Numbers.{is-digit, digits, number, field, fields, digit-or-blank, columns-before, printed, written}
 use Rattle.trace.specs.Lines.{line, ended, extent}
 use Rattle.trace.specs.Records.{numbered, settings, remap, activation, held-activation, refresh, record-of}
 use Rattle.trace.specs.Reading.{or-refused, reading-by, reading}
-use Rattle.trace.specs.Output.{refusal-line}
+use Rattle.columns.specs.Output.{refusal-line}
 use Rattle.trace.specs.Texts.{in-front, lines, read, kept-bytes}
-use Rattle.listing.specs.Steps.{refused-step, line-step-to, loaded-behind}
-use Rattle.listing.specs.Memory.{tracker-in, start-place}
-use Rattle.listing.specs.Chunks.{next-number, step-in, next-in, gone, takes, going, part, chunk, last-line}
+use Rattle.steps.specs.Steps.{refused-step, line-step-to, loaded-behind}
+use Rattle.steps.specs.Memory.{tracker-in, start-place, next-number, step-in, next-in}
+use Rattle.listing.specs.Chunks.{gone, takes, going, part, chunk, last-line}
 use Rattle.checker.specs.Comparison.{counted, compared}
 use Rattle.input.specs.declared.Input.the-variants.{Bytes, End}
 use Rattle.input.specs.AtHand.{Within, brought}

@@ -13,9 +13,9 @@ use lib.ListN.{length, take, getD, set, length-append}
 use lib.Seq.{take-suc, take-all}
 use Rattle.laws.proofs.Cases.{le-or-lt}
 use Rattle.io.specs.Digits.{glyph, digits, Fewest}
-use Rattle.trace.specs.Bytes.{digit-0}
-use Rattle.trace.specs.Output.{Prints}
-use Rattle.trace.proofs.Output.{prints-byte, prints-then, prints-long}
+use Rattle.columns.specs.Bytes.{digit-0}
+use Rattle.columns.specs.Output.{Prints}
+use Rattle.columns.proofs.Output.{prints-byte, prints-then, prints-long}
 use Rattle.rowcheck.specs.declared.Answer.{Answer}
 use Rattle.rowcheck.specs.declared.Answer.the-variants.{Open, Passes, Departs, TraceFailed, ListingFailed}
 use Rattle.rowcheck.specs.declared.Check.{Check}

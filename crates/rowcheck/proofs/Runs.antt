@@ -12,7 +12,7 @@ use lib.ListN.{length, take, drop, length-drop}
 use lib.Seq.{length-take-le}
 use Rattle.laws.proofs.Cases.{split, clash, le-or-lt}
 use Rattle.trace.specs.Texts.{joined}
-use Rattle.listing.specs.Steps.{Progress}
+use Rattle.steps.specs.Steps.{Progress}
 use Rattle.input.specs.declared.Input.the-variants.{Bytes, End}
 use Rattle.input.specs.AtHand.{Within}
 use Rattle.checker.specs.Departure.{departing}

@@ -9,7 +9,7 @@ use lib.Dec.{ltb}
 use lib.ListN.{length, take, drop, length-append}
 use lib.Seq.{take-append-le, take-take, length-slice}
 use Rattle.laws.proofs.Cases.{split}
-use Rattle.trace.proofs.Numbers.Digits.{slice-take-drop}
+use Rattle.columns.proofs.Numbers.Digits.{slice-take-drop}
 use Rattle.input.specs.declared.Input.{Input}
 use Rattle.input.specs.declared.Input.the-variants.{Bytes, End, Failed}
 use Rattle.input.specs.AtHand.{Within, Came}

@@ -8,12 +8,13 @@ use borrow.Author.Tests.{leb-true}
 use lib.Dec.{leb}
 use lib.ListN.{length, take, drop, length-take}
 use Rattle.laws.proofs.Cases.{clash, and-both}
-use Rattle.trace.specs.Numbers.{written}
+use Rattle.columns.specs.Numbers.{written}
 use Rattle.trace.specs.Texts.{joined}
-use Rattle.trace.proofs.Output.{take-written}
-use Rattle.listing.specs.Steps.{Progress}
+use Rattle.columns.proofs.Output.{take-written}
+use Rattle.steps.specs.Steps.{Progress}
 use Rattle.listing.specs.Texts.{listing}
-use Rattle.listing.specs.Chunks.{next-number, line-room, chunk, last-line}
+use Rattle.steps.specs.Memory.{next-number}
+use Rattle.listing.specs.Chunks.{line-room, chunk, last-line}
 use Rattle.listing.proofs.Chunks.LastLine.{last-line-listing}
 use Rattle.input.specs.declared.Input.the-variants.{Bytes, End}
 use Rattle.input.specs.AtHand.{Within, Came}

@@ -11,9 +11,9 @@ use lib.Seq.{take-take, drop-append-le, drop-at}
 use Rattle.laws.proofs.Cases.{split}
 use Rattle.trace.specs.Lines.{ended}
 use Rattle.trace.specs.Texts.{joined}
-use Rattle.listing.specs.Steps.{Progress}
+use Rattle.steps.specs.Steps.{Progress}
 use Rattle.listing.specs.Texts.{listing}
-use Rattle.listing.specs.Memory.{Represents}
+use Rattle.steps.specs.Memory.{Represents}
 use Rattle.turns.specs.Turns.{Turned}
 use Rattle.checker.specs.Departure.{departing}
 use Rattle.checker.specs.Comparison.{counted, compared}

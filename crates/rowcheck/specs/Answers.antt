@@ -2,7 +2,7 @@
 use Prim.Native.Nat.{ℕ, zero, suc, _+_, _/_, _%_}
 use mathlib.Core.Bool.{Bool, true, false}
 use mathlib.Core.List.{List, [], _∷_, _++_}
-use Rattle.trace.specs.Bytes.{digit-0}
+use Rattle.columns.specs.Bytes.{digit-0}
 use Rattle.rowcheck.specs.declared.Answer.{Answer}
 use Rattle.rowcheck.specs.declared.Answer.the-variants.{Open, Passes, Departs, TraceFailed, ListingFailed}
 use Rattle.rowcheck.specs.declared.Check.{Check}

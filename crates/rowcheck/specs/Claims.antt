@@ -5,7 +5,7 @@ use mathlib.Core.List.{List, [], _∷_}
 use mathlib.Core.Option.{Option, none, some}
 use lib.ListN.{replicate}
 use Rattle.trace.specs.Texts.{joined}
-use Rattle.listing.specs.Memory.{memory, start-place}
+use Rattle.steps.specs.Memory.{memory, start-place}
 use Rattle.turns.specs.Turns.{Turns}
 use Rattle.checker.specs.Departure.{departure}
 use Rattle.rowcheck.specs.declared.Answer.{Answer}

@@ -4,7 +4,7 @@ use crate::Check;
 ghost use mathlib.Core.List.{[], _∷_, _++_};
 ghost use Prim.Native.Nat.{suc, _+_, _≤_};
 ghost use lib.ListN.{length};
-ghost use Rattle.trace.specs.Output.{Prints, Prints-into};
+ghost use Rattle.columns.specs.Output.{Prints, Prints-into};
 ghost use Rattle.rowcheck.specs.Answers.{decimal, departs-words, answer-line};
 ghost use Rattle.rowcheck.specs.Contracts.{most-lines};
 

@@ -9,7 +9,7 @@ use Rattle.device.proofs.Acceptance.{accepted-settings}
 use Rattle.bound.specs.Answers.{Small}
 use Rattle.bound.proofs.Answers.{small-tested}
 use Rattle.bound.proofs.Totals.Bound.{bound-lt}
-use Rattle.tracker.specs.declared.Position.{Position}
+use Rattle.state.specs.declared.Position.{Position}
 use Rattle.limit.specs.ByRow.{row-figure}
 use Rattle.limit.proofs.ByRow.{row-figure-le}
 use Rattle.rowlimit.specs.Answers.{row-limit-tests, row-limit-answer}

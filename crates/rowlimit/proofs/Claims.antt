@@ -10,8 +10,8 @@ use Rattle.device.specs.Remap.{physical}
 use Rattle.device.proofs.Acceptance.{accepted-settings}
 use Rattle.device.proofs.Refusal.{tested-passed, or-later-zero}
 use Rattle.device.proofs.Remap.{physical-below}
-use Rattle.tracker.specs.State.{State, state-of, position-allowed}
-use Rattle.tracker.proofs.States.PositionAllowed.{facts-position}
+use Rattle.state.specs.State.{State, state-of, position-allowed}
+use Rattle.state.proofs.PositionAllowed.{facts-position}
 use Rattle.limit.specs.Exact.{Happened, exact}
 use Rattle.limit.specs.Run.{state-after}
 use Rattle.limit.specs.ByRow.{row-figure}

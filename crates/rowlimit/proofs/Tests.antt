@@ -12,9 +12,9 @@ use Rattle.device.specs.Acceptance.{settings-tests}
 use Rattle.device.specs.Remap.{remap-allowed}
 use Rattle.device.proofs.Refusal.{or-later, or-later-le, refuse-passed, refuse-le, or-later-none}
 use Rattle.device.proofs.Acceptance.{settings-then, refusals-le}
-use Rattle.tracker.specs.declared.Position.{Position}
-use Rattle.tracker.specs.State.{position-allowed}
-use Rattle.tracker.proofs.States.PositionAllowed.{position-facts}
+use Rattle.state.specs.declared.Position.{Position}
+use Rattle.state.specs.State.{position-allowed}
+use Rattle.state.proofs.PositionAllowed.{position-facts}
 use Rattle.rowlimit.specs.Answers.{row-limit-tests}
 
 -- no test failed

@@ -6,8 +6,8 @@ use Rattle.device.specs.declared.Settings.{Settings}
 use Rattle.device.specs.Refusal.{Test, unless, first-failed, Outcome, accepted, tested}
 use Rattle.device.specs.Acceptance.{settings-tests}
 use Rattle.device.specs.Remap.{remap-allowed, physical}
-use Rattle.tracker.specs.declared.Position.{Position}
-use Rattle.tracker.specs.State.{position-allowed}
+use Rattle.state.specs.declared.Position.{Position}
+use Rattle.state.specs.State.{position-allowed}
 use Rattle.limit.specs.ByRow.{row-figure}
 
 -- 'the settings' refusals, 9, 14, and 21 for the position alone'

@@ -9,7 +9,7 @@ use Rattle.device.specs.Refusal.{Outcome, accepted}
 use Rattle.device.specs.Remap.{remap-allowed, physical}
 use Rattle.bound.specs.declared.Answer.{Answer}
 use Rattle.bound.specs.Answers.{outcome}
-use Rattle.tracker.specs.State.{State}
+use Rattle.state.specs.State.{State}
 use Rattle.limit.specs.Exact.{Happened, exact}
 use Rattle.limit.specs.Run.{Command, Begun, state-after, happened}
 use Rattle.limit.specs.Answered.{Answered}

@@ -1,7 +1,7 @@
 // A closer figure for each row: the most that its disturbance can be, by where the tracker stands.
 use bound::Answer;
 use device::Settings;
-use tracker::Position;
+use state::Position;
 ghost use mathlib.Core.Path.{_≡_};
 ghost use Prim.Native.Nat.{_≤_, _<_, min};
 ghost use Rattle.device.specs.Refusal.{first-failed};
@@ -25,7 +25,7 @@ fn row_limit_refusal(s: Settings, remap: [u32; 16], row: u32, p: Position) -> u3
         device::refuse_unless(
             device::remap_allowed(remap),
             14,
-            device::refuse_unless(tracker::position_in_range(s, p), 21, 0),
+            device::refuse_unless(state::position_in_range(s, p), 21, 0),
         ),
     )
 }

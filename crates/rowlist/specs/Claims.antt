@@ -3,7 +3,7 @@ use mathlib.Core.Path.{_≡_}
 use mathlib.Core.Bool.{Bool, false}
 use mathlib.Core.List.{List}
 use Prim.Native.Nat.{ℕ}
-use Rattle.listing.specs.Steps.{start}
+use Rattle.steps.specs.Steps.{start}
 use Rattle.listing.specs.Texts.{listing}
 use Rattle.trace.specs.Texts.{joined}
 use Rattle.turns.specs.Turns.{Turned}

@@ -10,14 +10,14 @@ use borrow.Author.Tests.{eqb-true, eqb-false, eq-eqb}
 use lib.ListN.{length}
 use Rattle.laws.proofs.Cases.{split}
 use Rattle.device.specs.Refusal.{first-failed}
-use Rattle.tracker.specs.State.{state-of}
+use Rattle.state.specs.State.{state-of}
 use Rattle.tracker.specs.Calls.{Activation-call, activation-tests, activation-to, activation-on}
 use Rattle.tracker.proofs.Calls.Outcomes.{activation-refused, activation-leaves}
 use Rattle.limit.specs.Exact.{Happened, activated}
 use Rattle.limit.specs.Run.{activation-of, left-by, told-by}
-use Rattle.trace.specs.Output.{refusal-line}
-use Rattle.trace.proofs.Output.{length-refusal-line}
-use Rattle.listing.specs.Steps.{Tracker, answered, activation-step}
+use Rattle.columns.specs.Output.{refusal-line}
+use Rattle.columns.proofs.Output.{length-refusal-line}
+use Rattle.steps.specs.Steps.{Tracker, answered, activation-step}
 use Rattle.silicon.specs.Silicon.{takes, activated-by}
 use Rattle.silicon.proofs.Standing.{beside, beside-stopped, Matched, Stands, both, earlier, stands-by, matched-on, accepts-taken}
 

@@ -12,9 +12,9 @@ use Rattle.trace.specs.declared.Record.{Record}
 use Rattle.trace.specs.declared.Record.the-variants.{Set, Remap, Activate, Refresh, Blank}
 use Rattle.trace.specs.Records.{sixteen-of}
 use Rattle.trace.specs.Texts.{outcomes}
-use Rattle.listing.specs.Steps.{Tracker, Progress, start, refused-step, remap-step, activation-step, record-step-to, line-step-to, line-step, loaded-behind, step-to, next-to, next}
+use Rattle.steps.specs.Steps.{Tracker, Progress, start, refused-step, remap-step, activation-step, record-step-to, line-step-to, line-step, loaded-behind, step-to, next-to, next}
 use Rattle.listing.specs.Texts.{listed-to, listed, passed, listing-to, listing}
-use Rattle.listing.proofs.Memory.Progress.{loadable-behind}
+use Rattle.steps.proofs.Memory.Progress.{loadable-behind}
 use Rattle.silicon.specs.EventLines.{event-lines}
 use Rattle.silicon.specs.Silicon.{Silicon, Walk, begin, record-by, behind, walked}
 use Rattle.silicon.proofs.Pieces.{Quiet, quiet-refusal, quiet-set-up, quiet-answered}

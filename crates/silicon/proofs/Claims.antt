@@ -14,8 +14,8 @@ use Rattle.limit.specs.Claims.{Demand-3, Row-limit}
 use Rattle.limit.proofs.Claims.{demand-3, row-limit}
 use Rattle.trace.specs.declared.Record.the-variants.{Activate}
 use Rattle.trace.specs.Texts.{outcomes}
-use Rattle.trace.proofs.Spelling.Numbers.{narrow-by}
-use Rattle.listing.specs.Steps.{Tracker, start, refused-step, record-step-to, record-step, line-step-to, step-to}
+use Rattle.columns.proofs.Numbers.ReadBack.{narrow-by}
+use Rattle.steps.specs.Steps.{Tracker, start, refused-step, record-step-to, record-step, line-step-to, step-to}
 use Rattle.listing.specs.Texts.{passed}
 use Rattle.checker.specs.Departure.{departure}
 use Rattle.checker.specs.Claims.{Passes-exactly}

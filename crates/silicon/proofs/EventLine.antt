@@ -12,19 +12,19 @@ use Rattle.device.proofs.Acceptance.{accepted-settings}
 use Rattle.summary.specs.Steps.{picked}
 use Rattle.summary.specs.Rules.{Below, below-none, below-more}
 use Rattle.summary.proofs.Entries.Picks.{picks-below}
-use Rattle.tracker.specs.State.{State, summary-of, state-of}
+use Rattle.state.specs.State.{State, summary-of, state-of}
+use Rattle.state.proofs.StateOf.{read-back}
 use Rattle.tracker.specs.Calls.{Refresh-call, kept-unless, refresh-to, refresh-on}
-use Rattle.tracker.proofs.States.StateOf.{read-back}
 use Rattle.limit.specs.Exact.{Happened, refreshed}
 use Rattle.limit.specs.Run.{refresh-into, left-by, told-by}
 use Rattle.limit.specs.Reachable.{Reached}
 use Rattle.limit.proofs.Run.{plain-held, state-inv-run}
 use Rattle.limit.proofs.Reachable.{reached-accepted}
-use Rattle.trace.proofs.Spelling.Numbers.{Narrow, no-number, one-more}
-use Rattle.listing.specs.Output.{refresh-line}
-use Rattle.listing.specs.Steps.{Tracker, answered, refresh-step}
-use Rattle.listing.proofs.Steps.ReachedCalls.{event-accepted, event-is, names-few}
-use Rattle.listing.proofs.Steps.CallLines.{volume-most, list-long}
+use Rattle.columns.proofs.Numbers.ReadBack.{Narrow, no-number, one-more}
+use Rattle.steps.specs.Output.{refresh-line}
+use Rattle.steps.specs.Steps.{Tracker, answered, refresh-step}
+use Rattle.steps.proofs.Steps.ReachedCalls.{event-accepted, event-is, names-few}
+use Rattle.steps.proofs.Steps.CallLines.{volume-most, list-long}
 use Rattle.silicon.specs.EventLines.{rows-named, event-lines}
 use Rattle.silicon.specs.Silicon.{refreshed-by, event-by}
 use Rattle.silicon.proofs.Names.{names-read}

@@ -6,11 +6,11 @@ use Prim.Native.Nat.{ℕ, _<_}
 use native.Mathlib.Omega.{arith}
 use lib.ListN.{length, drop, length-append}
 use lib.Seq.{drop-at}
-use Rattle.trace.specs.Numbers.{field, fields, printed}
-use Rattle.trace.specs.Output.{number-columns}
-use Rattle.trace.proofs.Numbers.Printed.{length-printed}
-use Rattle.trace.proofs.Spelling.Numbers.{Narrow, field-printed, fields-columns}
-use Rattle.listing.specs.Output.{refresh-line}
+use Rattle.columns.specs.Numbers.{field, fields, printed}
+use Rattle.columns.specs.Output.{number-columns}
+use Rattle.columns.proofs.Numbers.Printed.{length-printed}
+use Rattle.columns.proofs.Numbers.ReadBack.{Narrow, field-printed, fields-columns}
+use Rattle.steps.specs.Output.{refresh-line}
 use Rattle.silicon.specs.EventLines.{or-none, rows-named}
 
 -- a letter, a number, how many rows there are and the rows

@@ -8,18 +8,18 @@ use borrow.Author.Tests.{ne-eqb}
 use lib.ListN.{length}
 use Rattle.device.specs.Refusal.{Outcome, accepted, refused}
 use Rattle.device.specs.declared.Settings.{Settings}
-use Rattle.tracker.specs.declared.Position.{Position}
+use Rattle.state.specs.declared.Position.{Position}
 use Rattle.tracker.specs.Calls.{SetUp-call}
 use Rattle.bound.specs.Totals.{bound-of}
-use Rattle.trace.specs.Numbers.{printed}
-use Rattle.trace.specs.Output.{number-columns, refusal-line}
+use Rattle.columns.specs.Numbers.{printed}
+use Rattle.columns.specs.Output.{number-columns, refusal-line}
 use Rattle.trace.specs.Lines.{ended}
 use Rattle.trace.proofs.Lines.{ended-append}
-use Rattle.trace.proofs.Numbers.Printed.{ended-printed}
-use Rattle.trace.proofs.Output.{ended-number-columns}
+use Rattle.trace.proofs.Unended.{ended-printed}
+use Rattle.trace.proofs.Unended.{ended-number-columns}
 use Rattle.trace.proofs.Texts.FirstLine.{lines-piece}
-use Rattle.listing.specs.Output.{bound-line, refresh-line}
-use Rattle.listing.specs.Steps.{refused-step, set-up-step, answered}
+use Rattle.steps.specs.Output.{bound-line, refresh-line}
+use Rattle.steps.specs.Steps.{refused-step, set-up-step, answered}
 use Rattle.silicon.specs.EventLines.{is-event-line, event-lines-of, event-lines}
 
 -- a text in front of others adds no `R` line

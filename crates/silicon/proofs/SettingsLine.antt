@@ -14,12 +14,12 @@ use Rattle.device.specs.Acceptance.{settings-tests}
 use Rattle.device.specs.Remap.{remap-allowed}
 use Rattle.device.proofs.Refusal.{or-later}
 use Rattle.summary.specs.Steps.{empty}
-use Rattle.tracker.specs.State.{state-of}
+use Rattle.state.specs.State.{state-of}
 use Rattle.tracker.specs.Calls.{kept-unless, set-up-to}
 use Rattle.limit.specs.Run.{Begun, state-after, happened}
 use Rattle.trace.specs.declared.Record.the-variants.{Set}
-use Rattle.listing.specs.Steps.{Tracker, record-step}
-use Rattle.listing.proofs.Steps.SettingsLine.{cleared-first, settings-refused, settings-stand}
+use Rattle.steps.specs.Steps.{Tracker, record-step}
+use Rattle.steps.proofs.Steps.SettingsLine.{cleared-first, settings-refused, settings-stand}
 use Rattle.silicon.specs.Silicon.{Silicon, stopped, set-up-by}
 use Rattle.silicon.proofs.Standing.{Stands, neither, both, earlier, stands-by}
 

@@ -14,7 +14,7 @@ use Rattle.limit.specs.Run.{Command, left-by, told-by}
 use Rattle.limit.specs.Reachable.{Reached}
 use Rattle.limit.proofs.Answered.{Run-of, run-of-call}
 use Rattle.limit.proofs.Reachable.{activation-refused-with}
-use Rattle.listing.specs.Steps.{Tracker}
+use Rattle.steps.specs.Steps.{Tracker}
 use Rattle.silicon.specs.EventLines.{event-lines}
 use Rattle.silicon.specs.Silicon.{Silicon, takes, Walk}
 

@@ -13,8 +13,8 @@ use Rattle.limit.specs.Reachable.{Reached}
 use Rattle.limit.specs.ByRow.{Row-limited}
 use Rattle.trace.specs.declared.Record.the-variants.{Activate}
 use Rattle.trace.specs.Texts.{outcomes}
-use Rattle.listing.specs.Output.{refresh-line}
-use Rattle.listing.specs.Steps.{Tracker, start, step}
+use Rattle.steps.specs.Output.{refresh-line}
+use Rattle.steps.specs.Steps.{Tracker, start, step}
 use Rattle.listing.specs.Texts.{passed}
 use Rattle.checker.specs.Departure.{departure}
 use Rattle.silicon.specs.EventLines.{rows-named}

@@ -6,7 +6,7 @@ use mathlib.Core.Option.{Option, none, some, bind}
 use lib.Dec.{eqb}
 use lib.ListN.{drop}
 use Rattle.trace.specs.Bytes.{letter-R}
-use Rattle.trace.specs.Numbers.{field, fields}
+use Rattle.columns.specs.Numbers.{field, fields}
 use Rattle.trace.specs.Texts.{lines}
 
 -- a line that begins with an `R`

@@ -16,7 +16,7 @@ use Rattle.trace.specs.declared.Record.{Record}
 use Rattle.trace.specs.declared.Record.the-variants.{Set, Remap, Activate, Refresh, Blank}
 use Rattle.trace.specs.Records.{sixteen-of}
 use Rattle.trace.specs.Texts.{outcomes}
-use Rattle.listing.specs.Steps.{loaded-by}
+use Rattle.steps.specs.Steps.{loaded-by}
 use Rattle.silicon.specs.EventLines.{event-lines, rows-named}
 
 -- since the last accepted `S`: whether settings stand, its settings, its remap, the units activated since the last event, and what was done

@@ -3,7 +3,7 @@ use mathlib.Core.Path.{_≡_, refl}
 use Rattle.device.specs.Refusal.{Outcome, accepted, refused}
 use Rattle.trace.specs.declared.Record.{Record}
 use Rattle.trace.specs.declared.Record.the-variants.{Set, Remap, Activate, Refresh, Blank}
-use Rattle.trace.specs.Writing.{standing-behind}
+use Rattle.canonical.specs.Writing.{standing-behind}
 use Rattle.spelling.specs.declared.Standing.{Standing}
 use Rattle.spelling.specs.Answers.{standing-of, stood}
 

@@ -14,9 +14,9 @@ ghost use Rattle.device.specs.Refusal.{unless, first-failed};
 ghost use Rattle.device.specs.Remap.{remap-allowed};
 ghost use Rattle.trace.specs.Records.{sixteen-of};
 ghost use Rattle.trace.specs.Reading.{said};
-ghost use Rattle.trace.specs.Output.{Prints-into};
-ghost use Rattle.trace.specs.Spelling.{settings-numbers, spelled-line, activation-spelling, record-spelling, answer-spelling};
-ghost use Rattle.trace.specs.Writing.{activation-fault, event-fault, fault};
+ghost use Rattle.columns.specs.Output.{Prints-into};
+ghost use Rattle.canonical.specs.Spelling.{settings-numbers, spelled-line, activation-spelling, record-spelling, answer-spelling};
+ghost use Rattle.canonical.specs.Writing.{activation-fault, event-fault, fault};
 ghost use Rattle.spelling.specs.Answers.{no-settings, standing-of, stood};
 
 // N of the settings last before a record, if any stand.
@@ -123,9 +123,9 @@ fn print_line(out: &mut [u8], at: usize, letter: u8, numbers: &[u32], count: usi
     requires { ⌜ (count ≤ length (now numbers)) × (at + 6 * count + 2 ≤ length (now out)) ⌝ }
     ensures { λ r. ⌜ Prints-into out at (spelled-line letter (take count (now (numbers .entry)))) r ⌝ }
 {
-    let place = trace::print_byte(out, at, letter);
-    let end = trace::print_numbers(out, place, numbers, count);
-    trace::print_byte(out, end, b'\n')
+    let place = columns::print_byte(out, at, letter);
+    let end = columns::print_numbers(out, place, numbers, count);
+    columns::print_byte(out, end, b'\n')
 }
 
 // The line of settings.
@@ -159,9 +159,9 @@ fn print_one_unit(out: &mut [u8], at: usize, row: u32) -> usize
     requires { ⌜ at + 8 ≤ length (now out) ⌝ }
     ensures { λ r. ⌜ Prints-into out at (spelled-line letter-A (row ∷ [])) r ⌝ }
 {
-    let place = trace::print_byte(out, at, b'A');
-    let end = trace::print_columns(out, place, 6, row as u64);
-    trace::print_byte(out, end, b'\n')
+    let place = columns::print_byte(out, at, b'A');
+    let end = columns::print_columns(out, place, 6, row as u64);
+    columns::print_byte(out, end, b'\n')
 }
 
 // The line of an activation held open.
@@ -189,8 +189,8 @@ fn print_event(out: &mut [u8], at: usize) -> usize
     requires { ⌜ at + 2 ≤ length (now out) ⌝ }
     ensures { λ r. ⌜ Prints-into out at (spelled-line letter-R []) r ⌝ }
 {
-    let end = trace::print_byte(out, at, b'R');
-    trace::print_byte(out, end, b'\n')
+    let end = columns::print_byte(out, at, b'R');
+    columns::print_byte(out, end, b'\n')
 }
 
 // The spelling of a record.

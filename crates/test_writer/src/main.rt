@@ -7,7 +7,7 @@ use writer::Written;
 ghost use mathlib.Core.Path.{_≡_};
 ghost use Prim.Native.Nat.{_≤_};
 ghost use lib.ListN.{length, take};
-ghost use Rattle.trace.specs.Writing.{writing};
+ghost use Rattle.canonical.specs.Writing.{writing};
 ghost use Rattle.writer.specs.Answers.{outcomes-of, write-left};
 
 // The byte at a place, or 0 behind the end.

@@ -1,13 +1,8 @@
--- Laws of numbers in columns, of lines, their records and the reader, of texts and what is printed; of the spelling and the writer; of what answers
--- say and of what private functions promise; and the claims.
-pub mod Numbers
+-- Laws of lines, of columns that hold no byte 10, of records and the reader, of texts; of what private functions promise; and the claims.
 pub mod Lines
+pub mod Unended
 pub mod Records
 pub mod Reading
 pub mod Texts
-pub mod Output
-pub mod Spelling
-pub mod Writing
-pub mod Answers
 pub mod Contracts
 pub mod Claims

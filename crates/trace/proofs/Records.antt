@@ -14,10 +14,11 @@ use Rattle.trace.specs.declared.Record.{Record}
 use Rattle.trace.specs.declared.Record.the-variants.{Set, Remap, Activate, Blank}
 use Rattle.trace.specs.Bytes.{letter-A, letter-F, letter-H, letter-R, letter-S}
 use Rattle.trace.specs.Lines.{ended}
-use Rattle.trace.specs.Numbers.{field, fields}
+use Rattle.columns.specs.Numbers.{field, fields}
 use Rattle.trace.specs.Records.{as-settings, as-sixteen, as-activation, numbered, settings, remap, activation, held-activation, refresh, record-of}
 use Rattle.trace.proofs.Lines.{ended-drop-length}
-use Rattle.trace.proofs.Numbers.Fields.{field-take, fields-take, ended-field, ended-fields}
+use Rattle.columns.proofs.Numbers.Fields.{field-take, fields-take}
+use Rattle.trace.proofs.Unended.{ended-field, ended-fields}
 
 -- every record of this form has so many bytes, none of them byte 10
 pub record Form (says : List ℕ → Option Record) (width : ℕ) : Type 0 where

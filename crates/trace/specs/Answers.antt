@@ -1,4 +1,4 @@
--- What answers of the code say where they are no record: what columns were found to hold, the row that a line tells, and bytes that were copied.
+-- What answers of the code say where they are no record: what a line's fields were found to hold, the row that a line tells, and bytes that were copied.
 use Prim.Native.Nat.{ℕ, _+_}
 use mathlib.Core.Bool.{_&&_, cond}
 use mathlib.Core.List.{List, _++_}
@@ -8,20 +8,9 @@ use lib.Dec.{eqb, leb}
 use lib.ListN.{length, getD, take, drop}
 use denote.Ref.{now}
 use Rattle.laws.specs.Lent.{Lent}
-use Rattle.trace.specs.declared.Field.{Field}
-use Rattle.trace.specs.declared.Field.the-variants.{Number, Other}
 use Rattle.trace.specs.declared.Fields.{Fields}
 use Rattle.trace.specs.Bytes.{letter-A}
-use Rattle.trace.specs.Numbers.{field}
-
--- what some columns hold: a number, or something else
-unfoldable pub found : Field → Option ℕ
-found (Number n) = some n
-found Other = none
-
--- what some columns hold, as a number of which the largest of 32 bits stands for none
-unfoldable pub number-found : ℕ → Option ℕ
-number-found n = cond (eqb n 4294967295) none (some n)
+use Rattle.columns.specs.Numbers.{field}
 
 -- what so many fields hold: as many numbers, or something else in one of them
 unfoldable pub found-all : ℕ → Fields → Option (List ℕ)

@@ -1,16 +1,5 @@
--- The bytes that have a meaning in a trace, by name; a line's end is the paper's 'byte 10'.
+-- The letters that a trace's lines begin with, by name; a line's end is the paper's 'byte 10'.
 use Prim.Native.Nat.{ℕ}
-
--- 'blanks', in front of a number
-abbrev pub blank : ℕ
-blank = 32
-
--- the least and the greatest 'digit'
-abbrev pub digit-0 : ℕ
-digit-0 = 48
-
-abbrev pub digit-9 : ℕ
-digit-9 = 57
 
 -- `A`, an activation
 abbrev pub letter-A : ℕ

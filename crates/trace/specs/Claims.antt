@@ -1,22 +1,19 @@
--- What is claimed of spellings and of the writer. proofs/Claims.antt proves each under the same name.
+-- What is claimed of the reader, each proved in proofs/Claims.antt under the same name; and what claims about its answers ask of them.
 use Prim.Native.Nat.{ℕ, _≤_, _<_}
 use mathlib.Core.Path.{_≡_}
-use mathlib.Core.Bool.{true}
-use mathlib.Core.List.{List, [], _∷_, _++_, List·Memᴰ}
-use mathlib.Core.Option.{Option, none, some}
-use lib.ListN.{length, take, drop}
+use mathlib.Core.List.{List, [], _∷_, List·Memᴰ}
+use mathlib.Core.Option.{some}
+use lib.ListN.{length, drop}
 use Rattle.device.specs.declared.Settings.{Settings}
 use Rattle.device.specs.Refusal.{Outcome, accepted}
 use Rattle.device.specs.Claims.{Alike}
+use Rattle.columns.specs.Numbers.{field, fields}
 use Rattle.trace.specs.declared.Record.{Record}
 use Rattle.trace.specs.declared.Record.the-variants.{Set}
 use Rattle.trace.specs.Bytes.{letter-A, letter-H}
-use Rattle.trace.specs.Numbers.{field, fields}
 use Rattle.trace.specs.Records.{record-of}
 use Rattle.trace.specs.Reading.{reading}
 use Rattle.trace.specs.Texts.{outcomes}
-use Rattle.trace.specs.Spelling.{spelling, unblank, unrefused}
-use Rattle.trace.specs.Writing.{fault-to, first-fault-to, before-fault-to, writing-to, standing-after, fault, first-fault, before-fault, writing}
 
 -- 'read line by line': what the reader says at a place, then what it says from the place behind that line on, until no byte is left
 unfoldable pub Read-in-turn : Type 0
@@ -25,74 +22,12 @@ Read-in-turn =
     (place < length text → outcomes (drop place text) ≡ reading text place .outcome ∷ outcomes (drop (reading text place .place) text)) ×
     (length text ≤ place → outcomes (drop place text) ≡ [])
 
--- 'The reader returns the records that were written': the written text, read line by line from its start, gives exactly these, blank ones
--- aside, and no refused line
-unfoldable pub Round-trip : Type 0
-Round-trip =
-    (os : List (Outcome Record)) (text : List ℕ) (n : ℕ) → writing os text .answer ≡ accepted n →
-    (outcomes (take n (writing os text .text)) ≡ unblank os) × (unrefused (unblank os) ≡ true)
-
--- the same of every trace that a reader can give, settings and rows out of range too
-unfoldable pub Read-back : Type 0
-Read-back = (text : List ℕ) → unrefused (outcomes text) ≡ true → outcomes (spelling (outcomes text)) ≡ unblank (outcomes text)
-
 -- '`A` and a hold of 1 are one record', however row and hold stand in their columns
 unfoldable pub One-record : Type 0
 One-record =
     (row : ℕ) (one held : List ℕ) → length one ≡ 6 → field 0 one ≡ some row → length held ≡ 12 → fields 2 held ≡ some (row ∷ 1 ∷ []) →
     record-of (letter-A ∷ one) ≡ record-of (letter-H ∷ held)
 
--- 'Two traces without a refused line carry the same records in the same order, blank lines aside, exactly when their rewritten texts are the
--- same bytes'
-unfoldable pub One-spelling : Type 0
-One-spelling =
-    (a b : List ℕ) → unrefused (outcomes a) ≡ true → unrefused (outcomes b) ≡ true →
-    (unblank (outcomes a) ≡ unblank (outcomes b) → spelling (outcomes a) ≡ spelling (outcomes b)) ×
-    (spelling (outcomes a) ≡ spelling (outcomes b) → unblank (outcomes a) ≡ unblank (outcomes b))
-
--- rewriting a rewritten text changes nothing
-unfoldable pub Rewritten-stays : Type 0
-Rewritten-stays =
-    (text : List ℕ) → unrefused (outcomes text) ≡ true → spelling (outcomes (spelling (outcomes text))) ≡ spelling (outcomes text)
-
--- when the writer gives the spelling: no answer is faulty, and it fits the lent text
-unfoldable pub Writer-spells : Type 0
-Writer-spells =
-    (os : List (Outcome Record)) (text : List ℕ) →
-    (first-fault none os ≡ 0 → length (spelling os) ≤ length text →
-    (writing os text .answer ≡ accepted (length (spelling os))) × (take (length (spelling os)) (writing os text .text) ≡ spelling os)) ×
-    ((n : ℕ) → writing os text .answer ≡ accepted n → (first-fault none os ≡ 0) × (length (spelling os) ≤ length text) × (n ≡ length (spelling os)))
-
--- so a text that the writer wrote is rewritten to itself, wherever it fits
-unfoldable pub Written-stays : Type 0
-Written-stays =
-    (os : List (Outcome Record)) (text text′ : List ℕ) (n : ℕ) → writing os text .answer ≡ accepted n → n ≤ length text′ →
-    let bytes = take n (writing os text .text) in
-    (writing (outcomes bytes) text′ .answer ≡ accepted n) × (take n (writing (outcomes bytes) text′ .text) ≡ bytes)
-
--- a faulty answer behind those without a fault, where they leave off
-pub record First-faulty (os : List (Outcome Record)) : Type 0 where
-  pub answer : Outcome Record
-  pub others : List (Outcome Record)
-  pub behind : os ≡ before-fault none os ++ (answer ∷ others)
-  pub faulty : fault (standing-after none (before-fault none os)) answer ≡ first-fault none os
-
--- 'the first faulty record deciding': the answers before it have no fault; they are all, or it stands right behind them
-unfoldable pub Before-sound : Type 0
-Before-sound =
-    (os : List (Outcome Record)) →
-    (first-fault none (before-fault none os) ≡ 0) × (first-fault none os ≡ 0 → before-fault none os ≡ os) ×
-    ((first-fault none os ≡ 0 → ⊥) → First-faulty os)
-
 -- every settings record among the answers has an N that is judged alike where N may be up to another most
 abbrev pub All-alike : ℕ → List (Outcome Record) → Type 0
 All-alike most os = (s : Settings) → List·Memᴰ (accepted (Set s)) os → Alike most s
-
--- such answers are written as they would be there, and the same one is the first faulty; settings with N above that most have fault 1 there
-unfoldable pub Writing-stays : Type 0
-Writing-stays =
-    (most : ℕ) (os : List (Outcome Record)) →
-    (All-alike most os →
-    ((text : List ℕ) → writing-to most os text ≡ writing os text) × (first-fault-to most none os ≡ first-fault none os) ×
-    (before-fault-to most none os ≡ before-fault none os)) ×
-    ((standing : Option ℕ) (s : Settings) → most < s .rows → fault-to most standing (accepted (Set s)) ≡ 1)

@@ -5,7 +5,7 @@ use mathlib.Core.List.{List}
 use mathlib.Core.Option.{Option, none}
 use lib.Dec.{eqb, ltb}
 use lib.ListN.{length, getD}
-use Rattle.trace.specs.Numbers.{fields}
+use Rattle.columns.specs.Numbers.{fields}
 
 -- whether a byte 10 stands behind so many bytes
 unfoldable pub ends-after : ℕ → List ℕ → Bool

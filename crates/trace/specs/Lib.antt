@@ -1,13 +1,9 @@
--- The trace: numbers in columns, lines and their records, the reader's answer; a text line by line; its one spelling, and the writer.
+-- The trace: lines and their records, the reader's answer; a text line by line; and what is claimed of the reader.
 pub mod Bytes
-pub mod Numbers
 pub mod Lines
 pub mod Records
 pub mod Reading
 pub mod Texts
-pub mod Output
-pub mod Spelling
-pub mod Writing
 pub mod Answers
 pub mod Contracts
 pub mod Claims

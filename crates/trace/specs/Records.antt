@@ -6,7 +6,7 @@ use mathlib.Core.Option.{Option, none, some, bind}
 use lib.Dec.{eqb}
 use lib.ListN.{length, getD}
 use Rattle.trace.specs.Bytes.{letter-A, letter-F, letter-H, letter-R, letter-S}
-use Rattle.trace.specs.Numbers.{field, fields}
+use Rattle.columns.specs.Numbers.{field, fields}
 use Rattle.device.specs.declared.Settings.{Settings}
 use Rattle.trace.specs.declared.Sixteen.{Sixteen}
 use Rattle.trace.specs.declared.Record.{Record}

@@ -1,36 +1,22 @@
-// The trace reader, and what the programs print: numbers in columns, read from lent text, printed into a lent buffer.
+// The trace reader: lines of a lent text, the records that they say, and the text behind them.
+use columns::COLUMNS;
+use columns::Field;
+use columns::NO_NUMBER;
 use device::Settings;
 ghost use mathlib.Core.Path.{_≡_};
-ghost use Prim.Native.Nat.{_+_, _*_, _≤_, _<_, min};
-ghost use mathlib.Core.List.{[], _∷_};
-ghost use lib.ListN.{length, take, drop};
-ghost use lib.Seq.{slice};
-ghost use Rattle.trace.specs.Numbers.{digits, field, fields, digit-or-blank, printed, written};
+ghost use Prim.Native.Nat.{_+_, _*_, _≤_, min};
+ghost use lib.ListN.{length, drop};
+ghost use Rattle.columns.specs.Numbers.{fields};
 ghost use Rattle.trace.specs.Lines.{extent};
 ghost use Rattle.trace.specs.Records.{as-settings, as-sixteen, sixteen-of, settings, remap, activation, held-activation, refresh};
-ghost use Rattle.trace.specs.Answers.{found, number-found, found-all, row-told, Copies-front};
+ghost use Rattle.columns.specs.Answers.{number-found};
+ghost use Rattle.trace.specs.Answers.{found-all, row-told, Copies-front};
 ghost use Rattle.trace.specs.Contracts.{ends-after, line-fields};
 ghost use Rattle.trace.specs.Reading.{said, reading, reading-by, Handed-on};
 ghost use Rattle.trace.specs.Texts.{kept-bytes};
-ghost use Rattle.trace.specs.Output.{number-columns, refusal-line, Prints-into};
-
-// How wide a number is.
-const COLUMNS: usize = 6;
 
 // How many bytes are kept of a line that has not ended: no record is as long.
 const KEPT: usize = 128;
-
-// Line numbers are printed modulo this.
-pub const LINES: u64 = 10_000_000_000;
-
-// No 6 columns hold this number: it stands for none.
-const NO_NUMBER: u32 = 4_294_967_295;
-
-// What some columns hold.
-pub enum Field {
-    Number(u32),
-    Other,
-}
 
 // What some fields hold: whether each is a number, and these numbers from the front on.
 pub struct Fields {
@@ -106,81 +92,6 @@ fn ends_after(text: &[u8], at: usize, width: usize) -> bool
     }
 }
 
-// The digits from a place to an end.
-fn read_digits(text: &[u8], from: usize, end: usize) -> u32
-    requires { ⌜ (from ≤ end) × (end ≤ from + 6) × (end ≤ length (now text)) ⌝ }
-    ensures { λ r. ⌜ number-found r ≡ digits 0 (slice from end (now (text .entry))) ⌝ }
-{
-    let mut n: u32 = 0;
-    let mut i = from;
-    while i < end {
-        let b = text[i];
-        if b < b'0' {
-            return NO_NUMBER;
-        }
-        if b'9' < b {
-            return NO_NUMBER;
-        }
-        n = n * 10 + (b - b'0') as u32;
-        i += 1;
-    }
-    n
-}
-
-// The number in the 6 columns from a place on: blanks, then digits.
-fn read_padded(text: &[u8], from: usize) -> u32
-    requires { ⌜ from + 6 ≤ length (now text) ⌝ }
-    ensures { λ r. ⌜ number-found r ≡ field from (now (text .entry)) ⌝ }
-{
-    let end = from + COLUMNS;
-    let mut i = from;
-    while i < end {
-        if text[i] != b' ' {
-            return read_digits(text, i, end);
-        }
-        i += 1;
-    }
-    NO_NUMBER
-}
-
-// The same; a number of four or five digits, as most rows are, without a loop over the blanks.
-fn read_number(text: &[u8], from: usize) -> u32
-    requires { ⌜ from + 6 ≤ length (now text) ⌝ }
-    ensures { λ r. ⌜ number-found r ≡ field from (now (text .entry)) ⌝ }
-{
-    let low = read_digits(text, from + 2, from + COLUMNS);
-    if low == NO_NUMBER {
-        return read_padded(text, from);
-    }
-    if text[from] != b' ' {
-        return read_padded(text, from);
-    }
-    let b = text[from + 1];
-    if b == b' ' {
-        return low;
-    }
-    if b < b'0' {
-        return NO_NUMBER;
-    }
-    if b'9' < b {
-        return NO_NUMBER;
-    }
-    (b - b'0') as u32 * 10000 + low
-}
-
-// The same as an enum.
-fn read_field(text: &[u8], from: usize) -> Field
-    requires { ⌜ from + 6 ≤ length (now text) ⌝ }
-    ensures { λ r. ⌜ found r ≡ field from (now (text .entry)) ⌝ }
-{
-    let n = read_number(text, from);
-    if n == NO_NUMBER {
-        Field::Other
-    } else {
-        Field::Number(n)
-    }
-}
-
 // The numbers in so many fields from a place on.
 fn read_fields(text: &[u8], at: usize, count: usize) -> Fields
     requires { ⌜ (count ≤ 16) × (at + 6 * count ≤ length (now text)) ⌝ }
@@ -189,7 +100,7 @@ fn read_fields(text: &[u8], at: usize, count: usize) -> Fields
     let mut values = [0u32; 16];
     let mut i: usize = 0;
     while i < count {
-        let Field::Number(n) = read_field(text, at + COLUMNS * i) else {
+        let Field::Number(n) = columns::read_field(text, at + COLUMNS * i) else {
             return Fields { all: false, values };
         };
         values[i] = n;
@@ -309,7 +220,7 @@ fn read_activation(text: &[u8], at: usize) -> Read
     if !ends_after(text, at, 6) {
         return Read::Refused(line_end(text, at));
     }
-    let Field::Number(row) = read_field(text, at) else {
+    let Field::Number(row) = columns::read_field(text, at) else {
         return Read::Refused(line_end(text, at));
     };
     Read::Line(Record::Activate(row, 1), at + 7)
@@ -354,7 +265,7 @@ pub fn activation_row(text: &[u8], place: usize) -> u32
     if text[place + 7] != b'\n' {
         return NO_NUMBER;
     }
-    read_number(text, place + 1)
+    columns::read_number(text, place + 1)
 }
 
 // The line at a place of the text.
@@ -423,78 +334,6 @@ pub fn next_line<'a>(text: &'a [u8], place: usize) -> Parsed<'a>
     let answer = read_line(text, place);
     let rest = text_behind(text, answer);
     Parsed { answer, rest }
-}
-
-// A column in front of the last, with what is left of the number there.
-fn digit_or_blank(left: u64) -> u8
-    ensures { λ r. ⌜ r ≡ digit-or-blank left ⌝ }
-{
-    if left == 0 {
-        b' '
-    } else {
-        (b'0' as u64 + left % 10) as u8
-    }
-}
-
-// n right-justified in so many columns of the buffer, from a place on; of a number with more digits, the lowest.
-pub fn print_number(out: &mut [u8], at: usize, columns: usize, n: u64)
-    requires { ⌜ at + columns ≤ length (now out) ⌝ }
-    ensures { λ _. ⌜ now (out .exit) ≡ written (now (out .entry)) at (printed columns n) ⌝ }
-{
-    if columns == 0 {
-        return;
-    }
-    let mut i = at + columns - 1;
-    out[i] = (b'0' as u64 + n % 10) as u8;
-    let mut left = n / 10;
-    while at < i {
-        i -= 1;
-        out[i] = digit_or_blank(left);
-        left = left / 10;
-    }
-}
-
-// A byte at a place; the place behind it.
-pub fn print_byte(out: &mut [u8], at: usize, b: u8) -> usize
-    requires { ⌜ at < length (now out) ⌝ }
-    ensures { λ r. ⌜ Prints-into out at (b ∷ []) r ⌝ }
-{
-    out[at] = b;
-    at + 1
-}
-
-// A number in so many columns; the place behind it.
-pub fn print_columns(out: &mut [u8], at: usize, columns: usize, n: u64) -> usize
-    requires { ⌜ at + columns ≤ length (now out) ⌝ }
-    ensures { λ r. ⌜ Prints-into out at (printed columns n) r ⌝ }
-{
-    print_number(out, at, columns, n);
-    at + columns
-}
-
-// The first numbers of a list, 6 columns each; the place behind them.
-pub fn print_numbers(out: &mut [u8], at: usize, numbers: &[u32], count: usize) -> usize
-    requires { ⌜ (count ≤ length (now numbers)) × (at + 6 * count ≤ length (now out)) ⌝ }
-    ensures { λ r. ⌜ Prints-into out at (number-columns (take count (now (numbers .entry)))) r ⌝ }
-{
-    let mut place = at;
-    let mut i = 0;
-    while i < count {
-        place = print_columns(out, place, COLUMNS, numbers[i] as u64);
-        i += 1;
-    }
-    place
-}
-
-// The line of a refused line, by its number.
-pub fn print_refusal(out: &mut [u8], at: usize, line: u64, k: u32) -> usize
-    requires { ⌜ at + 18 ≤ length (now out) ⌝ }
-    ensures { λ r. ⌜ Prints-into out at (refusal-line line k) r ⌝ }
-{
-    let numbers = print_byte(out, at, b'X');
-    let refusal = print_columns(out, numbers, 10, line % LINES);
-    let end = print_columns(out, refusal, 6, k as u64);
-    print_byte(out, end, b'\n')
 }
 
 // The smaller of two numbers.

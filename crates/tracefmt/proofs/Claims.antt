@@ -15,11 +15,11 @@ use Rattle.laws.proofs.Cases.{split}
 use Rattle.trace.specs.declared.Record.{Record}
 use Rattle.trace.specs.Lines.{ended}
 use Rattle.trace.specs.Texts.{outcomes, joined, whole}
-use Rattle.trace.specs.Spelling.{spelling, unblank}
-use Rattle.trace.specs.Writing.{first-fault, before-fault}
-use Rattle.trace.proofs.Output.{counted-on, refusal-alike}
-use Rattle.trace.proofs.Spelling.Texts.{outcomes-spelling, spelling-unblank}
-use Rattle.trace.proofs.Writing.{first-fault-before, before-fault-all, faultless-readable, first-fault-unblank}
+use Rattle.canonical.specs.Spelling.{spelling, unblank}
+use Rattle.canonical.specs.Writing.{first-fault, before-fault}
+use Rattle.columns.proofs.Output.{counted-on, refusal-alike}
+use Rattle.canonical.proofs.Spelling.Texts.{outcomes-spelling, spelling-unblank}
+use Rattle.canonical.proofs.Writing.{first-fault-before, before-fault-all, faultless-readable, first-fault-unblank}
 use Rattle.input.specs.declared.Input.{Input}
 use Rattle.input.specs.declared.Input.the-variants.{Bytes, End, Failed}
 use Rattle.input.specs.AtHand.{Within, Came, brought}

@@ -8,7 +8,7 @@ use lib.ListN.{length}
 use Rattle.device.specs.Refusal.{refused}
 use Rattle.laws.proofs.Cases.{split}
 use Rattle.trace.specs.Lines.{ended}
-use Rattle.trace.specs.Spelling.{answer-spelling}
+use Rattle.canonical.specs.Spelling.{answer-spelling}
 use Rattle.trace.proofs.Texts.FirstLine.{outcomes-none, outcomes-unended}
 use Rattle.tracefmt.specs.Rewriting.{Progress, next, writes, rewritten, passed, rewriting, after, end-of}
 

@@ -11,8 +11,8 @@ use Rattle.device.specs.Refusal.{Outcome}
 use Rattle.laws.proofs.Cases.{split, clash}
 use Rattle.trace.specs.declared.Record.{Record}
 use Rattle.trace.specs.Texts.{outcomes}
-use Rattle.trace.specs.Spelling.{answer-spelling, spelling}
-use Rattle.trace.specs.Writing.{standing-behind, fault, first-fault-to, first-fault, before-fault-to, before-fault}
+use Rattle.canonical.specs.Spelling.{answer-spelling, spelling}
+use Rattle.canonical.specs.Writing.{standing-behind, fault, first-fault-to, first-fault, before-fault-to, before-fault}
 use Rattle.tracefmt.specs.Rewriting.{Progress, next-by, next, writes, rewritten, passed, rewriting, after}
 
 -- a rewriting that stopped stays and writes nothing

@@ -12,10 +12,10 @@ use Rattle.trace.specs.declared.Record.{Record}
 use Rattle.trace.specs.Lines.{ended}
 use Rattle.trace.specs.Reading.{reading}
 use Rattle.trace.specs.Texts.{lines, whole, outcomes}
-use Rattle.trace.specs.Output.{Prints}
-use Rattle.trace.specs.Spelling.{answer-spelling}
-use Rattle.trace.proofs.Output.{prints-nothing, prints-then, prints-long}
-use Rattle.trace.proofs.Spelling.Lengths.{spelling-no-longer}
+use Rattle.columns.specs.Output.{Prints}
+use Rattle.canonical.specs.Spelling.{answer-spelling}
+use Rattle.columns.proofs.Output.{prints-nothing, prints-then, prints-long}
+use Rattle.canonical.proofs.Spelling.Lengths.{spelling-no-longer}
 use Rattle.trace.proofs.Texts.Cuts.{outcomes-cut}
 use Rattle.trace.proofs.Texts.NextLine.{place-within, whole-on, outcomes-on}
 use Rattle.tracefmt.specs.Rewriting.{Progress, next, writes, rewritten, passed, rewriting, after}

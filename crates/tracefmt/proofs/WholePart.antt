@@ -11,7 +11,7 @@ use lib.Seq.{take-at}
 use Rattle.laws.proofs.Cases.{split, clash}
 use Rattle.trace.specs.Lines.{ended}
 use Rattle.trace.specs.Texts.{most-kept, kept-bytes}
-use Rattle.trace.proofs.Output.{prints-long, take-printed}
+use Rattle.columns.proofs.Output.{prints-long, take-printed}
 use Rattle.trace.proofs.Texts.Cuts.{outcomes-kept, ended-less}
 use Rattle.tracefmt.specs.Rewriting.{Progress, rewriting, after}
 use Rattle.tracefmt.specs.Turns.{Rewrites, Moves}

@@ -8,8 +8,8 @@ use lib.ListN.{length}
 use Rattle.device.specs.Refusal.{Outcome}
 use Rattle.trace.specs.declared.Record.{Record}
 use Rattle.trace.specs.Texts.{outcomes, joined, whole}
-use Rattle.trace.specs.Spelling.{spelling}
-use Rattle.trace.specs.Writing.{first-fault, before-fault}
+use Rattle.canonical.specs.Spelling.{spelling}
+use Rattle.canonical.specs.Writing.{first-fault, before-fault}
 use Rattle.tracefmt.specs.Rewriting.{Progress, start, rewritten, passed, fault-line, fault-said}
 use Rattle.tracefmt.specs.Turns.{progress-of, State, first-state, Chain, Ran-from, Whole-from, Turns}
 

@@ -8,9 +8,9 @@ use lib.ListN.{length}
 use Rattle.device.specs.Refusal.{Outcome, refused}
 use Rattle.trace.specs.declared.Record.{Record}
 use Rattle.trace.specs.Texts.{outcomes}
-use Rattle.trace.specs.Output.{line-modulus, refusal-line}
-use Rattle.trace.specs.Spelling.{answer-spelling}
-use Rattle.trace.specs.Writing.{standing-behind, fault, first-fault, before-fault}
+use Rattle.columns.specs.Output.{line-modulus, refusal-line}
+use Rattle.canonical.specs.Spelling.{answer-spelling}
+use Rattle.canonical.specs.Writing.{standing-behind, fault, first-fault, before-fault}
 
 -- where a rewriting is: N of the settings last before, if any stand; a number of lines alike modulo 10,000,000,000 to those so far; and the refusal
 -- of the line that stopped it, 0 while none did

@@ -9,7 +9,7 @@ use denote.Ref.{now}
 use Rattle.laws.specs.Lent.{Slice, Lent}
 use Rattle.trace.specs.Lines.{ended}
 use Rattle.trace.specs.Texts.{whole, most-kept}
-use Rattle.trace.specs.Output.{Prints}
+use Rattle.columns.specs.Output.{Prints}
 use Rattle.spelling.specs.Answers.{standing-of, no-settings}
 use Rattle.input.specs.declared.Input.{Input}
 use Rattle.input.specs.declared.Input.the-variants.{Bytes, End, Failed}

@@ -1,18 +1,18 @@
 // Rewrites a trace in its one spelling: standard input to standard output, through buffers of fixed size. At the first faulty line it stops and
 // says on standard error which it is, and so it does where something cannot be read or written.
+use columns::LINES;
 use input::File;
 use input::Input;
 use libc::STDERR_FILENO;
 use libc::STDOUT_FILENO;
 use spelling::Standing;
-use trace::LINES;
 use trace::Read;
 ghost use mathlib.Core.Path.{_≡_};
 ghost use Prim.Native.Nat.{_+_, _≤_};
 ghost use lib.ListN.{length, take};
 ghost use Rattle.trace.specs.Reading.{said};
-ghost use Rattle.trace.specs.Output.{Prints-into};
-ghost use Rattle.trace.specs.Spelling.{answer-spelling};
+ghost use Rattle.columns.specs.Output.{Prints-into};
+ghost use Rattle.canonical.specs.Spelling.{answer-spelling};
 ghost use Rattle.tracefmt.specs.Rewriting.{next, writes, end-of, fault-line};
 ghost use Rattle.tracefmt.specs.Turns.{progress-of, Rewrites, Moves, Readable, Turn-leaves, first-turn, Stepped, state-before, state-left, Ran-in};
 ghost use Rattle.tracefmt.specs.Contracts.{Carried-in};
@@ -163,7 +163,7 @@ fn print_fault(p: Place, out: &mut [u8]) -> usize
     if p.refusal == 0 {
         return 0;
     }
-    trace::print_refusal(out, 0, p.lines % LINES + 1, p.refusal)
+    columns::print_refusal(out, 0, p.lines % LINES + 1, p.refusal)
 }
 
 // What lies between two reads: what came in is rewritten, up to the last line's end or to a faulty line.

@@ -1,5 +1,4 @@
--- Laws of the tracker's state and calls.
-pub mod States
+-- Laws of the tracker's calls.
 pub mod Calls
 pub mod Steps
 pub mod Claims

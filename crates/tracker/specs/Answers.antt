@@ -4,10 +4,10 @@ use Prim.Native.Nat.{ℕ}
 use mathlib.Core.Bool.{Bool, true, false}
 use mathlib.Core.List.{List}
 use denote.Ref.{now}
-use Rattle.laws.specs.Lent.{Slice, Lent}
+use Rattle.laws.specs.Lent.{Lent}
 use Rattle.device.specs.Refusal.{Outcome, accepted, refused}
-use Rattle.tracker.specs.declared.Position.{Position}
-use Rattle.tracker.specs.State.{State}
+use Rattle.state.specs.declared.Position.{Position}
+use Rattle.state.specs.State.{given}
 use Rattle.tracker.specs.Calls.{SetUp-call, Activation-call, Refresh-call}
 use Rattle.tracker.specs.declared.SetUp.{SetUp}
 use Rattle.tracker.specs.declared.SetUp.the-variants.{Ready, Refused as SetUp-refused}
@@ -57,10 +57,6 @@ unfoldable pub refresh-position : Refreshed → Position
 refresh-position (Refresh-accepted v p) = p
 refresh-position (Refresh-refused k p) = p
 
--- 'the caller lends two number tables': the state that they make with a position
-unfoldable pub given : List ℕ → List ℕ → Position → State
-given rows counts p = record { rows = rows; counts = counts; position = p }
-
 -- a call's answer with what it left in the lent tables and, of an event, in the 'lent list'
 unfoldable pub set-up-call : SetUp → List ℕ → List ℕ → SetUp-call
 set-up-call r rows counts = record { answer = set-up-outcome r; rows = rows; counts = counts }
@@ -83,11 +79,7 @@ refresh-call r rows counts picks =
       picks = picks;
     }
 
--- the same of a call's parameters: the state that it is lent
-abbrev pub lent : Slice → Slice → Position → State
-lent rows counts p = given (now rows) (now counts) p
-
--- its answer with what it left there: setting up, an activation, an event, and an event that no test refuses
+-- the same of a call's parameters: setting up, an activation, an event, and an event that no test refuses
 abbrev pub set-up-left : SetUp → Lent → Lent → SetUp-call
 set-up-left r rows counts = set-up-call r (now (rows .exit)) (now (counts .exit))
 

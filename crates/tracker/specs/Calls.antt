@@ -1,6 +1,6 @@
 -- The calls on raw state: the refusals in document 01's order, and what each call leaves, refused or not.
 use Prim.Native.Nat.{ℕ, zero, suc, _+_, _-_, _*_, min}
-use mathlib.Core.Bool.{Bool, _&&_, cond}
+use mathlib.Core.Bool.{Bool, cond}
 use mathlib.Core.List.{List, [], _∷_, _++_}
 use lib.Dec.{leb, ltb, eqb}
 use lib.ListN.{length, drop}
@@ -11,8 +11,8 @@ use Rattle.device.specs.Remap.{remap-allowed, physical}
 use Rattle.device.specs.Hold.{hold-allowed, repeated}
 use Rattle.device.specs.Victims.{rows-between, victims}
 use Rattle.summary.specs.Steps.{empty, picked, activation, event}
-use Rattle.tracker.specs.declared.Position.{Position}
-use Rattle.tracker.specs.State.{State, summary-of, state-of, valid}
+use Rattle.state.specs.declared.Position.{Position}
+use Rattle.state.specs.State.{State, summary-of, state-of, valid, tables-long}
 
 -- the rows that a row disturbs
 unfoldable pub victims-in : Settings → ℕ → List ℕ
@@ -29,10 +29,6 @@ ends-window s e = eqb e (s .window - 1)
 -- the events in the window after one more: 'e becomes 0 .. else e rises by 1'
 unfoldable pub next-event : Settings → ℕ → ℕ
 next-event s e = cond (ends-window s e) 0 (e + 1)
-
--- 8: 'a lent table is not C places long'
-unfoldable pub tables-long : Settings → List ℕ → List ℕ → Bool
-tables-long s rows counts = eqb (length rows) (s .counters) && eqb (length counts) (s .counters)
 
 -- the tests of each call, in their order, where N may be up to the most; 'setting up and each activation bring a fold', and each activation a hold: 15, 'a hold outside 1 to 16', 'right
 -- after 9', and 22 'when the units would carry a past T'

@@ -12,8 +12,8 @@ use Rattle.device.specs.Hold.{hold-allowed}
 use Rattle.device.specs.Claims.{Alike}
 use Rattle.summary.specs.Steps.{activation}
 use Rattle.summary.specs.Rules.{Room}
-use Rattle.tracker.specs.State.{State, summary-of, state-of, valid, most-count}
-use Rattle.tracker.specs.Calls.{victims-in, tables-long, kept-unless, Activation-call, set-up-to, activation-to, refresh-to, set-up, activation-on, refresh-on}
+use Rattle.state.specs.State.{State, summary-of, state-of, valid, most-count, tables-long}
+use Rattle.tracker.specs.Calls.{victims-in, kept-unless, Activation-call, set-up-to, activation-to, refresh-to, set-up, activation-on, refresh-on}
 
 -- every call answers and leaves what it would where N may be up to another most
 pub record Same-calls (most : ℕ) (s : Settings) : Type 0 where

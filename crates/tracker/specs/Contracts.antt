@@ -4,7 +4,7 @@ use mathlib.Core.List.{List, [], _∷_, _++_}
 use Rattle.device.specs.Acceptance.{most-rows, settings-tests}
 use Rattle.device.specs.Refusal.{Test, unless}
 use Rattle.device.specs.declared.Settings.{Settings}
-use Rattle.tracker.specs.Calls.{tables-long}
+use Rattle.state.specs.State.{tables-long}
 
 -- the tests that calls on lent tables begin with: the settings', then 8
 unfoldable pub tables-tests : Settings → List ℕ → List ℕ → List Test

@@ -1,5 +1,4 @@
--- The tracker: its state, its calls and their answers.
-pub mod State
+-- The tracker: its calls and their answers.
 pub mod Calls
 pub mod Answers
 pub mod Contracts

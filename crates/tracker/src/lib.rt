@@ -1,28 +1,18 @@
 // The tracker: set up, activation and refresh event, on tables and a position that the caller lends.
 // Every call refuses what document 01 refuses, in its order, and then leaves everything as it came.
 mod event;
-mod state;
 mod victims;
 
 use device::Settings;
-pub use state::position_in_range;
+pub use state::Position;
 use summary::Tally;
 ghost use mathlib.Core.Path.{_≡_};
-ghost use mathlib.Core.Bool.{_&&_};
 ghost use Prim.Native.Nat.{_≤_};
 ghost use Rattle.device.specs.Refusal.{first-failed};
-ghost use Rattle.tracker.specs.State.{valid};
-ghost use Rattle.tracker.specs.Calls.{next-event, tables-long, set-up-tests, activation-tests, refresh-tests, set-up, activation-on, refresh-on};
+ghost use Rattle.state.specs.State.{lent};
+ghost use Rattle.tracker.specs.Calls.{next-event, set-up-tests, activation-tests, refresh-tests, set-up, activation-on, refresh-on};
 ghost use Rattle.tracker.specs.Contracts.{tables-tests};
-ghost use Rattle.tracker.specs.Answers.{lent, set-up-left, activation-left, refresh-left, event-left};
-
-// Where a tracker stands: events so far in this window, activations since the last event, counted by their units, tracked rows, spillover.
-pub struct Position {
-    pub events: u32,
-    pub activations: u32,
-    pub tracked: u32,
-    pub spillover: u32,
-}
+ghost use Rattle.tracker.specs.Answers.{set-up-left, activation-left, refresh-left, event-left};
 
 // What setting up answers: the position to begin with, or the refusal.
 pub enum SetUp {
@@ -48,20 +38,6 @@ struct AfterEvent {
     position: Position,
 }
 
-// Whether both tables are as long as there are counters.
-pub fn tables_long(s: Settings, rows: &[u32], counts: &[u32]) -> bool
-    ensures { λ r. ⌜ r ≡ tables-long s (now (rows .entry)) (now (counts .entry)) ⌝ }
-{
-    rows.len() == s.counters as usize && counts.len() == s.counters as usize
-}
-
-// Whether tables and position may be a tracker's: both tables as long as there are counters, and no rule broken.
-pub fn valid_memory(s: Settings, rows: &[u32], counts: &[u32], p: Position) -> bool
-    ensures { λ r. ⌜ r ≡ (tables-long s (now (rows .entry)) (now (counts .entry)) && valid s (lent (rows .entry) (counts .entry) p)) ⌝ }
-{
-    tables_long(s, rows, counts) && state::valid_state(s, rows, counts, p)
-}
-
 // The refusal of settings and lent tables, or 0.
 fn tables_refusal(s: Settings, rows: &[u32], counts: &[u32]) -> u32
     ensures { λ r. ⌜ r ≡ first-failed (tables-tests s (now (rows .entry)) (now (counts .entry))) ⌝ }
@@ -70,7 +46,7 @@ fn tables_refusal(s: Settings, rows: &[u32], counts: &[u32]) -> u32
     if k != 0 {
         return k;
     }
-    device::refuse_unless(tables_long(s, rows, counts), 8, 0)
+    device::refuse_unless(state::tables_long(s, rows, counts), 8, 0)
 }
 
 // The refusal of setting up, or 0.

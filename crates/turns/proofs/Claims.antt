@@ -6,17 +6,17 @@ use Prim.Native.Nat.{ℕ, _+_, _*_, _≤_, _<_}
 use native.Mathlib.Omega.{arith}
 use lib.ListN.{length, take, drop, replicate, length-take, length-replicate}
 use lib.Seq.{take-at, take-take, take-length}
-use Rattle.trace.specs.Numbers.{written}
+use Rattle.columns.specs.Numbers.{written}
 use Rattle.trace.specs.Lines.{ended}
 use Rattle.trace.specs.Texts.{joined}
-use Rattle.trace.proofs.Output.{prints-long}
-use Rattle.listing.specs.Steps.{Progress, start}
+use Rattle.columns.proofs.Output.{prints-long}
+use Rattle.steps.specs.Steps.{Progress, start}
 use Rattle.listing.specs.Texts.{listing}
-use Rattle.listing.specs.Memory.{Memory, Represents, memory, start-place}
-use Rattle.listing.specs.Chunks.{next-number, last-line, line-room, chunk}
+use Rattle.steps.specs.Memory.{Memory, Represents, memory, start-place, next-number}
+use Rattle.listing.specs.Chunks.{last-line, line-room, chunk}
 use Rattle.listing.specs.Parts.{Printed, comes}
 use Rattle.listing.specs.Claims.{Parts-joined, Chunk-moves, End-moves}
-use Rattle.listing.proofs.Memory.Progress.{represents-start}
+use Rattle.steps.proofs.Memory.Progress.{represents-start}
 use Rattle.listing.proofs.Parts.Moves.{ended-kept, steady-chunk}
 use Rattle.listing.proofs.Chunks.Lines.{done-part}
 use Rattle.listing.proofs.Claims.{parts-joined, chunk-moves, end-moves}

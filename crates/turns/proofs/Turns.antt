@@ -6,13 +6,13 @@ use Prim.Native.Nat.{ℕ, _≤_}
 use native.Mathlib.Nat.{zero-add}
 use native.Mathlib.Omega.{arith}
 use lib.ListN.{length, take}
-use Rattle.trace.specs.Output.{Prints}
+use Rattle.columns.specs.Output.{Prints}
 use Rattle.aids.specs.Marks.{Marked}
 use Rattle.aids.specs.Bounds.{all-bounds}
-use Rattle.listing.specs.Memory.{Memory, Ready, start-place}
-use Rattle.listing.specs.Chunks.{next-number, Chunked, chunk, last-line}
-use Rattle.listing.proofs.Memory.Progress.{represents-start}
-use Rattle.listing.proofs.Memory.Zeros.{banked-start}
+use Rattle.steps.specs.Memory.{Memory, Ready, start-place, next-number}
+use Rattle.listing.specs.Chunks.{Chunked, chunk, last-line}
+use Rattle.steps.proofs.Memory.Progress.{represents-start}
+use Rattle.steps.proofs.Memory.Zeros.{banked-start}
 use Rattle.listing.proofs.Parts.Moves.{steady-chunk}
 use Rattle.listing.proofs.Chunks.LastLine.{length-last-line}
 use Rattle.input.specs.declared.Input.{Input}

@@ -3,9 +3,9 @@ use Prim.Native.Nat.{ℕ, _+_, _*_, _≤_, _<_}
 use mathlib.Core.Path.{_≡_}
 use mathlib.Core.List.{List, [], _∷_, _++_}
 use lib.ListN.{length}
-use Rattle.listing.specs.Steps.{start}
+use Rattle.steps.specs.Steps.{start}
 use Rattle.listing.specs.Texts.{listing}
-use Rattle.listing.specs.Memory.{memory, start-place}
+use Rattle.steps.specs.Memory.{memory, start-place}
 use Rattle.listing.specs.Chunks.{line-room}
 use Rattle.trace.specs.Texts.{joined}
 use Rattle.input.specs.Runs.{Whole}

@@ -5,7 +5,7 @@ use mathlib.Core.List.{List}
 use lib.ListN.{length}
 use denote.Ref.{now}
 use Rattle.laws.specs.Lent.{Slice}
-use Rattle.listing.specs.Memory.{memory, Ready, Banked}
+use Rattle.steps.specs.Memory.{memory, Ready, Banked}
 use Rattle.turns.specs.declared.Turn.{Turn}
 
 -- the tables are a listing's, and no more is kept or to be written than the buffers hold

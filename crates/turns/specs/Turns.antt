@@ -6,9 +6,9 @@ use mathlib.Core.List.{List, [], _∷_, _++_}
 use lib.ListN.{length, take, drop}
 use denote.Ref.{now}
 use Rattle.laws.specs.Lent.{Slice, Lent}
-use Rattle.trace.specs.Numbers.{written}
-use Rattle.listing.specs.Memory.{Memory, memory, memory-of, start-place}
-use Rattle.listing.specs.Chunks.{next-number, line-room, chunk, last-line}
+use Rattle.columns.specs.Numbers.{written}
+use Rattle.steps.specs.Memory.{Memory, memory, memory-of, start-place, next-number}
+use Rattle.listing.specs.Chunks.{line-room, chunk, last-line}
 use Rattle.input.specs.declared.Input.{Input}
 use Rattle.input.specs.declared.Input.the-variants.{Bytes, End, Failed}
 use Rattle.input.specs.AtHand.{Within, Came, brought}

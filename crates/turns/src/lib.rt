@@ -1,10 +1,10 @@
 // A read of a trace and what lies behind it: the bytes that came in are listed, up to the last line's end.
 use input::File;
 use input::Input;
-use listing::Place;
+use steps::Place;
 ghost use mathlib.Core.Path.{_≡_};
 ghost use mathlib.Core.Bool.{true, false};
-ghost use Rattle.listing.specs.Memory.{memory-of, start-place, Ready, Banked-in};
+ghost use Rattle.steps.specs.Memory.{memory-of, start-place, Ready, Banked-in};
 ghost use Rattle.turns.specs.Turns.{Readable, turn-from, turn-before, turn-left, Stepped};
 ghost use Rattle.turns.specs.Contracts.{Carried-in};
 

@@ -13,10 +13,10 @@ use Rattle.laws.proofs.Cases.{split, clash}
 use Rattle.device.specs.Refusal.{Outcome, refused, unless, refuse, first-failed}
 use Rattle.trace.specs.declared.Record.{Record}
 use Rattle.trace.specs.declared.Read.{Read}
-use Rattle.trace.specs.Numbers.{written}
-use Rattle.trace.specs.Spelling.{answer-spelling, spelling}
-use Rattle.trace.specs.Writing.{fault, standing-behind, first-fault-to, first-fault, room-fault, writing-fault-to, writing-by, writing-to, writing}
-use Rattle.trace.proofs.Writing.{writing-whole}
+use Rattle.columns.specs.Numbers.{written}
+use Rattle.canonical.specs.Spelling.{answer-spelling, spelling}
+use Rattle.canonical.specs.Writing.{fault, standing-behind, first-fault-to, first-fault, room-fault, writing-fault-to, writing-by, writing-to, writing}
+use Rattle.canonical.proofs.Writing.{writing-whole}
 use Rattle.writer.specs.declared.Survey.{Survey}
 use Rattle.spelling.proofs.StandingLaws.{standing-stood}
 use Rattle.spelling.specs.Answers.{standing-of}

@@ -10,8 +10,8 @@ use Rattle.device.specs.Refusal.{Outcome}
 use Rattle.trace.specs.declared.Record.{Record}
 use Rattle.trace.specs.declared.Read.{Read}
 use Rattle.trace.specs.Reading.{said}
-use Rattle.trace.specs.Spelling.{answer-spelling}
-use Rattle.trace.specs.Writing.{fault}
+use Rattle.canonical.specs.Spelling.{answer-spelling}
+use Rattle.canonical.specs.Writing.{fault}
 use Rattle.spelling.specs.declared.Standing.{Standing}
 use Rattle.spelling.specs.Answers.{standing-of, stood}
 use Rattle.writer.specs.Contracts.{standing-in, surveyed-by, surveyed, concluded-by, concluded}

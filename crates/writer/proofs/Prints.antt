@@ -7,11 +7,11 @@ use native.Mathlib.Numerals.{add-one}
 use native.Mathlib.Omega.{arith}
 use lib.ListN.{length, take, length-append}
 use Rattle.trace.specs.declared.Read.{Read}
-use Rattle.trace.specs.Numbers.{written}
-use Rattle.trace.specs.Output.{Prints}
+use Rattle.columns.specs.Numbers.{written}
+use Rattle.columns.specs.Output.{Prints}
 use Rattle.trace.specs.Reading.{said}
-use Rattle.trace.specs.Spelling.{answer-spelling, spelling}
-use Rattle.trace.proofs.Output.{prints-nothing, prints-long, prints-then}
+use Rattle.canonical.specs.Spelling.{answer-spelling, spelling}
+use Rattle.columns.proofs.Output.{prints-nothing, prints-long, prints-then}
 use Rattle.writer.specs.Answers.{outcome-of, outcomes-of}
 use Rattle.writer.proofs.Surveys.{answer-at}
 

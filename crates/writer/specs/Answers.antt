@@ -7,7 +7,7 @@ use Rattle.device.specs.Refusal.{Outcome, accepted, refused}
 use Rattle.trace.specs.declared.Record.{Record}
 use Rattle.trace.specs.declared.Read.{Read}
 use Rattle.trace.specs.Reading.{said}
-use Rattle.trace.specs.Writing.{Writing}
+use Rattle.canonical.specs.Writing.{Writing}
 use Rattle.writer.specs.declared.Written.{Written}
 use Rattle.writer.specs.declared.Written.the-variants.{Bytes, Refused}
 

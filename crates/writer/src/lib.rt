@@ -4,9 +4,9 @@ use trace::Read;
 ghost use mathlib.Core.Path.{_≡_};
 ghost use Prim.Native.Nat.{_≤_};
 ghost use lib.ListN.{length, take};
-ghost use Rattle.trace.specs.Numbers.{written};
-ghost use Rattle.trace.specs.Spelling.{spelling};
-ghost use Rattle.trace.specs.Writing.{writing};
+ghost use Rattle.columns.specs.Numbers.{written};
+ghost use Rattle.canonical.specs.Spelling.{spelling};
+ghost use Rattle.canonical.specs.Writing.{writing};
 ghost use Rattle.writer.specs.Answers.{outcomes-of, write-left};
 ghost use Rattle.writer.specs.Contracts.{survey-start, surveyed, surveys, records-due, concluded};
 

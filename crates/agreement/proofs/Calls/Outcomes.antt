@@ -8,7 +8,7 @@ use Rattle.laws.specs.Same.{same}
 use Rattle.device.specs.declared.Settings.{Settings}
 use Rattle.device.specs.Refusal.{first-failed, refused, accepted, tested}
 use Rattle.device.proofs.Refusal.{tested-failed}
-use Rattle.tracker.specs.State.{State, summary-of}
+use Rattle.state.specs.State.{State, summary-of}
 use Rattle.agreement.specs.Calls.{same-settings, same-position, same-tracked, agreement-tests, agreement-to, agreement-of, estimates-tests, estimates-to, estimates-of, same-estimates}
 
 module _ (s : Settings) (st : State) (s′ : Settings) (st′ : State) where

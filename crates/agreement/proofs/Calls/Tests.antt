@@ -15,9 +15,8 @@ use Rattle.device.proofs.Acceptance.{settings-then}
 use Rattle.summary.specs.Contracts.{Holds}
 use Rattle.summary.specs.Tables.{read}
 use Rattle.summary.proofs.Contracts.Holds.{long-rows, long-counts}
-use Rattle.tracker.specs.State.{State, summary-of, valid}
-use Rattle.tracker.specs.Calls.{tables-long}
-use Rattle.tracker.proofs.States.Valid.{Facts, valid-facts}
+use Rattle.state.specs.State.{State, summary-of, valid, tables-long}
+use Rattle.state.proofs.Valid.{Facts, valid-facts}
 use Rattle.agreement.specs.Calls.{agreement-tests-to, agreement-tests, estimates-tests-to, estimates-tests}
 use Rattle.agreement.specs.Contracts.{both-tables-tests}
 

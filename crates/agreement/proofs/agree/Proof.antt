@@ -5,7 +5,7 @@ use borrow.Author.Needs.{needs}
 use borrow.Author.Tests.{not-true, not-false}
 use Rattle.laws.specs.Same.{same}
 use Rattle.device.specs.Refusal.{first-failed}
-use Rattle.tracker.specs.Answers.{given}
+use Rattle.state.specs.State.{given}
 use Rattle.agreement.specs.Calls.{same-settings, same-position, same-tracked, agreement-tests}
 use Rattle.agreement.specs.Answers.{agreement-outcome}
 use Rattle.agreement.proofs.Calls.Tests.{agreement-passed, compared, tracked-rows, tracked-counts}

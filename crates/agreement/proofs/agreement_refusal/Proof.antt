@@ -6,7 +6,7 @@ use borrow.Author.Tests.{not-true, not-false}
 use Rattle.device.specs.Refusal.{refuse, first-failed}
 use Rattle.device.specs.Remap.{remap-allowed}
 use Rattle.device.proofs.Refusal.{or-later-first, or-later-zero}
-use Rattle.tracker.specs.Answers.{given}
+use Rattle.state.specs.State.{given}
 use Rattle.agreement.specs.Contracts.{both-tables-tests}
 use Rattle.agreement.proofs.Calls.Tests.{agreement-tested, tables-passed}
 use Rattle.agreement.proofs.agreement_refusal.Statement.{statement}

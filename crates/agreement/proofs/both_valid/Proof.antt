@@ -3,9 +3,7 @@ use mathlib.Core.Path.{_≡_, sym, _∙_, ap}
 use mathlib.Core.Bool.{Bool, true, _&&_}
 use borrow.Author.Needs.{needs}
 use Rattle.laws.proofs.Cases.{and-both}
-use Rattle.tracker.specs.State.{valid}
-use Rattle.tracker.specs.Calls.{tables-long}
-use Rattle.tracker.specs.Answers.{given}
+use Rattle.state.specs.State.{valid, tables-long, given}
 use Rattle.agreement.proofs.both_valid.Statement.{statement}
 use Rattle.agreement.proofs.both_valid.Tie as tie
 

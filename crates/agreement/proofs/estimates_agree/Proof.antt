@@ -1,8 +1,7 @@
 -- `agreement::estimates_agree` meets its contract.
 use mathlib.Core.Path.{_≡_, sym, _∙_}
 use borrow.Author.Needs.{needs}
-use Rattle.tracker.specs.State.{summary-of}
-use Rattle.tracker.specs.Answers.{given}
+use Rattle.state.specs.State.{summary-of, given}
 use Rattle.agreement.specs.Answers.{agreement-outcome}
 use Rattle.agreement.proofs.Calls.Tests.{estimates-passed, compared, holds-own-length}
 use Rattle.agreement.proofs.Calls.Outcomes.{estimates-refused, estimates-differ, estimates-alike}

@@ -3,7 +3,7 @@ use mathlib.Core.Path.{_≡_, sym, _∙_}
 use borrow.Author.Needs.{needs}
 use Rattle.device.specs.Refusal.{refuse, first-failed}
 use Rattle.device.proofs.Refusal.{or-later-first, or-later-zero}
-use Rattle.tracker.specs.Answers.{given}
+use Rattle.state.specs.State.{given}
 use Rattle.agreement.specs.Contracts.{both-tables-tests}
 use Rattle.agreement.proofs.Calls.Tests.{estimates-tested, tables-passed}
 use Rattle.agreement.proofs.estimates_refusal.Statement.{statement}

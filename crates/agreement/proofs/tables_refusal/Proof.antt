@@ -6,7 +6,7 @@ use borrow.Author.Tests.{not-true, not-false}
 use Rattle.device.specs.Refusal.{refuse, first-failed}
 use Rattle.device.specs.Acceptance.{settings-tests}
 use Rattle.device.proofs.Refusal.{or-later-first, or-later-zero}
-use Rattle.tracker.specs.Calls.{tables-long}
+use Rattle.state.specs.State.{tables-long}
 use Rattle.agreement.proofs.Calls.Tests.{both-tables-tested}
 use Rattle.agreement.proofs.tables_refusal.Statement.{statement}
 use Rattle.agreement.proofs.tables_refusal.Tie as tie

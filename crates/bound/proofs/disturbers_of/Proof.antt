@@ -1,5 +1,5 @@
 -- `bound::disturbers_of` meets its contract.
-use mathlib.Core.Path.{refl}
+use native.Mathlib.Omega.{arith}
 use borrow.Author.Needs.{needs}
 use Rattle.bound.specs.Totals.{disturbers}
 use Rattle.bound.proofs.disturbers_of.Statement.{statement}
@@ -7,7 +7,7 @@ use Rattle.bound.proofs.disturbers_of.Tie as tie
 
 returns : tie.Need-returns
 unfolding disturbers
-returns c = refl
+returns c = omega arith
 
 pub disturbers-of-spec : {M : Type 1} → statement M
 disturbers-of-spec =

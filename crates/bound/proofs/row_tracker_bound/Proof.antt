@@ -9,10 +9,7 @@ use Rattle.bound.proofs.row_tracker_bound.Statement.{statement}
 use Rattle.bound.proofs.row_tracker_bound.Tie as tie
 
 signed-number-requires : tie.Need-signed-number-requires
-unfolding settings-of
-signed-number-requires c κs =
-    let a = c .before .args in
-    rw (c .bound .ensures) (small-bound-answer (settings-of (a .rows) (a .blast-diameter) (a .volume) (a .counters) (a .interval) (a .window) (a .block)))
+signed-number-requires c κs = rw (c .bound .ensures) (small-bound-answer _)
 
 returns : tie.Need-returns
 unfolding settings-of

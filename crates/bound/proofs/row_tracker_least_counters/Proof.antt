@@ -9,10 +9,7 @@ use Rattle.bound.proofs.row_tracker_least_counters.Statement.{statement
 use Rattle.bound.proofs.row_tracker_least_counters.Tie as tie
 
 signed-number-requires : tie.Need-signed-number-requires
-unfolding settings-of
-signed-number-requires c κs =
-    let a = c .before .args in
-    rw (c .least-counters .ensures) (small-least-answer (settings-of (a .rows) (a .blast-diameter) (a .volume) 0 (a .interval) (a .window) (a .block)) (a .threshold))
+signed-number-requires c κs = rw (c .least-counters .ensures) (small-least-answer _ _)
 
 returns : tie.Need-returns
 unfolding settings-of

@@ -4,7 +4,7 @@ use mathlib.Core.List.{List}
 use Prim.Native.Nat.{ℕ}
 use borrow.Author.Needs.{needs}
 use lib.ListN.{replicate}
-use Rattle.listing.proofs.Memory.Zeros.{zeros-marked}
+use Rattle.steps.proofs.Memory.Zeros.{zeros-marked}
 use Rattle.checker.proofs.check.Statement.{statement}
 use Rattle.checker.proofs.check.Tie as tie
 

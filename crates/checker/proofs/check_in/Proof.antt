@@ -9,8 +9,8 @@ use borrow.Author.Tests.{not-true, not-false}
 use lib.ListN.{length, drop}
 use Rattle.trace.specs.Lines.{ended}
 use Rattle.laws.proofs.Cases.{split, clash}
-use Rattle.listing.specs.Memory.{Memory, memory, Banked}
-use Rattle.listing.proofs.Memory.Zeros.{banked-start}
+use Rattle.steps.specs.Memory.{Memory, memory, Banked}
+use Rattle.steps.proofs.Memory.Zeros.{banked-start}
 use Rattle.checker.specs.declared.Checking.{Checking}
 use Rattle.checker.specs.Comparison.{verdict-of}
 use Rattle.checker.specs.Contracts.{Reaches, Onward}
@@ -76,7 +76,7 @@ same-length-3 c = c .before .before .before .before .loop .inv .banked .bounds-l
 
 returns : tie.Need-returns Inv-loop μ-loop
 unfolding verdict-of
-returns c = reached-departs (c .before .before .before .before .loop .inv .reaches) (not-true _ (c .before .if1 .taken))
+returns c = reached-departs (c .before .before .before .before .loop .inv .reaches) _ (not-true _ (c .before .if1 .taken)) (omega arith)
 
 check-rest-requires : tie.Need-check-rest-requires Inv-loop μ-loop
 check-rest-requires c κs =

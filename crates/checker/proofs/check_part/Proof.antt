@@ -57,7 +57,7 @@ returns-2 c =
     let a = c .before .before .before .before .before .before .before .before .before .before .before .before .before .before .before .before .before .before .before .before .before .before .before .before .before .before in
     let cut = cut-part _ _ (a .pre .0 .represents) (rw (rest-all (a .args .trace .now) (a .args .k .taken)) at (c .before .before .before .before .before .before .before .before .before .before .before .before .before .before .list-part .ensures .0)) in
     let e = rw (sub-zero (c .before .before .before .before .before .before .before .before .before .before .before .before .before .before .list-part .result .end)) at (c .before .before .before .compare .ensures) in
-    ((part-passes (a .pre .0) (a .pre .2) cut _ _ e _ (not-false _ (c .before .if1 .left)), passes-onward (a .pre .0) (a .pre .2) cut _ _ e refl), c .before .before .before .before .before .before .before .before .before .before .before .before .before .before .list-part .ensures .1)
+    ((part-passes (a .pre .0) (a .pre .2) cut _ _ e _ (not-false _ (c .before .if1 .left)), passes-onward (a .pre .0) (a .pre .2) cut _ _ e _ refl (omega arith) (omega arith)), c .before .before .before .before .before .before .before .before .before .before .before .before .before .before .list-part .ensures .1)
 
 pub check-part-spec : {M : Type 1} → statement M
 check-part-spec =

@@ -4,7 +4,7 @@ use native.Mathlib.Omega.{arith}
 use borrow.Author.Needs.{needs}
 use borrow.Author.Tests.{not-true, not-false}
 use Rattle.checker.specs.Comparison.{verdict-of}
-use Rattle.checker.proofs.Checks.{last-most, last-off, last-surplus, last-passes, rest-all}
+use Rattle.checker.proofs.Checks.{last-most, last-off, last-surplus, last-fits, last-passes, rest-all}
 use Rattle.checker.proofs.check_rest.Statement.{statement}
 use Rattle.checker.proofs.check_rest.Tie as tie
 
@@ -20,7 +20,7 @@ returns c =
     let a = c .before .before .before .before .before .before .before .before .before .before .before .before .before in
     let p = rw (rest-all (a .args .trace .now) (a .args .k .taken)) at (c .before .before .before .before .before .before .before .list-end .ensures) in
     let e = rw (sub-zero (c .before .before .before .before .before .before .before .list-end .result)) at (c .before .before .before .compare .ensures) in
-    last-off (a .args .k .lines) p (a .args .given .now) (a .args .k .passed) e (not-true _ (c .if1 .taken))
+    last-off (a .args .k .lines) p (a .args .given .now) (a .args .k .passed) e _ (not-true _ (c .if1 .taken)) (omega arith)
 
 returns-2 : tie.Need-returns-2
 unfolding verdict-of
@@ -28,7 +28,7 @@ returns-2 c =
     let a = c .before .before .before .before .before .before .before .before .before .before .before .before .before .before in
     let p = rw (rest-all (a .args .trace .now) (a .args .k .taken)) at (c .before .before .before .before .before .before .before .before .list-end .ensures) in
     let e = rw (sub-zero (c .before .before .before .before .before .before .before .before .list-end .result)) at (c .before .before .before .before .compare .ensures) in
-    last-surplus (a .args .k .lines) p (a .args .given .now) (a .args .k .passed) e (not-false _ (c .before .if1 .left)) (c .if2 .taken)
+    last-surplus (a .args .k .lines) p (a .args .given .now) (a .args .k .passed) e _ (not-false _ (c .before .if1 .left)) (λ same. omega (arith, same, c .if2 .taken)) (omega arith)
 
 returns-3 : tie.Need-returns-3
 unfolding verdict-of
@@ -36,7 +36,8 @@ returns-3 c =
     let a = c .before .before .before .before .before .before .before .before .before .before .before .before .before .before in
     let p = rw (rest-all (a .args .trace .now) (a .args .k .taken)) at (c .before .before .before .before .before .before .before .before .list-end .ensures) in
     let e = rw (sub-zero (c .before .before .before .before .before .before .before .before .list-end .result)) at (c .before .before .before .before .compare .ensures) in
-    last-passes (a .args .k .lines) p (a .args .given .now) (a .args .k .passed) e (not-false _ (c .before .if1 .left)) (c .if2 .left)
+    let all = not-false _ (c .before .if1 .left) in
+    last-passes (a .args .k .lines) p (a .args .given .now) (a .args .k .passed) e all (omega (arith, c .if2 .left, last-fits (a .args .k .lines) p (a .args .given .now) (a .args .k .passed) e all))
 
 pub check-rest-spec : {M : Type 1} → statement M
 check-rest-spec =

@@ -79,7 +79,7 @@ returns-2 : tie.Need-returns-2 Inv-loop μ-loop
 returns-2 c =
     let l = c .before .before .before .before .before .loop .inv in
     let h = c .before .before .before .before .loop-test .taken in
-    differs l h (before-end l h (c .before .before .before .if1 .left)) (c .if2 .taken)
+    differs l h (before-end l h (c .before .before .before .if1 .left)) (λ same. omega (arith, same, c .if2 .taken))
 
 cast-ended : tie.Need-cast-ended Inv-loop μ-loop
 cast-ended c = tt
@@ -106,7 +106,7 @@ loop-again : tie.Need-loop-again Inv-loop μ-loop
 loop-again c =
     let l = c .before .before .before .before .before .loop .inv in
     let h = c .before .before .before .before .loop-test .taken in
-    next l h (before-end l h (c .before .before .before .if1 .left)) (c .if2 .left)
+    next l h (before-end l h (c .before .before .before .if1 .left)) (omega (arith, c .if2 .left))
 
 returns-3 : tie.Need-returns-3 Inv-loop μ-loop
 returns-3 c = whole (c .before .loop .inv) (c .loop-test .left)

@@ -1,6 +1,6 @@
 -- `checker::stands_at` meets its contract. The invariant: so far the bytes are the same, if alike says so.
 use mathlib.Core.Path.{_≡_, refl, sym, _∙_}
-use mathlib.Core.Bool.{Bool, true, _&&_}
+use mathlib.Core.Bool.{Bool, true}
 use mathlib.Core.List.{List}
 use Prim.Native.Nat.{ℕ, _+_, _-_, _≤_, _<_}
 use native.Mathlib.Numerals.{add-one}
@@ -9,7 +9,7 @@ use borrow.Author.Tests.{eqb-true}
 use lib.Dec.{eqb}
 use lib.ListN.{length, getD, take, drop, length-drop}
 use lib.Seq.{take-suc, take-all, getD-drop}
-use Rattle.laws.proofs.Cases.{clash, and-both}
+use Rattle.laws.proofs.Cases.{split, clash}
 use Rattle.checker.specs.Contracts.{Stands-at}
 use Rattle.checker.proofs.stands_at.Statement.{statement}
 use Rattle.checker.proofs.stands_at.Tie as tie
@@ -18,14 +18,13 @@ record So-far (required given : List ℕ) (from : ℕ) (alike : Bool) (i : ℕ) 
   within : i ≤ length required
   same : alike ≡ true → take i required ≡ take i (drop from given)
 
-so-far-next : {required given : List ℕ} {from : ℕ} {alike : Bool} {i : ℕ} → So-far required given from alike i → i < length required → from + i < length given → So-far required given from (alike && eqb (getD required i 0) (getD given (from + i) 0)) (i + 1)
-so-far-next {required} {given} {from} {alike} {i} s h inside =
+so-far-next : {required given : List ℕ} {from : ℕ} {alike alike′ : Bool} {i : ℕ} → So-far required given from alike i → i < length required → from + i < length given → (alike′ ≡ true → (alike ≡ true) × (eqb (getD required i 0) (getD given (from + i) 0) ≡ true)) → So-far required given from alike′ (i + 1)
+so-far-next {required} {given} {from} {alike} {alike′} {i} s h inside tells =
     record {
       within = omega arith;
       same = λ on.
-          let both = and-both alike (eqb (getD required i 0) (getD given (from + i) 0)) on in
-          let byte : getD required i 0 ≡ getD (drop from given) i 0 = eqb-true (getD required i 0) (getD given (from + i) 0) (both .1) ∙ sym (getD-drop from given i 0) in
-          rw (add-one i) (take-suc required i 0 h ∙ rw (s .same (both .0), byte) (sym (take-suc (drop from given) i 0 (omega (arith, length-drop from given)))));
+          let byte : getD required i 0 ≡ getD (drop from given) i 0 = eqb-true (getD required i 0) (getD given (from + i) 0) (tells on .1) ∙ sym (getD-drop from given i 0) in
+          rw (add-one i) (take-suc required i 0 h ∙ rw (s .same (tells on .0), byte) (sym (take-suc (drop from given) i 0 (omega (arith, length-drop from given)))));
     }
 
 so-far-all : {required given : List ℕ} {from : ℕ} {alike : Bool} {i : ℕ} → So-far required given from alike i → length required ≤ i → alike ≡ true → length required ≤ 1000000000 → length required ≤ length (drop from given) → Stands-at required (drop from given)
@@ -71,7 +70,14 @@ loop-less : tie.Need-loop-less Inv-loop μ-loop
 loop-less c = omega arith
 
 loop-again : tie.Need-loop-again Inv-loop μ-loop
-loop-again c = so-far-next (c .before .before .before .loop .inv) (c .before .before .loop-test .taken) (omega (arith, c .before .before .loop-test .taken, c .before .before .before .before .if2 .left, c .before .before .before .before .before .before .pre))
+loop-again c =
+    let l = c .before .before .before .loop in
+    let a = c .before .before .before .before .before .before .args in
+    so-far-next (c .before .before .before .loop .inv) (c .before .before .loop-test .taken) (omega (arith, c .before .before .loop-test .taken, c .before .before .before .before .if2 .left, c .before .before .before .before .before .before .pre))
+    (λ on.
+    split (l .alike)
+    (λ so. split (eqb (getD (a .required .now) (l .i) 0) (getD (a .given .now) (a .from + l .i) 0)) (λ byte. (so, byte)) (λ other. clash (sym (rw (other, so) at on))))
+    (λ not-so. clash (sym (rw not-so at on))))
 
 returns-3 : tie.Need-returns-3 Inv-loop μ-loop
 returns-3 c =

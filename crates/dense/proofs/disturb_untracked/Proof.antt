@@ -11,7 +11,7 @@ returns c =
     let a = c .before .before .before .before .before .before .before .before .before .before .before .before .before in
     let p = a .pre in
     let enter = c .before .before .before .before .before .enter in
-    enter-free (p .0) (p .1) (p .2) (p .3) (p .4) (a .args .counters) (c .before .before .before .before .before .before .before .before .before .if1 .taken) (enter .ensures .0) (enter .ensures .1)
+    enter-free (p .0) (p .1) (p .2) (p .3) (p .4) (a .args .counters) (omega (arith, c .before .before .before .before .before .before .before .before .before .if1 .taken)) (enter .ensures .0) (enter .ensures .1)
 
 returns-2 : tie.Need-returns-2
 returns-2 c =

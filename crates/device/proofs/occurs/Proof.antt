@@ -27,10 +27,10 @@ module _ (found : Bool) (i k : ℕ) (v : List ℕ) (inv : (found || occurs-in i 
   found-in-all none = sym (or-false found) ∙ sym (ap (λ (b : Bool). found || b) (occurs-nowhere i k v none)) ∙ inv
 
 loop-again : tie.Need-loop-again Inv-loop μ-loop
-loop-again c = let at = c .before .before .loop in (omega arith, found-here (at .found) (at .i) _ _ (at .inv .1) (c .if1 .taken) (omega arith))
+loop-again c = let at = c .before .before .loop in (omega arith, found-here (at .found) (at .i) _ _ (at .inv .1) (omega arith) (omega arith))
 
 loop-again-2 : tie.Need-loop-again-2 Inv-loop μ-loop
-loop-again-2 c = let at = c .before .before .loop in (omega arith, found-before (at .found) (at .i) _ _ (at .inv .1) (c .if1 .left) (omega arith))
+loop-again-2 c = let at = c .before .before .loop in (omega arith, found-before (at .found) (at .i) _ _ (at .inv .1) (λ e. omega arith) (omega arith))
 
 returns : tie.Need-returns Inv-loop μ-loop
 returns c = let at = c .before .loop in found-in-all (at .found) (at .i) _ _ (at .inv .1) (omega arith)

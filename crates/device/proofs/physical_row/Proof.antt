@@ -1,5 +1,4 @@
 -- `device::physical_row` meets its contract. The sum fits: the quotient's multiple of 16 leaves room for an entry of an accepted remap.
-use mathlib.Core.Path.{refl}
 use Prim.Native.Nat.{_%_}
 use native.Mathlib.Nat.{mod-lt}
 use native.Mathlib.Omega.{arith}
@@ -15,7 +14,7 @@ add-result c = omega (arith, entry-below (c .args .t1) (c .pre) (c .args .row % 
 
 returns : tie.Need-returns
 unfolding physical
-returns c = refl
+returns c = omega arith
 
 pub physical-row-spec : {M : Type 1} → statement M
 physical-row-spec = tie.close (tie.spec (λ c. search needs) (λ c. search needs) (λ c. search needs) (λ c. search needs) add-result returns)

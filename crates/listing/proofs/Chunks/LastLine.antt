@@ -9,13 +9,13 @@ use borrow.Author.Tests.{lt-ltb, le-ltb}
 use lib.ListN.{length}
 use Rattle.laws.proofs.Cases.{le-or-lt}
 use Rattle.trace.specs.Lines.{ended}
-use Rattle.trace.specs.Output.{refusal-line}
-use Rattle.listing.specs.Steps.{Progress, refused-step, line-step-to, step-to}
+use Rattle.columns.specs.Output.{refusal-line}
+use Rattle.steps.specs.Steps.{Progress, refused-step, line-step-to, step-to}
 use Rattle.trace.specs.Texts.{lines}
 use Rattle.listing.specs.Texts.{listed-to, listing-to, listing}
-use Rattle.listing.specs.Memory.{Memory, Represents}
-use Rattle.listing.specs.Chunks.{next-number, last-line}
-use Rattle.trace.proofs.Output.{counted-on, refusal-alike, length-refusal-line}
+use Rattle.steps.specs.Memory.{Memory, Represents, next-number}
+use Rattle.listing.specs.Chunks.{last-line}
+use Rattle.columns.proofs.Output.{counted-on, refusal-alike, length-refusal-line}
 use Rattle.trace.proofs.Texts.FirstLine.{outcomes-none, outcomes-unended}
 
 none-listed : (g : Progress) (text : List ℕ) → length text ≡ 0 → listing g text ≡ []

@@ -11,19 +11,19 @@ use lib.Seq.{drop-drop, length-take-le}
 use Rattle.device.specs.Refusal.{Outcome}
 use Rattle.laws.proofs.Cases.{split, clash, zero-one}
 use Rattle.trace.specs.declared.Record.{Record}
-use Rattle.trace.specs.Numbers.{written}
+use Rattle.columns.specs.Numbers.{written}
 use Rattle.trace.specs.Lines.{ended, extent}
 use Rattle.trace.specs.Reading.{reading, reading-by}
-use Rattle.trace.specs.Output.{Prints}
-use Rattle.listing.specs.Steps.{Progress}
+use Rattle.columns.specs.Output.{Prints}
+use Rattle.steps.specs.Steps.{Progress}
 use Rattle.trace.specs.Texts.{whole, read, outcomes, lines}
 use Rattle.listing.specs.Texts.{listed-to, passed, listing-to, listing, after}
-use Rattle.listing.specs.Memory.{Memory, Represents}
-use Rattle.listing.specs.Chunks.{next-number, step-in, Going, gone, takes, going, part}
+use Rattle.steps.specs.Memory.{Memory, Represents, next-number, step-in}
+use Rattle.listing.specs.Chunks.{Going, gone, takes, going, part}
 use Rattle.trace.proofs.Texts.FirstLine.{lines-front, extent-within, ended-first, read-front}
-use Rattle.trace.proofs.Output.{prints-nothing, prints-long, prints-then}
-use Rattle.listing.proofs.Memory.Progress.{step-represented, represents-next}
-use Rattle.listing.proofs.Steps.Lengths.{length-step-le, length-step-line}
+use Rattle.columns.proofs.Output.{prints-nothing, prints-long, prints-then}
+use Rattle.steps.proofs.Memory.Progress.{step-represented, represents-next}
+use Rattle.steps.proofs.Steps.Lengths.{length-step-le, length-step-line}
 use Rattle.trace.proofs.Texts.NextLine.{place-within, whole-on}
 use Rattle.listing.proofs.Texts.{listing-on, after-on}
 

@@ -10,15 +10,16 @@ use lib.ListN.{length, drop, length-drop, drop-of-length-le}
 use Rattle.laws.proofs.Cases.{split}
 use Rattle.trace.specs.Lines.{ended, extent}
 use Rattle.trace.specs.Reading.{reading}
-use Rattle.listing.specs.declared.Place.{Place}
+use Rattle.steps.specs.declared.Place.{Place}
 use Rattle.trace.specs.Texts.{lines}
-use Rattle.listing.specs.Steps.{loaded-behind}
-use Rattle.listing.specs.Memory.{Memory, memory, Ready}
-use Rattle.listing.specs.Contracts.{Leaves, Runs-on}
-use Rattle.listing.specs.Chunks.{next-number, step-in, next-in, Going, gone, takes, going}
+use Rattle.steps.specs.Steps.{loaded-behind}
+use Rattle.steps.specs.Memory.{Memory, memory, Ready, next-number, step-in, next-in}
+use Rattle.steps.specs.Contracts.{Leaves}
+use Rattle.listing.specs.Contracts.{Runs-on}
+use Rattle.listing.specs.Chunks.{Going, gone, takes, going}
 use Rattle.trace.proofs.Texts.FirstLine.{lines-front, ended-first}
-use Rattle.trace.proofs.Output.{prints-long}
-use Rattle.listing.proofs.Memory.Progress.{ready-next}
+use Rattle.columns.proofs.Output.{prints-long}
+use Rattle.steps.proofs.Memory.Progress.{ready-next}
 use Rattle.listing.proofs.Chunks.Lines.{first, first-end, first-says, behind-first}
 
 -- how far the loop's variables say that it has come

@@ -17,15 +17,15 @@ use Rattle.dense.specs.Dense.{dense}
 use Rattle.dense.specs.Contracts.{Turned}
 use Rattle.trace.specs.declared.Record.the-variants.{Activate}
 use Rattle.trace.specs.Reading.{Reading, reading}
-use Rattle.trace.proofs.Output.{prints-nothing}
+use Rattle.columns.proofs.Output.{prints-nothing}
 use Rattle.trace.proofs.Reading.Activations.{Activates}
-use Rattle.listing.specs.declared.Place.{Place}
-use Rattle.listing.specs.Steps.{line-step-to, loaded-behind}
-use Rattle.listing.specs.Memory.{Memory, memory, Ready, Banked}
-use Rattle.listing.specs.Chunks.{next-number, step-in, next-in}
-use Rattle.listing.specs.Contracts.{moved, activation-refusal, numbers-on, Leaves, Runs-on}
-use Rattle.listing.proofs.Memory.Progress.{ready-next}
-use Rattle.listing.proofs.Steps.CallLines.{banked-moved, activation-prints, activation-moves}
+use Rattle.steps.specs.declared.Place.{Place}
+use Rattle.steps.specs.Steps.{line-step-to, loaded-behind}
+use Rattle.steps.specs.Memory.{Memory, memory, Ready, Banked, next-number, step-in, next-in}
+use Rattle.steps.specs.Contracts.{moved, activation-refusal, Leaves}
+use Rattle.listing.specs.Contracts.{numbers-on, Runs-on}
+use Rattle.steps.proofs.Memory.Progress.{ready-next}
+use Rattle.steps.proofs.Steps.CallLines.{banked-moved, activation-prints, activation-moves}
 use Rattle.listing.proofs.Chunks.PartLoop.{come, going-on}
 
 pub runs-none : (text : List ℕ) {m : Memory} (from : ℕ) → Ready m → from ≤ length text → Runs-on text m from m from

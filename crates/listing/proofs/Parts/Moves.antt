@@ -7,14 +7,14 @@ use native.Mathlib.Omega.{arith}
 use lib.ListN.{length, take, drop, length-take, length-drop, take-append-drop}
 use lib.Seq.{take-at, length-take-le}
 use Rattle.trace.specs.Lines.{ended}
-use Rattle.trace.proofs.Output.{take-printed}
-use Rattle.listing.specs.Steps.{Progress}
+use Rattle.columns.proofs.Output.{take-printed}
+use Rattle.steps.specs.Steps.{Progress}
 use Rattle.listing.specs.Texts.{after}
-use Rattle.listing.specs.Memory.{Memory, Ready, Represents}
+use Rattle.steps.specs.Memory.{Memory, Ready, Represents}
 use Rattle.trace.specs.Texts.{most-kept, kept-bytes}
 use Rattle.listing.specs.Chunks.{Going, part, Chunked, chunk}
 use Rattle.listing.specs.Parts.{Printed, lists, ends}
-use Rattle.listing.proofs.Memory.Progress.{represents-memory}
+use Rattle.steps.proofs.Memory.Progress.{represents-memory}
 use Rattle.listing.proofs.Chunks.Lines.{Taken, done-part, all-taken}
 use Rattle.trace.proofs.Texts.Cuts.{ended-less}
 

@@ -1,7 +1,7 @@
 -- `listing::list_chunk` meets its contract.
 use native.Mathlib.Nat.{sub-zero}
 use borrow.Author.Needs.{needs}
-use Rattle.listing.specs.Memory.{memory}
+use Rattle.steps.specs.Memory.{memory}
 use Rattle.listing.proofs.Parts.Moves.{chunk-parts}
 use Rattle.listing.proofs.list_chunk.Statement.{statement}
 use Rattle.listing.proofs.list_chunk.Tie as tie

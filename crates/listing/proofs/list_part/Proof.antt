@@ -6,7 +6,7 @@ use borrow.Author.Needs.{needs}
 use borrow.Author.Tests.{leb-true, leb-false}
 use lib.ListN.{length}
 use Rattle.trace.specs.Reading.{Reading}
-use Rattle.listing.specs.Memory.{Banked}
+use Rattle.steps.specs.Memory.{Banked}
 use Rattle.listing.specs.Chunks.{part}
 use Rattle.trace.proofs.Texts.NextLine.{place-within, ends-with, ends-without}
 use Rattle.listing.proofs.Chunks.PartLoop.{come, Turning, turning-start, turning-run, turning-step, going-unended, going-short, going-end}
@@ -35,7 +35,7 @@ run-activations-requires c κs =
 ran : (c : tie.Then2 Inv-loop μ-loop) → Turning (c .before .before .before .before .before .before .before .before .before .before .before .before .before .before .before .before .before .before .before .before .args .text .now) (come (c .before .before .before .before .before .before .before .before .before .before .before .before .before .before .before .before .before .before .before .before .args .p) (c .before .before .before .before .before .before .before .before .before .before .before .before .before .before .before .before .before .before .before .before .args .counts .now) (c .before .before .before .before .before .before .before .before .before .before .before .before .before .before .before .before .before .before .before .before .args .out .now) 0 0) (come (c .before .before .before .before .before .before .before .before .run-activations .result .place) (c .before .before .before .before .before .before .before .before .run-activations .last .1 .0) (c .before .before .before .before .before .before .before .before .before .before .before .before .before .before .loop .out) (c .before .before .before .before .before .before .before .before .run-activations .result .taken) (c .before .before .before .before .before .before .before .before .before .before .before .before .before .before .loop .end))
 ran c =
     let l = c .before .before .before .before .before .before .before .before .before .before .before .before .before .before .loop in
-    turning-run (l .inv .0) (c .before .before .before .before .before .before .before .before .run-activations .ensures .0) (omega (arith, l .inv .0 .fits, leb-true 200 (length (l .out) - l .end) (c .before .before .before .before .before .before .before .before .before .before .before .before .if1 .taken)))
+    turning-run (l .inv .0) (c .before .before .before .before .before .before .before .before .run-activations .ensures .0) (omega (arith, l .inv .0 .fits, leb-true _ (length (l .out) - l .end) (c .before .before .before .before .before .before .before .before .before .before .before .before .if1 .taken)))
 
 returns : tie.Need-returns Inv-loop μ-loop
 unfolding part
@@ -44,7 +44,7 @@ returns c = (going-end (ran c) (omega (arith, c .if2 .taken)), c .before .before
 room : (c : tie.Else2 Inv-loop μ-loop) → c .before .before .before .before .before .before .before .before .before .before .before .before .before .before .loop .end + 200 ≤ length (c .before .before .before .before .before .before .before .before .before .before .before .before .before .before .loop .out)
 room c =
     let l = c .before .before .before .before .before .before .before .before .before .before .before .before .before .before .loop in
-    omega (arith, l .inv .0 .fits, leb-true 200 (length (l .out) - l .end) (c .before .before .before .before .before .before .before .before .before .before .before .before .if1 .taken))
+    omega (arith, l .inv .0 .fits, leb-true _ (length (l .out) - l .end) (c .before .before .before .before .before .before .before .before .before .before .before .before .if1 .taken))
 
 -- and where one is
 ran-on : (c : tie.Else2 Inv-loop μ-loop) → Turning (c .before .before .before .before .before .before .before .before .before .before .before .before .before .before .before .before .before .before .before .before .args .text .now) (come (c .before .before .before .before .before .before .before .before .before .before .before .before .before .before .before .before .before .before .before .before .args .p) (c .before .before .before .before .before .before .before .before .before .before .before .before .before .before .before .before .before .before .before .before .args .counts .now) (c .before .before .before .before .before .before .before .before .before .before .before .before .before .before .before .before .before .before .before .before .args .out .now) 0 0) (come (c .before .before .before .before .before .before .before .before .run-activations .result .place) (c .before .before .before .before .before .before .before .before .run-activations .last .1 .0) (c .before .before .before .before .before .before .before .before .before .before .before .before .before .before .loop .out) (c .before .before .before .before .before .before .before .before .run-activations .result .taken) (c .before .before .before .before .before .before .before .before .before .before .before .before .before .before .loop .end))
@@ -72,7 +72,7 @@ unfolding part
 returns-2 c =
     let e = c .before .before .before .before in
     let at = c .before .before .place-behind .ensures ∙ ap (λ (r : Reading). r .place) (c .before .before .before .read-line .ensures) in
-    (going-unended (ran-on e) (left-over e) (ends-without _ _ _ at (left-over e) (c .if3 .taken)), e .before .before .before .before .before .before .before .before .run-activations .ensures .1)
+    (going-unended (ran-on e) (left-over e) (ends-without _ _ _ at (left-over e) (λ ten. omega (arith, ten, c .if3 .taken))), e .before .before .before .before .before .before .before .before .run-activations .ensures .1)
 
 list-line-requires : tie.Need-list-line-requires Inv-loop μ-loop
 list-line-requires c κs =
@@ -94,7 +94,7 @@ loop-again c =
     let read-line = c .before .before .before .before .before .before .before .before .before .before .before .before .before .before .before .before .before .read-line in
     let at = c .before .before .before .before .before .before .before .before .before .before .before .before .before .before .before .before .place-behind .ensures ∙ ap (λ (r : Reading). r .place) (read-line .ensures) in
     let line = c .before .before .before .before .before .before .before .before .before .list-line in (
-      rw at (turning-step (ran-on e) (left-over e) (ends-with _ _ _ at (left-over e) (c .before .before .before .before .before .before .before .before .before .before .before .before .before .before .if3 .left)) (room e) (rw (read-line .ensures) at (line .ensures .0))),
+      rw at (turning-step (ran-on e) (left-over e) (ends-with _ _ _ at (left-over e) (omega (arith, c .before .before .before .before .before .before .before .before .before .before .before .before .before .before .if3 .left))) (room e) (rw (read-line .ensures) at (line .ensures .0))),
       line .ensures .1,
     )
 
@@ -102,7 +102,7 @@ returns-3 : tie.Need-returns-3 Inv-loop μ-loop
 unfolding part
 returns-3 c =
     let l = c .before .before .loop in
-    let short : length (l .out) < l .end + 200 = omega (arith, l .inv .0 .fits, leb-false 200 (length (l .out) - l .end) (c .if1 .left)) in
+    let short : length (l .out) < l .end + 200 = omega (arith, l .inv .0 .fits, leb-false _ (length (l .out) - l .end) (c .if1 .left)) in
     (going-short (l .inv .0) (c .before .loop-test .taken) short, l .inv .1)
 
 returns-4 : tie.Need-returns-4 Inv-loop μ-loop

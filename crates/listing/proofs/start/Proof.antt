@@ -1,6 +1,6 @@
 -- `listing::start` meets its contract.
 use borrow.Author.Needs.{needs}
-use Rattle.listing.specs.Memory.{start-place}
+use Rattle.steps.specs.Memory.{start-place}
 use Rattle.listing.proofs.start.Statement.{statement}
 use Rattle.listing.proofs.start.Tie as tie
 

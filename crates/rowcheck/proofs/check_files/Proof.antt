@@ -1,7 +1,7 @@
 -- `rowcheck::check_files` meets its contract: its tables track nothing at first.
 use mathlib.Core.Path.{refl}
 use borrow.Author.Needs.{needs}
-use Rattle.listing.proofs.Memory.Zeros.{zeros-marked}
+use Rattle.steps.proofs.Memory.Zeros.{zeros-marked}
 use Rattle.rowcheck.proofs.check_files.Statement.{statement}
 use Rattle.rowcheck.proofs.check_files.Tie as tie
 

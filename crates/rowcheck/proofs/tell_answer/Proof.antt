@@ -3,7 +3,7 @@ use mathlib.Core.Path.{sym}
 use native.Mathlib.Omega.{arith}
 use borrow.Author.Needs.{needs}
 use lib.Seq.{length-take-le}
-use Rattle.trace.proofs.Output.{prints-long}
+use Rattle.columns.proofs.Output.{prints-long}
 use Rattle.rowcheck.proofs.Lines.{line-none, line-some}
 use Rattle.rowcheck.proofs.tell_answer.Statement.{statement}
 use Rattle.rowcheck.proofs.tell_answer.Tie as tie

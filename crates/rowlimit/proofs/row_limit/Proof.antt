@@ -1,5 +1,6 @@
 -- `rowlimit::row_limit` meets its contract.
 use mathlib.Core.Path.{_≡_, sym, _∙_, ap}
+use native.Mathlib.Omega.{arith}
 use borrow.Author.Needs.{needs}
 use Rattle.device.specs.Refusal.{first-failed, accepted as accepted-with, refused}
 use Rattle.device.specs.Remap.{physical}
@@ -21,14 +22,9 @@ physical-row-requires c κs =
 figure-requires : tie.Need-figure-requires
 figure-requires c κs =
     let a = c .before .before .before .args in
-    let o = row-limit-passed (a .s) (a .remap) (a .row) (a .p) (sym (c .before .before .row-limit-refusal .ensures) ∙ c .before .if1 .taken) in (
-      o .settled,
-      (
-        o .early,
-        rw (c .physical-row .ensures)
-            (physical-below (a .remap) (o .allowed) (a .s .rows) (a .row) (accepted-settings (a .s) (o .settled) .others .rows-whole) (o .inside)),
-      ),
-    )
+    let o = row-limit-passed (a .s) (a .remap) (a .row) (a .p) (sym (c .before .before .row-limit-refusal .ensures) ∙ c .before .if1 .taken) in
+    let below = physical-below (a .remap) (o .allowed) (a .s .rows) (a .row) (accepted-settings (a .s) (o .settled) .others .rows-whole) (o .inside) in
+    (o .settled, (o .early, omega (arith, c .physical-row .ensures, below, o .inside)))
 
 returns : tie.Need-returns
 unfolding outcome row-limit-answer
@@ -36,11 +32,8 @@ returns c =
     let a = c .before .before .before .before .args in
     let none : first-failed (row-limit-tests (a .s) (a .remap) (a .row) (a .p)) ≡ 0 =
     sym (c .before .before .before .row-limit-refusal .ensures) ∙ c .before .before .if1 .taken in
-    rw (
-      c .figure .ensures,
-      c .before .physical-row .ensures,
-      tested-passed (accepted-with (row-figure (a .s) (a .p .events) (physical (a .remap) (a .row)))) none,
-    )
+    rw (tested-passed (accepted-with (row-figure (a .s) (a .p .events) (physical (a .remap) (a .row)))) none)
+    (ap accepted-with (c .figure .ensures ∙ ap (row-figure (a .s) (a .p .events)) (c .before .physical-row .ensures)))
 
 returns-2 : tie.Need-returns-2
 unfolding outcome row-limit-answer

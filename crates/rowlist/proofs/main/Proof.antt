@@ -1,7 +1,7 @@
 -- `rowlist::main` is safe: its tables track nothing at first.
 use mathlib.Core.Path.{refl}
 use borrow.Author.Needs.{needs}
-use Rattle.listing.proofs.Memory.Zeros.{zeros-marked}
+use Rattle.steps.proofs.Memory.Zeros.{zeros-marked}
 use Rattle.rowlist.proofs.main.Statement.{statement}
 use Rattle.rowlist.proofs.main.Tie as tie
 

@@ -3,7 +3,7 @@ use mathlib.Core.Path.{ap, _∙_}
 use mathlib.Core.Bool.{Bool, not}
 use borrow.Author.Needs.{needs}
 use Rattle.device.specs.Refusal.{unless, refuse, first-failed}
-use Rattle.trace.specs.Writing.{activation-fault}
+use Rattle.canonical.specs.Writing.{activation-fault}
 use Rattle.spelling.specs.Answers.{standing-of}
 use Rattle.spelling.proofs.activation_fault.Statement.{statement}
 use Rattle.spelling.proofs.activation_fault.Tie as tie

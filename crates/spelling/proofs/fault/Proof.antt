@@ -1,7 +1,7 @@
 -- `spelling::fault` meets its contract: by the answer and its record.
 use borrow.Author.Needs.{needs}
 use Rattle.trace.specs.Reading.{said}
-use Rattle.trace.specs.Writing.{fault-to}
+use Rattle.canonical.specs.Writing.{fault-to}
 use Rattle.spelling.proofs.fault.Statement.{statement}
 use Rattle.spelling.proofs.fault.Tie as tie
 

@@ -2,8 +2,8 @@
 use native.Mathlib.Omega.{arith}
 use borrow.Author.Needs.{needs}
 use borrow.Author.Tests.{eq-eqb, ne-eqb}
-use Rattle.trace.specs.Spelling.{activation-spelling}
-use Rattle.trace.proofs.Spelling.Lengths.{length-activation-line}
+use Rattle.canonical.specs.Spelling.{activation-spelling}
+use Rattle.canonical.proofs.Spelling.Lengths.{length-activation-line}
 use Rattle.spelling.proofs.print_activation.Statement.{statement}
 use Rattle.spelling.proofs.print_activation.Tie as tie
 

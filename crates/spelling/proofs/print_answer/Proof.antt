@@ -2,8 +2,8 @@
 use native.Mathlib.Omega.{arith}
 use borrow.Author.Needs.{needs}
 use Rattle.trace.specs.Reading.{said}
-use Rattle.trace.specs.Spelling.{answer-spelling}
-use Rattle.trace.proofs.Output.{prints-nothing}
+use Rattle.canonical.specs.Spelling.{answer-spelling}
+use Rattle.columns.proofs.Output.{prints-nothing}
 use Rattle.spelling.proofs.print_answer.Statement.{statement}
 use Rattle.spelling.proofs.print_answer.Tie as tie
 

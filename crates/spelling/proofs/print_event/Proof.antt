@@ -1,8 +1,8 @@
 -- `spelling::print_event` meets its contract: a letter and a byte 10.
 use borrow.Author.Needs.{needs}
-use Rattle.trace.specs.Spelling.{spelled-line}
-use Rattle.trace.specs.Output.{number-columns}
-use Rattle.trace.proofs.Output.{prints-then}
+use Rattle.canonical.specs.Spelling.{spelled-line}
+use Rattle.columns.specs.Output.{number-columns}
+use Rattle.columns.proofs.Output.{prints-then}
 use Rattle.spelling.proofs.print_event.Statement.{statement}
 use Rattle.spelling.proofs.print_event.Tie as tie
 

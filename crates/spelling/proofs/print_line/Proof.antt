@@ -3,8 +3,8 @@ use native.Mathlib.Omega.{arith}
 use borrow.Author.Needs.{needs}
 use lib.ListN.{take}
 use lib.Seq.{length-take-le}
-use Rattle.trace.specs.Spelling.{spelled-line}
-use Rattle.trace.proofs.Output.{length-number-columns, prints-then}
+use Rattle.canonical.specs.Spelling.{spelled-line}
+use Rattle.columns.proofs.Output.{length-number-columns, prints-then}
 use Rattle.spelling.proofs.print_line.Statement.{statement}
 use Rattle.spelling.proofs.print_line.Tie as tie
 

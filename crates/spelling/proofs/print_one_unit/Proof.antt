@@ -2,11 +2,11 @@
 use native.Mathlib.Omega.{arith}
 use borrow.Author.Needs.{needs}
 use mathlib.Core.List.{append-nil}
-use Rattle.trace.specs.Spelling.{spelled-line}
-use Rattle.trace.specs.Numbers.{printed}
-use Rattle.trace.specs.Output.{number-columns}
-use Rattle.trace.proofs.Numbers.Printed.{length-printed}
-use Rattle.trace.proofs.Output.{prints-then}
+use Rattle.canonical.specs.Spelling.{spelled-line}
+use Rattle.columns.specs.Numbers.{printed}
+use Rattle.columns.specs.Output.{number-columns}
+use Rattle.columns.proofs.Numbers.Printed.{length-printed}
+use Rattle.columns.proofs.Output.{prints-then}
 use Rattle.spelling.proofs.print_one_unit.Statement.{statement}
 use Rattle.spelling.proofs.print_one_unit.Tie as tie
 

@@ -1,9 +1,9 @@
 -- `spelling::print_record` meets its contract: by the record.
 use native.Mathlib.Omega.{arith}
 use borrow.Author.Needs.{needs}
-use Rattle.trace.specs.Spelling.{record-spelling}
-use Rattle.trace.proofs.Output.{prints-nothing}
-use Rattle.trace.proofs.Spelling.Lengths.{length-settings-line, length-remap-line, length-event-line}
+use Rattle.canonical.specs.Spelling.{record-spelling}
+use Rattle.columns.proofs.Output.{prints-nothing}
+use Rattle.canonical.proofs.Spelling.Lengths.{length-settings-line, length-remap-line, length-event-line}
 use Rattle.spelling.proofs.print_record.Statement.{statement}
 use Rattle.spelling.proofs.print_record.Tie as tie
 

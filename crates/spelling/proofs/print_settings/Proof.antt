@@ -1,6 +1,6 @@
 -- `spelling::print_settings` meets its contract.
 use borrow.Author.Needs.{needs}
-use Rattle.trace.specs.Spelling.{settings-numbers}
+use Rattle.canonical.specs.Spelling.{settings-numbers}
 use Rattle.spelling.proofs.print_settings.Statement.{statement}
 use Rattle.spelling.proofs.print_settings.Tie as tie
 

@@ -2,8 +2,8 @@
 use borrow.Author.Needs.{needs}
 use mathlib.Core.Path.{sym, _∙_}
 use Rattle.trace.specs.Reading.{said}
-use Rattle.trace.specs.Spelling.{record-spelling, answer-spelling}
-use Rattle.trace.proofs.Spelling.Lengths.{length-settings-line, length-remap-line, length-activation-line, length-event-line}
+use Rattle.canonical.specs.Spelling.{record-spelling, answer-spelling}
+use Rattle.canonical.proofs.Spelling.Lengths.{length-settings-line, length-remap-line, length-activation-line, length-event-line}
 use Rattle.spelling.proofs.width.Statement.{statement}
 use Rattle.spelling.proofs.width.Tie as tie
 

@@ -77,8 +77,8 @@ loop-again : tie.Need-loop-again Inv-loop μ-loop
 loop-again c =
     let l = c .before .before .before .loop .inv in
     ⊎-elim
-    (λ w. rw (w .2, w .3) (higher l (omega arith) (omega arith) (w .0 .taken)))
-    (λ w. rw (w .1, w .2) (not-higher l (omega arith) (omega arith) (w .0 .left)))
+    (λ w. rw (w .2, w .3) (higher l (omega arith) (omega arith) (omega arith)))
+    (λ w. rw (w .1, w .2) (not-higher l (omega arith) (omega arith) (omega arith)))
     (c .if1 .came)
 
 returns : tie.Need-returns Inv-loop μ-loop

@@ -90,7 +90,7 @@ loop-again : tie.Need-loop-again Inv-loop μ-loop
 loop-again c =
     let l = c .before .before .before .loop in
     let pre = c .before .before .before .before .pre in
-    up (l .low + (l .high - l .low) / 2) (l .inv) (pre .0) (pre .1) (omega arith) (c .if1 .taken)
+    up (l .low + (l .high - l .low) / 2) (l .inv) (pre .0) (pre .1) (omega arith) (omega arith)
 
 loop-less-2 : tie.Need-loop-less-2 Inv-loop μ-loop
 loop-less-2 c = omega arith
@@ -98,7 +98,7 @@ loop-less-2 c = omega arith
 loop-again-2 : tie.Need-loop-again-2 Inv-loop μ-loop
 loop-again-2 c =
     let l = c .before .before .before .loop in
-    down (l .low + (l .high - l .low) / 2) (l .inv) (omega arith) (c .if1 .left)
+    down (l .low + (l .high - l .low) / 2) (l .inv) (omega arith) (omega arith)
 
 returns : tie.Need-returns Inv-loop μ-loop
 returns c = omega (arith, c .before .loop .inv .least, c .before .loop .inv .most)

@@ -42,7 +42,7 @@ use denote.Triple.Table.{entered, cited}
 use denote.Triple.Walked.{says, needs, Stays, stay-none, gave-slice, walkOf, goes-none, goes-gave-slice, Walks, ends-at, walked, walk-meets}
 use denote.Exit.{yes}
 use Rattle.trace.specs.declared.Read.{Read}
-use Rattle.trace.specs.Writing.{writing}
+use Rattle.canonical.specs.Writing.{writing}
 use Rattle.writer.specs.declared.Written.{Written}
 use Rattle.writer.specs.Answers.{outcomes-of, written-outcome}
 use Rattle.trace.proofs.Read as T

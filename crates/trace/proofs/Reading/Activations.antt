@@ -13,13 +13,13 @@ use Rattle.laws.proofs.Cases.{split, and-both, cond-test, cond-some}
 use Rattle.device.specs.Refusal.{accepted}
 use Rattle.trace.specs.Bytes.{letter-A}
 use Rattle.trace.specs.Lines.{ended}
-use Rattle.trace.specs.Numbers.{field}
+use Rattle.columns.specs.Numbers.{field}
 use Rattle.trace.specs.declared.Read.the-variants.{Line}
 use Rattle.trace.specs.declared.Record.the-variants.{Activate}
 use Rattle.trace.specs.Reading.{Reading, said, reading}
-use Rattle.trace.specs.Records.{activation}
-use Rattle.trace.specs.Answers.{number-found, row-told}
-use Rattle.trace.proofs.Answers.{number-found-none, number-found-some}
+use Rattle.columns.specs.Answers.{number-found}
+use Rattle.trace.specs.Answers.{row-told}
+use Rattle.columns.proofs.Answers.{number-found-none, number-found-some}
 use Rattle.trace.proofs.Contracts.{ends-after-true}
 use Rattle.trace.proofs.Records.{activation-form, activation-take}
 use Rattle.trace.proofs.Reading.OneForm.{reading-by-accepted}
@@ -83,9 +83,13 @@ module _ (text : List ℕ) (place number : ℕ) (none-there : number ≡ 4294967
   unfolding row-told
   letter-untold l h = number-found-none number none-there ∙ rw (le-leb (place + 8) (length text) l, ne-eqb (getD text place 0) letter-A h)
 
-  pub end-untold : place + 8 ≤ length text → getD text place 0 ≡ letter-A → (getD text (place + 7) 0 ≡ 10 → ⊥) → number-found number ≡ row-told text place
+  pub end-untold : place + 8 ≤ length text → (getD text (place + 7) 0 ≡ 10 → ⊥) → number-found number ≡ row-told text place
   unfolding row-told
-  end-untold l letter h = number-found-none number none-there ∙ rw (le-leb (place + 8) (length text) l, eq-eqb (getD text place 0) letter-A letter, ne-eqb (getD text (place + 7) 0) 10 h)
+  end-untold l h =
+      number-found-none number none-there ∙
+      split (eqb (getD text place 0) letter-A)
+      (λ e. rw (le-leb (place + 8) (length text) l, e, ne-eqb (getD text (place + 7) 0) 10 h))
+      (λ e. rw (le-leb (place + 8) (length text) l, e))
 
 -- and where the field says it
 pub field-told : (text : List ℕ) (place number : ℕ) → place + 8 ≤ length text → getD text place 0 ≡ letter-A → getD text (place + 7) 0 ≡ 10 → number-found number ≡ field (place + 1) text → number-found number ≡ row-told text place

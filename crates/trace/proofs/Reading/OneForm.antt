@@ -13,7 +13,7 @@ use Rattle.trace.specs.declared.Record.{Record}
 use Rattle.trace.specs.Answers.{found-all}
 use Rattle.trace.specs.Contracts.{ends-after, line-fields}
 use Rattle.trace.specs.declared.Fields.{Fields}
-use Rattle.trace.specs.Numbers.{fields}
+use Rattle.columns.specs.Numbers.{fields}
 use Rattle.trace.specs.Records.{numbered}
 use Rattle.trace.specs.Lines.{line, ended, extent}
 use Rattle.trace.specs.Reading.{said, or-refused, reading-by}

@@ -34,13 +34,14 @@ take-both n m t =
     (λ h. let same : min m n ≡ m = omega arith in rw same (take-all n (take m t) (rw (length-take m t) (omega arith))))
     (le-or-lt n m)
 
-module _ (t : List ℕ) (from to : ℕ) {end begin kept : ℕ} (e : end ≡ min to (length t)) (b : begin ≡ min from end) (k : kept ≡ min (end - begin) most-kept) where
-  pub kept-few : (kept ≤ most-kept) × (begin + kept ≤ length t)
-  kept-few = (omega arith, omega arith)
+module _ (t : List ℕ) (from to : ℕ) {end begin : ℕ} (e : end ≡ min to (length t)) (b : begin ≡ min from end) where
+  -- however many are kept at most
+  pub kept-within : {kept : ℕ} (most : ℕ) → kept ≡ min (end - begin) most → begin + kept ≤ length t
+  kept-within most k = omega arith
 
-  pub kept-is : take kept (drop begin t) ≡ kept-bytes from to t
+  pub kept-is : {kept : ℕ} → kept ≡ min (end - begin) most-kept → take kept (drop begin t) ≡ kept-bytes from to t
   unfolding kept-bytes
-  kept-is =
+  kept-is {kept} k =
       let long : length (take end t) ≡ end = length-take-le end t (omega arith) in
       let same : min from (length (take end t)) ≡ begin = omega arith in
       let sum : begin + (end - begin) ≡ end = omega arith in

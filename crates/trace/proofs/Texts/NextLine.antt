@@ -63,7 +63,7 @@ unfolding whole
 whole-more b [] h = absurd (omega arith)
 whole-more b (c ∷ cs) h = refl
 
-whole-append : (a b : List ℕ) → whole a ≡ true → whole b ≡ true → whole (a ++ b) ≡ true
+pub whole-append : (a b : List ℕ) → whole a ≡ true → whole b ≡ true → whole (a ++ b) ≡ true
 unfolding whole
 whole-append [] b h k = k
 whole-append (x ∷ []) [] h k = h

@@ -13,7 +13,7 @@ returns-2 : tie.Need-returns-2
 returns-2 c = let a = c .before .before .before .before in letter-untold (a .args .text .now) (a .args .place) _ refl (omega (arith, c .before .before .if1 .left, a .pre)) (c .if2 .taken)
 
 returns-3 : tie.Need-returns-3
-returns-3 c = let a = c .before .before .before .before .before .before in end-untold (a .args .text .now) (a .args .place) _ refl (omega (arith, c .before .before .before .before .if1 .left, a .pre)) (c .before .before .if2 .left) (c .if3 .taken)
+returns-3 c = let a = c .before .before .before .before .before .before in end-untold (a .args .text .now) (a .args .place) _ refl (omega (arith, c .before .before .before .before .if1 .left, a .pre)) (c .if3 .taken)
 
 returns-4 : tie.Need-returns-4
 returns-4 c =

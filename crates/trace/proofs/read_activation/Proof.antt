@@ -8,9 +8,9 @@ use borrow.Author.Needs.{needs}
 use borrow.Author.Tests.{not-true, not-false}
 use lib.ListN.{length, take, drop, length-drop}
 use Rattle.trace.specs.declared.Record.the-variants.{Activate}
-use Rattle.trace.specs.Numbers.{field}
+use Rattle.columns.specs.Numbers.{field}
 use Rattle.trace.specs.Records.{activation}
-use Rattle.trace.proofs.Answers.{field-found-number, field-found-other}
+use Rattle.columns.proofs.Answers.{field-found-number, field-found-other}
 use Rattle.trace.proofs.Contracts.{ends-after-lt}
 use Rattle.trace.proofs.Reading.OneForm.{reading-by-accepted, reading-by-other-width, reading-by-other-bytes}
 use Rattle.trace.proofs.Records.{activation-form, activation-take}

@@ -11,9 +11,9 @@ use borrow.Author.Needs.{needs}
 use lib.ListN.{length, take, drop, set, length-set}
 use lib.Seq.{drop-drop, take-suc-set}
 use Rattle.trace.specs.Answers.{found-all}
-use Rattle.trace.specs.Numbers.{field, fields}
-use Rattle.trace.proofs.Answers.{field-found-number, field-found-other}
-use Rattle.trace.proofs.Numbers.Fields.{behind, behind-none-read, behind-one-more, fields-number, fields-other}
+use Rattle.columns.specs.Numbers.{field, fields}
+use Rattle.columns.proofs.Answers.{field-found-number, field-found-other}
+use Rattle.columns.proofs.Numbers.Fields.{behind, behind-none-read, behind-one-more, fields-number, fields-other}
 use Rattle.trace.proofs.read_fields.Statement.{statement}
 use Rattle.trace.proofs.read_fields.Tie as tie
 

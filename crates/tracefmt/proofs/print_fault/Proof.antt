@@ -4,7 +4,7 @@ use borrow.Author.Needs.{needs}
 use borrow.Author.Tests.{eq-eqb, ne-eqb}
 use Rattle.tracefmt.specs.Rewriting.{fault-line}
 use Rattle.tracefmt.specs.Turns.{progress-of}
-use Rattle.trace.proofs.Output.{prints-nothing}
+use Rattle.columns.proofs.Output.{prints-nothing}
 use Rattle.tracefmt.proofs.print_fault.Statement.{statement}
 use Rattle.tracefmt.proofs.print_fault.Tie as tie
 

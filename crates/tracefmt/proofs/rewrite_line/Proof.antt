@@ -1,7 +1,7 @@
 -- `tracefmt::rewrite_line` meets its contract: by the fault that was found.
 use native.Mathlib.Omega.{arith}
 use borrow.Author.Needs.{needs}
-use Rattle.trace.proofs.Output.{prints-nothing}
+use Rattle.columns.proofs.Output.{prints-nothing}
 use Rattle.tracefmt.proofs.OneLine.{writes-none, writes-spelling}
 use Rattle.tracefmt.specs.Turns.{progress-of}
 use Rattle.tracefmt.proofs.rewrite_line.Statement.{statement}

@@ -3,7 +3,7 @@ use mathlib.Core.Path.{sym}
 use native.Mathlib.Omega.{arith}
 use borrow.Author.Needs.{needs}
 use lib.Seq.{length-take-le}
-use Rattle.trace.proofs.Output.{prints-long}
+use Rattle.columns.proofs.Output.{prints-long}
 use Rattle.tracefmt.proofs.tell_fault.Statement.{statement}
 use Rattle.tracefmt.proofs.tell_fault.Tie as tie
 

@@ -14,9 +14,9 @@ use Rattle.device.proofs.Hold.{repeated-sum}
 use Rattle.device.proofs.Victims.{length-victims-le}
 use Rattle.summary.specs.Steps.{Summary, activation}
 use Rattle.summary.specs.Rules.{Room}
-use Rattle.tracker.specs.State.{State, summary-of, state-of, most-count}
+use Rattle.state.specs.State.{State, summary-of, state-of, most-count}
+use Rattle.state.proofs.StateOf.{read-back}
 use Rattle.tracker.specs.Calls.{victims-in, activation-tests, activation-to, activation-on}
-use Rattle.tracker.proofs.States.StateOf.{read-back}
 use Rattle.tracker.proofs.Steps.Units.{room-units}
 use Rattle.tracker.proofs.Calls.Ready.{activation-passed, passed-activation, activation-ready, diameter-four}
 use Rattle.tracker.proofs.Calls.Outcomes.{activation-done, activation-leaves}

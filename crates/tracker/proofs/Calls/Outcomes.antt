@@ -15,10 +15,9 @@ use Rattle.summary.specs.Entries.{rows-of, counts-of}
 use Rattle.summary.specs.Steps.{empty, activation, picked, event}
 use Rattle.summary.specs.Tables.{table}
 use Rattle.summary.specs.Contracts.{Holds, PickedFrom}
-use Rattle.tracker.specs.State.{State, summary-of, state-of}
+use Rattle.state.specs.State.{State, summary-of, state-of, given}
+use Rattle.state.proofs.StateOf.{state-of-holds}
 use Rattle.tracker.specs.Calls.{set-up-tests, activation-tests, refresh-tests, kept-unless, set-up-to, set-up, activation-to, activation-on, refresh-to, refresh-on, victims-in, block-rows, ends-window, next-event}
-use Rattle.tracker.specs.Answers.{given}
-use Rattle.tracker.proofs.States.StateOf.{state-of-holds}
 use Rattle.tracker.proofs.Calls.Ready.{set-up-ready, refresh-ready}
 
 -- each call refused, and accepted

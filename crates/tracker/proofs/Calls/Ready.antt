@@ -5,10 +5,9 @@ use mathlib.Core.Logic.{⊎-elim}
 use mathlib.Core.List.{List}
 use Prim.Native.Nat.{ℕ, _+_, _≤_, _<_}
 use native.Mathlib.Omega.{arith}
-use borrow.Author.Tests.{eqb-true, ltb-true, leb-true}
-use lib.Dec.{eqb, ltb, leb}
+use borrow.Author.Tests.{ltb-true, leb-true}
+use lib.Dec.{ltb, leb}
 use lib.ListN.{length}
-use Rattle.laws.proofs.Cases.{and-both}
 use Rattle.device.specs.declared.Settings.{Settings}
 use Rattle.device.specs.Refusal.{refuse, first-failed}
 use Rattle.device.specs.Acceptance.{settings-tests}
@@ -21,17 +20,11 @@ use Rattle.summary.specs.Entries.{Entry}
 use Rattle.summary.specs.Rules.{Ordered, ordered-none, ordered-more}
 use Rattle.summary.specs.Contracts.{Holds, Held}
 use Rattle.summary.proofs.Contracts.Holds.{held-again}
-use Rattle.tracker.specs.State.{State, summary-of, valid}
-use Rattle.tracker.specs.Calls.{tables-long, set-up-tests, activation-tests, refresh-tests}
+use Rattle.state.specs.State.{State, summary-of, valid, tables-long}
+use Rattle.state.proofs.Valid.{tables-long-fit, Facts, valid-facts}
+use Rattle.tracker.specs.Calls.{set-up-tests, activation-tests, refresh-tests}
 use Rattle.tracker.specs.Contracts.{tables-tests}
-use Rattle.tracker.proofs.States.Valid.{Facts, valid-facts}
 use Rattle.tracker.proofs.Calls.Tests.{tables-tested, set-up-tested, activation-tested, refresh-tested}
-
-pub tables-long-fit : (s : Settings) (rows counts : List ℕ) → tables-long s rows counts ≡ true → (length rows ≡ s .counters) × (length counts ≡ s .counters)
-unfolding tables-long
-tables-long-fit s rows counts long =
-    let each = and-both (eqb (length rows) (s .counters)) (eqb (length counts) (s .counters)) long in
-    (eqb-true (length rows) (s .counters) (each .0), eqb-true (length counts) (s .counters) (each .1))
 
 -- no refusal of settings and tables
 pub record Open (s : Settings) (rows counts : List ℕ) : Type 0 where

@@ -14,9 +14,9 @@ use Rattle.device.proofs.Refusal.{or-later}
 use Rattle.device.proofs.Acceptance.{settings-then}
 use Rattle.summary.specs.Steps.{Summary}
 use Rattle.summary.specs.Rules.{Ceiling, Sound}
-use Rattle.tracker.specs.State.{state-of, valid, most-count}
-use Rattle.tracker.specs.Calls.{tables-long, activation-tests-to, activation-tests, refresh-tests-to, refresh-tests}
-use Rattle.tracker.proofs.States.StateOf.{tables-long-state-of, valid-state-of}
+use Rattle.state.specs.State.{state-of, valid, most-count, tables-long}
+use Rattle.state.proofs.StateOf.{tables-long-state-of, valid-state-of}
+use Rattle.tracker.specs.Calls.{activation-tests-to, activation-tests, refresh-tests-to, refresh-tests}
 
 -- a summary that a valid state can hold
 pub record Held (s : Settings) (e a : ℕ) (sum : Summary) : Type 0 where

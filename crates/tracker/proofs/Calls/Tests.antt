@@ -12,8 +12,8 @@ use Rattle.device.specs.Remap.{remap-allowed}
 use Rattle.device.specs.Hold.{hold-allowed}
 use Rattle.device.proofs.Refusal.{or-later, later-test}
 use Rattle.device.proofs.Acceptance.{settings-then}
-use Rattle.tracker.specs.State.{State, valid}
-use Rattle.tracker.specs.Calls.{tables-long, set-up-tests-to, set-up-tests, activation-tests-to, activation-tests, refresh-tests-to, refresh-tests}
+use Rattle.state.specs.State.{State, valid, tables-long}
+use Rattle.tracker.specs.Calls.{set-up-tests-to, set-up-tests, activation-tests-to, activation-tests, refresh-tests-to, refresh-tests}
 use Rattle.tracker.specs.Contracts.{tables-tests}
 
 -- what stands behind the tests of settings and tables

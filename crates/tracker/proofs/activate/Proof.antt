@@ -1,7 +1,8 @@
 -- `tracker::activate` meets its contract.
 use mathlib.Core.Path.{sym, _∙_}
 use borrow.Author.Needs.{needs}
-use Rattle.tracker.specs.Answers.{activation-call, activation-accepts, activation-refusal, activation-position, given}
+use Rattle.state.specs.State.{given}
+use Rattle.tracker.specs.Answers.{activation-call, activation-accepts, activation-refusal, activation-position}
 use Rattle.tracker.proofs.Calls.Outcomes.{activation-refused, activation-done}
 use Rattle.tracker.proofs.activate.Statement.{statement}
 use Rattle.tracker.proofs.activate.Tie as tie

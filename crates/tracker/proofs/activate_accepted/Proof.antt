@@ -12,10 +12,9 @@ use Rattle.summary.specs.Steps.{Summary, activation}
 use Rattle.summary.specs.Contracts.{Holds}
 use Rattle.summary.proofs.Rules.Room.{room-more}
 use Rattle.summary.proofs.Contracts.Holds.{tracked-le}
-use Rattle.tracker.specs.State.{summary-of, state-of}
+use Rattle.state.specs.State.{summary-of, state-of, given}
+use Rattle.state.proofs.StateOf.{state-of-holds}
 use Rattle.tracker.specs.Calls.{victims-in}
-use Rattle.tracker.specs.Answers.{given}
-use Rattle.tracker.proofs.States.StateOf.{state-of-holds}
 use Rattle.tracker.proofs.Calls.Ready.{activation-ready, ready-held, diameter-four}
 use Rattle.tracker.proofs.Calls.Outcomes.{activation-leaves}
 use Rattle.tracker.proofs.activate_accepted.Statement.{statement}
@@ -36,8 +35,8 @@ activate-units-requires c κs =
     let below = physical-below (a .args .remap) (r .allowed) (a .args .s .rows) (a .args .row) (r .state .settings .others .rows-whole) (r .inside) in (
       ready-held (r .state),
       (
-        (diameter-four (r .state .settings), omega (arith, c .before .before .physical-row .ensures, below), r .state .settings .others .rows .most),
-        (r .units .least, r .units .most, room-more (r .state .facts .room) (omega arith)),
+        (diameter-four (r .state .settings), omega (arith, c .before .before .physical-row .ensures, below, r .inside), r .state .settings .others .rows .most),
+        (omega (arith, r .units .least), omega (arith, r .units .most), room-more (r .state .facts .room) (omega arith)),
       ),
     )
 

@@ -11,10 +11,9 @@ use Rattle.device.specs.Hold.{hold-allowed}
 use Rattle.device.proofs.Acceptance.{accepted-settings}
 use Rattle.device.proofs.Hold.{hold-between}
 use Rattle.device.proofs.Refusal.{or-later-first, or-later-zero}
-use Rattle.tracker.specs.Answers.{given}
+use Rattle.state.specs.State.{valid, given}
+use Rattle.state.proofs.Valid.{valid-facts}
 use Rattle.tracker.specs.Contracts.{tables-tests}
-use Rattle.tracker.specs.State.{valid}
-use Rattle.tracker.proofs.States.Valid.{valid-facts}
 use Rattle.tracker.proofs.Calls.Tests.{activation-tested}
 use Rattle.tracker.proofs.Calls.Ready.{open-tables}
 use Rattle.tracker.proofs.activation_refusal.Statement.{statement}

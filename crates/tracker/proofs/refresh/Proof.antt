@@ -1,7 +1,8 @@
 -- `tracker::refresh` meets its contract.
 use mathlib.Core.Path.{sym, _∙_}
 use borrow.Author.Needs.{needs}
-use Rattle.tracker.specs.Answers.{refresh-call, refresh-accepts, refresh-refusal, refresh-count, refresh-position, given}
+use Rattle.state.specs.State.{given}
+use Rattle.tracker.specs.Answers.{refresh-call, refresh-accepts, refresh-refusal, refresh-count, refresh-position}
 use Rattle.tracker.proofs.Calls.Outcomes.{refresh-refused}
 use Rattle.tracker.proofs.refresh.Statement.{statement}
 use Rattle.tracker.proofs.refresh.Tie as tie

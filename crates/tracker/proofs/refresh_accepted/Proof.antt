@@ -3,8 +3,8 @@ use native.Mathlib.Omega.{arith}
 use borrow.Author.Needs.{needs}
 use Rattle.summary.proofs.Rules.Room.{room-more}
 use Rattle.summary.proofs.Contracts.Holds.{tracked-le}
-use Rattle.tracker.specs.State.{summary-of}
-use Rattle.tracker.specs.Answers.{refresh-call, refresh-accepts, refresh-refusal, refresh-count, refresh-position, given}
+use Rattle.state.specs.State.{summary-of, given}
+use Rattle.tracker.specs.Answers.{refresh-call, refresh-accepts, refresh-refusal, refresh-count, refresh-position}
 use Rattle.tracker.proofs.Calls.Ready.{refresh-ready, ready-held, diameter-four}
 use Rattle.tracker.proofs.Calls.Outcomes.{refresh-done}
 use Rattle.tracker.proofs.Steps.Event.{count-picked-le}

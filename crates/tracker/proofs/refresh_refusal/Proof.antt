@@ -5,7 +5,7 @@ use borrow.Author.Tests.{le-leb, lt-leb}
 use lib.ListN.{length}
 use Rattle.device.specs.Refusal.{refuse}
 use Rattle.device.proofs.Refusal.{or-later-first, or-later-zero}
-use Rattle.tracker.specs.Answers.{given}
+use Rattle.state.specs.State.{given}
 use Rattle.tracker.proofs.Calls.Tests.{refresh-tested}
 use Rattle.tracker.proofs.Calls.Ready.{open-tables}
 use Rattle.tracker.proofs.refresh_refusal.Statement.{statement}

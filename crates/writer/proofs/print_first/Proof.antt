@@ -50,8 +50,8 @@ use denote.Exit.{yes}
 use Rattle.laws.proofs.Cases.{split as by-test}
 use Rattle.trace.specs.declared.Read.{Read}
 use Rattle.trace.specs.declared.Read.the-variants.{Refused}
-use Rattle.trace.specs.Output.{Prints}
-use Rattle.trace.specs.Spelling.{spelling}
+use Rattle.columns.specs.Output.{Prints}
+use Rattle.canonical.specs.Spelling.{spelling}
 use Rattle.writer.specs.Answers.{outcomes-of}
 use Rattle.trace.proofs.Read as T
 use Rattle.trace.proofs.Read.Laws as T′

@@ -40,9 +40,9 @@ use denote.Triple.Table.{entered, cited}
 use denote.Triple.Walked.{says, Stays, stay-none-slice, gave-slice, walkOf, goes-none-slice, goes-gave-slice, Walks, ends-at, walked, walk-meets}
 use denote.Exit.{yes}
 use Rattle.trace.specs.declared.Read.{Read}
-use Rattle.trace.specs.Numbers.{written}
-use Rattle.trace.specs.Spelling.{spelling}
-use Rattle.trace.specs.Writing.{writing}
+use Rattle.columns.specs.Numbers.{written}
+use Rattle.canonical.specs.Spelling.{spelling}
+use Rattle.canonical.specs.Writing.{writing}
 use Rattle.trace.proofs.Read as T
 use Rattle.writer.specs.declared.Survey.{Survey}
 use Rattle.writer.specs.declared.Written.{Written}

@@ -21,6 +21,9 @@ module _ {a b : List ℕ} {used i : ℕ} (l : Left a b used i) (fits : used ≤ 
   unfolding same
   here h = sym (l .says) ∙ rw (used-step a used i fits h, used-step b used i fits′ h, add-one i)
 
+  next : {n : ℕ} → i < used → eqb (getD a i 0) (getD b i 0) ≡ true → n ≡ i + 1 → Left a b used n
+  next h e behind = record { says = rw (here h, e, behind) }
+
   done : used ≤ i → true ≡ same (take used a) (take used b)
   unfolding same
   done h = rw (left-none a used i fits h, left-none b used i fits′ h) at (l .says)
@@ -65,13 +68,9 @@ loop-again : tie.Need-loop-again Inv-loop μ-loop
 loop-again c =
     let at = c .before .before .before .before in
     let come = at .before in
-    record {
-      says =
-          rw (
-            here (at .loop .inv) (come .pre .0) (come .pre .1) (c .before .before .before .loop-test .taken),
-            eq-eqb (getD (come .args .a .now) (at .loop .i) 0) (getD (come .args .b .now) (at .loop .i) 0) (c .if1 .left),
-          );
-    }
+    next (at .loop .inv) (come .pre .0) (come .pre .1) (c .before .before .before .loop-test .taken)
+    (eq-eqb (getD (come .args .a .now) (at .loop .i) 0) (getD (come .args .b .now) (at .loop .i) 0) (c .if1 .left))
+    (omega arith)
 
 returns-2 : tie.Need-returns-2 Inv-loop μ-loop
 returns-2 c = done (c .before .loop .inv) (c .before .before .pre .0) (c .before .before .pre .1) (c .loop-test .left)

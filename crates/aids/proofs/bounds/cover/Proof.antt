@@ -15,7 +15,7 @@ slice-write-bounds-2 c = rw length-set (omega (arith, c .before .before .before 
 returns : tie.Need-returns
 returns c =
     let a = c .before .before .before .before .before in
-    covers-stored (a .pre .1) (a .args .row) (a .args .count) (c .before .before .larger .result) (c .larger2 .result) (a .pre .0) (c .before .before .larger .ensures) (c .larger2 .ensures)
+    covers-stored (a .pre .1) (a .args .row) (a .args .count) (c .before .before .larger .result) (c .larger2 .result) (a .pre .0) (omega (arith, c .before .before .larger .ensures)) (omega (arith, c .larger2 .ensures))
 
 pub cover-spec : {M : Type 1} → statement M
 cover-spec =

@@ -34,8 +34,7 @@ returns-2 c = sought-found (c .before .before .before .before .before .before .p
 
 loop-holds : tie.Need-loop-holds Inv-loop μ-loop
 loop-holds c =
-    let from = c .before .before .before .before .before .before .args .from in
-    record { clear = clear-less (c .before .first-in-word .ensures .missed (c .if2 .left)) ((from / 64 + 1) * 64) (omega arith); most = omega arith }
+    record { clear = clear-less (c .before .first-in-word .ensures .missed (c .if2 .left)) _ (omega arith); most = omega arith }
 
 shared-slice-read-first-in-words : tie.Need-shared-slice-read-first-in-words Inv-loop μ-loop
 shared-slice-read-first-in-words c = omega (arith, c .before .before .before .before .before .before .before .before .before .pre .0 .marks-long)

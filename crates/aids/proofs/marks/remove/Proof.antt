@@ -1,5 +1,6 @@
 -- `aids::marks::remove` meets its contract. Where the row's word has no mark any more, the word's mark is turned too.
-use mathlib.Core.Path.{refl, sym, _∙_}
+use mathlib.Core.Path.{refl}
+use native.Mathlib.Omega.{arith}
 use borrow.Author.Needs.{needs}
 use Rattle.aids.proofs.Stores.{marked-emptied, marked-removed}
 use Rattle.aids.proofs.marks.remove.Statement.{statement}
@@ -9,7 +10,7 @@ returns : tie.Need-returns
 returns c =
     let a = c .before .before .before .before .before .before .before .before .before .before .before in
     let first = c .before .before .before .before .before .before .before .unmark .ensures in
-    (refl, marked-emptied (a .pre .0) (a .args .row) (a .pre .1) (first .0) (sym (first .1) ∙ c .before .before .before .before .if1 .taken) (c .before .before .unmark2 .ensures .0))
+    (refl, marked-emptied (a .pre .0) (a .args .row) (a .pre .1) (first .0) (omega (arith, first .1, c .before .before .before .before .if1 .taken)) (c .before .before .unmark2 .ensures .0))
 
 returns-2 : tie.Need-returns-2
 returns-2 c =

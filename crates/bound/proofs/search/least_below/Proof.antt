@@ -70,7 +70,7 @@ count-for-requires : tie.Need-count-for-requires Inv-loop μ-loop
 count-for-requires c κs =
     let a = c .before .before .before .before .before .args in
     let x = c .before .before .before .loop .inv in (
-      room-positive (a .volume) (a .added) (a .steps) (a .end) (x .walked) (rw (shared-room (x .shared)) (c .if2 .taken)),
+      room-positive (a .volume) (a .added) (a .steps) (a .end) (x .walked) (rw (shared-room (x .shared)) (omega arith)),
       walked-small (a .volume) (a .added) (a .steps) (a .end) (x .walked) (omega arith) (omega arith),
       omega arith,
     )
@@ -80,7 +80,7 @@ returns-2 c =
     let a = c .before .before .before .before .before .before .args in
     let x = c .before .before .before .before .loop .inv in
     c .count-for .ensures
-    ∙ walk-finds (a .volume) (a .added) (a .steps) (a .end) (x .walked) (omega arith) (rw (shared-room (x .shared)) (c .before .if2 .taken))
+    ∙ walk-finds (a .volume) (a .added) (a .steps) (a .end) (x .walked) (omega arith) (rw (shared-room (x .shared)) (omega arith))
 
 returns-3 : tie.Need-returns-3 Inv-loop μ-loop
 unfolding outcome
@@ -88,7 +88,7 @@ returns-3 c =
     let a = c .before .before .before .before .before .before .args in
     let x = c .before .before .before .before .loop .inv in
     let told = shared-room (x .shared) in
-    walk-gives-up (a .volume) (a .added) (a .steps) (a .end) (x .walked) (omega arith) (rw told (c .before .if2 .left)) (rw told (c .if3 .taken))
+    walk-gives-up (a .volume) (a .added) (a .steps) (a .end) (x .walked) (omega arith) (rw told (omega arith)) (rw told (omega arith))
 
 sub-room : tie.Need-sub-room Inv-loop μ-loop
 sub-room c = omega arith
@@ -112,7 +112,7 @@ loop-again c =
     let a = c .before .before .before .before .before .before .before .args in
     let x = c .before .before .before .before .before .loop .inv in
     let told = shared-room (x .shared) in
-    let on = walk-goes-on (a .volume) (a .added) (a .steps) (a .end) (x .walked) (rw told (c .before .before .if2 .left)) (rw told (c .before .if3 .left)) in
+    let on = walk-goes-on (a .volume) (a .added) (a .steps) (a .end) (x .walked) (rw told (omega arith)) (rw told (omega arith)) in
     record {
       walked = rw told at on;
       shared = share-next (x .shared) (omega arith) (c .share-less .result .quotient) (c .share-less .result .over) (c .share-less .ensures .0) (c .share-less .ensures .1);

@@ -21,18 +21,18 @@ add-over c =
 sub-t9 : tie.Need-sub-t9
 sub-t9 c =
     let a = c .before .before .before .args in
-    less-one (a .share .quotient) (a .less) (a .at) (a .share .over) (omega arith) (omega arith) (c .if1 .left)
+    less-one (a .share .quotient) (a .less) (a .at) (a .share .over) (omega arith) (omega arith) (omega arith)
 
 returns : tie.Need-returns
 returns c =
     let a = c .before .before .before .args in
-    (less-within (a .share .quotient) (a .less) (a .at) (a .share .over) (omega arith) (omega arith), c .if1 .taken)
+    (less-within (a .share .quotient) (a .less) (a .at) (a .share .over) (omega arith) (omega arith), omega arith)
 
 returns-2 : tie.Need-returns-2
 returns-2 c =
     let a = c .before .before .before .args in
     let positive : 0 < a .at = omega arith in (
-      less-over (a .share .quotient) (a .less) (a .at) (a .share .over) positive (omega arith) (c .if1 .left),
+      less-over (a .share .quotient) (a .less) (a .at) (a .share .over) positive (omega arith) (omega arith),
       omega (arith, mod-lt (a .less) positive),
     )
 

@@ -1,19 +1,21 @@
 -- `listing::run::run_activations` meets its contract. The invariant: what is left to do from `at` on is what was to be done at the start.
 use mathlib.Core.Path.{_≡_, sym, _∙_}
-use Prim.Native.Nat.{_-_, _/_, _<_, _%_}
+use mathlib.Core.Bool.{true}
+use Prim.Native.Nat.{ℕ, _-_, _/_, _<_, _%_}
 use native.Mathlib.Nat.{mod-lt}
 use native.Mathlib.Omega.{arith}
 use borrow.Author.Needs.{needs}
 use borrow.Author.Tests.{not-false, ltb-true}
-use lib.Dec.{lit<}
+use lib.Dec.{lit<, ltb}
 use lib.ListN.{length}
 use Rattle.device.specs.Remap.{physical}
 use Rattle.device.proofs.Remap.{entry-below}
 use Rattle.summary.proofs.Rules.Room.{room-more}
 use Rattle.trace.proofs.Reading.Activations.{activates-told}
-use Rattle.listing.specs.Contracts.{moved, numbers-on}
-use Rattle.listing.specs.Chunks.{next-number}
-use Rattle.listing.proofs.Steps.CallLines.{activations-few, activation-facts, physical-inside, activation-diameter, activation-room}
+use Rattle.steps.specs.Contracts.{moved}
+use Rattle.listing.specs.Contracts.{numbers-on}
+use Rattle.steps.specs.Memory.{next-number}
+use Rattle.steps.proofs.Steps.CallLines.{activations-few, activation-facts, physical-inside, activation-diameter, activation-room}
 use Rattle.listing.proofs.Chunks.Runs.{runs-none, Running, run-free, running-more}
 use Rattle.listing.proofs.run.run_activations.Statement.{statement}
 use Rattle.listing.proofs.run.run_activations.Tie as tie
@@ -24,6 +26,10 @@ Inv-loop p counts₀ marks₀ bounds₀ text from s remap activations₀ tally�
 
 abbrev μ-loop : tie.MeasureT-loop
 μ-loop p counts₀ marks₀ bounds₀ text from s remap activations₀ tally₀ at₀ row₀ counts marks bounds activations tally at row = length text - at
+
+-- the interval has room for a unit more
+has-room : (activations interval : ℕ) → ltb activations interval ≡ true → activations < interval
+has-room activations interval on = omega (arith, ltb-true activations interval on)
 
 returns : tie.Need-returns Inv-loop μ-loop
 returns c = let a = c .before .before .before .before .before .before in (runs-none (a .args .text .now) (a .args .from) (a .pre .0) (a .pre .2), a .pre .1)
@@ -40,7 +46,7 @@ add-activate c =
     let l = c .before .before .before .before .before .before .before .loop in
     let on = not-false _ (c .before .before .before .before .before .before .before .before .before .before .before .before .if1 .left) in
     let inside = c .before .before .before .before .before .if2 .taken in
-    let less = ltb-true (l .activations) (a .args .p .settings .interval) (c .before .before .before .if3 .taken) in
+    let less = has-room (l .activations) (a .args .p .settings .interval) (c .before .before .before .if3 .taken) in
     let free = run-free (l .inv) on inside less (omega (arith, a .pre .1 .bank on .most)) in
     let facts = activation-facts (moved (a .args .p) (a .args .p .events) (l .activations) (l .tally) (numbers-on (a .args .p .lines) (l .inv .count))) (l .counts) (l .inv .runs .ready) (l .row) 1 free in
     omega (arith, entry-below (a .args .p .remap) (facts .allowed) (l .row % 16) (mod-lt (l .row) (lit< tt)), inside, a .pre .1 .bank on .most)
@@ -52,7 +58,7 @@ activate-requires c κs =
     let l = c .before .before .before .before .before .before .before .loop in
     let on = not-false _ (c .before .before .before .before .before .before .before .before .before .before .before .before .if1 .left) in
     let inside = c .before .before .before .before .before .if2 .taken in
-    let less = ltb-true (l .activations) (a .args .p .settings .interval) (c .before .before .before .if3 .taken) in
+    let less = has-room (l .activations) (a .args .p .settings .interval) (c .before .before .before .if3 .taken) in
     let free = run-free (l .inv) on inside less (omega (arith, a .pre .1 .bank on .most)) in
     let q = moved (a .args .p) (a .args .p .events) (l .activations) (l .tally) (numbers-on (a .args .p .lines) (l .inv .count)) in (
       l .inv .banked .bank on,
@@ -102,7 +108,7 @@ loop-again c =
     let l = c .before .before .before .before .before .before .before .before .before .before .before .before .before .before .before .loop in
     let on = not-false _ (c .before .before .before .before .before .before .before .before .before .before .before .before .before .before .before .before .before .before .before .before .if1 .left) in
     let inside = c .before .before .before .before .before .before .before .before .before .before .before .before .before .if2 .taken in
-    let less = ltb-true (l .activations) (a .args .p .settings .interval) (c .before .before .before .before .before .before .before .before .before .before .before .if3 .taken) in
+    let less = has-room (l .activations) (a .args .p .settings .interval) (c .before .before .before .before .before .before .before .before .before .before .before .if3 .taken) in
     running-more (l .inv) on inside less (omega (arith, inside, a .pre .1 .bank on .most)) (c .before .before .before .before .before .before .before .activate .ensures) (activates-told (a .args .text .now) _ _ (c .activation-row2 .ensures))
 
 sub-lines-behind : tie.Need-sub-lines-behind Inv-loop μ-loop
@@ -125,7 +131,7 @@ returns-2 c =
     let l = c .before .before .before .before .loop in
     let a = c .before .before .before .before .before .before .before .before .before .before .before .before .before .before .before in
     let passed : (l .at - a .args .from) / 8 ≡ l .inv .count = omega (arith, l .inv .far) in
-    rw (c .moved .ensures, c .before .lines-behind .ensures, passed) (l .inv .runs, l .inv .banked)
+    rw (c .before .lines-behind .ensures, passed) (l .inv .runs, l .inv .banked)
 
 pub run-activations-spec : {M : Type 1} → statement M
 run-activations-spec =
@@ -149,7 +155,6 @@ run-activations-spec =
     loop-again
     sub-lines-behind
     lines-behind-requires
-    (λ c κs. search needs)
     same-length
     same-length-2
     same-length-3

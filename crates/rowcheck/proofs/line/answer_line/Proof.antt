@@ -1,7 +1,7 @@
 -- `rowcheck::line::answer_line` meets its contract: by the answer.
 use native.Mathlib.Omega.{arith}
 use borrow.Author.Needs.{needs}
-use Rattle.trace.proofs.Output.{prints-nothing}
+use Rattle.columns.proofs.Output.{prints-nothing}
 use Rattle.rowcheck.specs.Answers.{passes-line, line-of, answer-line}
 use Rattle.rowcheck.proofs.line.answer_line.Statement.{statement}
 use Rattle.rowcheck.proofs.line.answer_line.Tie as tie

@@ -1,7 +1,7 @@
 -- `rowcheck::line::print_departure` meets its contract: three texts, one behind the other.
 use native.Mathlib.Omega.{arith}
 use borrow.Author.Needs.{needs}
-use Rattle.trace.proofs.Output.{prints-long}
+use Rattle.columns.proofs.Output.{prints-long}
 use Rattle.rowcheck.specs.Answers.{departs-words}
 use Rattle.rowcheck.proofs.Lines.{decimal-within, departure-printed}
 use Rattle.rowcheck.proofs.line.print_departure.Statement.{statement}

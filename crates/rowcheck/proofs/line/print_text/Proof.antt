@@ -4,8 +4,8 @@ use Prim.Native.Nat.{ℕ, _+_, _-_, _≤_}
 use native.Mathlib.Nat.{add-zero}
 use native.Mathlib.Omega.{arith}
 use lib.ListN.{length, take}
-use Rattle.trace.specs.Output.{Prints}
-use Rattle.trace.proofs.Output.{prints-nothing, prints-long}
+use Rattle.columns.specs.Output.{Prints}
+use Rattle.columns.proofs.Output.{prints-nothing, prints-long}
 use Rattle.rowcheck.proofs.Lines.{prints-next, prints-all}
 use Rattle.rowcheck.proofs.line.print_text.Statement.{statement}
 use Rattle.rowcheck.proofs.line.print_text.Tie as tie

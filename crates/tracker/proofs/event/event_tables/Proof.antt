@@ -36,7 +36,6 @@ clear-if-requires c κs =
     held-again (take-out .ensures .1)
 
 spread-picks-requires : tie.Need-spread-picks-requires
-unfolding ends-window
 spread-picks-requires c κs =
     let clear-if = c .before .before .before .before .before .before .before .clear-if in
     let a = c .before .before .before .before .before .before .before .before .before .before .before .before .before .before .before .before .before .before .before .before .before .before .before .before .before .before .before .before in
@@ -47,12 +46,11 @@ spread-picks-requires c κs =
       held-again (clear-if .ensures),
       (
         (p .0, omega (arith, count-picked-le x, p .2), omega (arith, count-picked-le x, p .6, t .kept .1 .1 .1 .1 .1 .1 .0), take-picked-below x (a .pre .1 .1 .1) (p .1)),
-        room-cleared-read (a .args .s .volume) (victims-in (a .args .s)) _ (ends-window (a .args .s) (a .args .e)) sum (take (t .result .count) (t .last .1 .1 .1 .1 .1 .1 .0)) (take-picked x) (t .ensures .1) (clear-if .ensures) (room-more (a .pre .1 .1 .0) (omega arith)),
+        room-cleared-read (a .args .s .volume) (victims-in (a .args .s)) _ _ sum (take (t .result .count) (t .last .1 .1 .1 .1 .1 .1 .0)) (take-picked x) (t .ensures .1) (clear-if .ensures) (room-more (a .pre .1 .1 .0) (omega arith)),
       ),
     )
 
 spread-run-requires : tie.Need-spread-run-requires
-unfolding ends-window
 spread-run-requires c κs =
     let smaller = c .before .before .before .before .before .before .before .before .before .before .before .before .before .before .before .before .before .before .before .before .before .before .before .before .before .before .before .before .before .before .smaller in
     let clear-if = c .before .before .before .before .before .before .before .before .before .before .before .before .before .before .before .clear-if in
@@ -68,7 +66,7 @@ spread-run-requires c κs =
       held-again (spread-picks .ensures),
       (
         (p .0, omega (arith, count-picked-le x, p .6, long), omega (arith, high, p .1), omega (arith, high, p .3)),
-        room-spread-read (a .args .s .volume) (victims-in (a .args .s)) (rows-between (a .args .e * a .args .s .block) (smaller .result)) (ends-window (a .args .s) (a .args .e)) sum names (take-picked x) (t .ensures .1) (clear-if .ensures) (spread-picks .ensures) (λ row. victims-four (a .args .s) row (p .0)) (omega (arith, length-take-le (t .result .count) (t .last .1 .1 .1 .1 .1 .1 .0) (omega (arith, count-picked-le x, p .6, long)), count-picked-le x, p .2)) (a .pre .1 .1 .0),
+        room-spread-read (a .args .s .volume) (victims-in (a .args .s)) (rows-between (a .args .e * a .args .s .block) (smaller .result)) _ sum names (take-picked x) (t .ensures .1) (clear-if .ensures) (spread-picks .ensures) (λ row. victims-four (a .args .s) row (p .0)) (omega (arith, length-take-le (t .result .count) (t .last .1 .1 .1 .1 .1 .1 .0) (omega (arith, count-picked-le x, p .6, long)), count-picked-le x, p .2)) (a .pre .1 .1 .0),
       ),
     )
 

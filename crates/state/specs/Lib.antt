@@ -1,0 +1,2 @@
+-- The state that the caller lends.
+pub mod State

@@ -1,4 +1,0 @@
--- Laws of specs/State.antt.
-pub mod StateOf
-pub mod PositionAllowed
-pub mod Valid
