@@ -16,15 +16,14 @@ returns-2 : tie.Need-returns-2
 returns-2 c =
     let at = c .before .before .before .before .before .before in
     let a = at .before .before .args in
-    rw (
-      row-limit-tested (a .s) (a .remap) (a .row) (a .p),
-      or-later-zero _ _ (sym (at .before .settings-refusal .ensures) ∙ at .if1 .left),
-      ← c .before .before .before .before .remap-allowed .ensures,
-      ← c .before .before .before .position-in-range .ensures,
-      ← c .before .before .refuse-unless .ensures,
-      ← c .before .refuse-unless2 .ensures,
+    rw (row-limit-tested (a .s) (a .remap) (a .row) (a .p), or-later-zero _ _ (sym (at .before .settings-refusal .ensures) ∙ at .if1 .left))
+    (rw (
+      c .before .refuse-unless2 .ensures,
+      c .before .before .refuse-unless .ensures,
+      c .before .before .before .position-in-range .ensures,
+      c .before .before .before .before .remap-allowed .ensures,
     )
-    (c .refuse-unless3 .ensures)
+    at (c .refuse-unless3 .ensures))
 
 pub row-limit-refusal-spec : {M : Type 1} → statement M
 row-limit-refusal-spec =
