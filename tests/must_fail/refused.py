@@ -5,10 +5,12 @@
 crate left (`rt dev`), in a part of the time: a refusal is one whatever was proved before, and no verdict on the crate rests on it.
 
     python3 tests/must_fail/refused.py [CRATE...]
+    python3 tests/must_fail/refused.py --twins [CRATE...]   every harmless twin, which must be proved
 
-Every edit and every harmless twin, also those of must-fail/, has to fit its crate as it is. Its last line is `must_fail: N passed, M failed`.
+Every edit and every twin, also those of must-fail/, has to fit its crate as it is. Its last line is `must_fail: N passed, M failed`.
 """
 
+import argparse
 import os
 import sys
 import time
@@ -20,14 +22,10 @@ from copies import PROVED, REFUSED, ROOT, BadEdit, Copy, edited, listed, prove_b
 AT_A_TIME = min(os.cpu_count() or 1, 4)
 
 
-def further(crates):
-    """The further edits by crate, those of crates.txt's last crates first: they take longest."""
-    edits = {}
-    for crate in reversed(listed()):
-        found = sorted((ROOT / "crates" / crate / "must-fail" / "further").glob("*.edit"))
-        if found and (not crates or crate in crates):
-            edits[crate] = found
-    return edits
+def found(pattern, crates):
+    """The files under must-fail/ by crate, those of crates.txt's last crates first: they take longest."""
+    files = {crate: sorted((ROOT / "crates" / crate / "must-fail").glob(pattern)) for crate in reversed(listed())}
+    return {crate: of for crate, of in files.items() if of and (not crates or crate in crates)}
 
 
 def all_fit():
@@ -39,28 +37,34 @@ def all_fit():
     print(f"{len(edits)} edits and their twins fit their crates", flush=True)
 
 
-def tried(copy, crate, edits):
-    """Tries a crate's edits one after another; before and behind them the crate as it is has to be proved. The lines to print, and how many were refused."""
-    lines, refused = [], 0
+def tried(copy, crate, edits, wanted):
+    """Tries a crate's edits one after another; before and behind them the crate as it is has to be proved. The lines to print, and how many got the verdict that is wanted."""
+    lines, passed = [], 0
     if copy.check(crate).verdict != PROVED:
         return [f"must_fail {crate}: NOT PROVED as it is"], 0
     for edit in edits:
         began = time.monotonic()
         checked = copy.tried(edit)
         took = f"{time.monotonic() - began:.0f} s"
-        if checked.verdict == REFUSED:
-            refused += 1
-            lines.append(f"must_fail {crate}/{edit.stem}: refused, as it must be (first at {checked.place()}; {took})")
+        place = checked.place() and f"first at {checked.place()}; "
+        if checked.verdict == wanted:
+            passed += 1
+            lines.append(f"must_fail {crate}/{edit.name}: {wanted}, as it must be ({place}{took})")
         else:
-            lines.append(f"must_fail {crate}/{edit.stem}: NOT REFUSED: {checked.verdict} ({took})")
+            lines.append(f"must_fail {crate}/{edit.name}: NOT {wanted.upper()}: {checked.verdict} ({place}{took})")
     if copy.check(crate).verdict != PROVED:
         return [*lines, f"must_fail {crate}: NOT PROVED as it is, behind its edits"], 0
-    return lines, refused
+    return lines, passed
 
 
 def main():
+    parser = argparse.ArgumentParser(description=__doc__, formatter_class=argparse.RawDescriptionHelpFormatter)
+    parser.add_argument("crates", nargs="*", metavar="CRATE")
+    parser.add_argument("--twins", action="store_true", help="every harmless twin, which must be proved")
+    arguments = parser.parse_args()
+    pattern, wanted = ("**/*.twin", PROVED) if arguments.twins else ("further/*.edit", REFUSED)
     all_fit()
-    edits = further(sys.argv[1:])
+    edits = found(pattern, arguments.crates)
     free = Queue()
     for place in range(AT_A_TIME):
         free.put(Copy(f"further{place}"))
@@ -68,11 +72,11 @@ def main():
     def run(crate):
         copy = free.get()
         try:
-            lines, refused = tried(copy, crate, edits[crate])
+            lines, passed = tried(copy, crate, edits[crate], wanted)
         finally:
             free.put(copy)
         print("\n".join(lines), flush=True)
-        return refused
+        return passed
 
     for crate in edits:
         prove_below(crate)
