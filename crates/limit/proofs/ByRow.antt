@@ -1,7 +1,7 @@
 -- Each row's figures: where its own block lies, and the limit by row from the invariant.
 use mathlib.Core.Path.{_≡_, refl, sym}
 use mathlib.Core.Bool.{cond}
-use mathlib.Core.List.{List, List·Memᴰ}
+use mathlib.Core.List.{List·Memᴰ}
 use Prim.Native.Nat.{ℕ, suc, _+_, _-_, _*_, _%_, _≤_, _<_, min}
 use native.Mathlib.Nat.{le-trans, mul-le-mul-left, div-mul-le-self, div-lt-iff-lt-mul, lt-div-mul-add, div-eq-of-lt-le}
 use native.Mathlib.Omega.{arith}
