@@ -1,4 +1,4 @@
--- What the functions of this crate promise of a line: what it printed, and what it left carried.
+-- What the functions of this crate promise of a line: what it printed, and what it left.
 use Prim.Native.Nat.{ℕ, _+_}
 use mathlib.Core.Path.{_≡_}
 use mathlib.Core.Bool.{not}
@@ -58,7 +58,7 @@ activation-refusal p row hold =
     (refuse (not (hold-allowed hold)) 15
     (refuse (not (leb (p .activations + hold) (p .settings .interval))) 22 0)))
 
--- what a line left carried, with its number as so many lines, and what it printed
+-- the memory that a line left, with its number as so many lines, and what it printed
 pub record Leaves (step : Step) (loaded : List ℕ) (line : ℕ) (m : Memory) (before : List ℕ) (at : ℕ) (after : List ℕ) (end : ℕ) : Type 0 where
   pub printed : Prints before at (step .prints) after end
   pub left : m ≡ record { tracker = step .tracker; loaded = loaded; lines = line }
