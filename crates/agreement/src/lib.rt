@@ -1,5 +1,7 @@
 // Whether two trackers agree, and whether their summaries give every row the same estimate. Neither call alters what it is lent, and each refuses
 // what the documents refuse, in their order.
+#![tactic(auto)]
+
 mod estimates;
 mod same;
 
@@ -15,7 +17,7 @@ use state::Position;
 use summary::Tally;
 
 // What both calls answer: yes or no, or the refusal.
-#[derive(Drop)]
+#[derive(Clone, Copy)]
 pub enum Agreement {
     Same(bool),
     Refused(u32),

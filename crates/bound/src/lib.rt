@@ -1,4 +1,6 @@
 // The bound on disturbance and the least counter count, for Rattle and for C.
+#![tactic(auto)]
+
 mod search;
 mod total;
 
@@ -12,7 +14,7 @@ ghost use Rattle.bound.specs.Answers.{outcome, bound_answer, least_answer, signe
 use device::Settings;
 
 // A value, or the number of the refusal.
-#[derive(Drop)]
+#[derive(Clone, Copy)]
 pub enum Answer {
     Value(u64),
     Refused(u32),

@@ -23,7 +23,7 @@ pub fn room_below(threshold: u64, disturbers: u64) -> u64
 }
 
 // A product over a size, rounded up, and what the rounding added: quotient × size is the product and `over`.
-#[derive(Drop)]
+#[derive(Clone, Copy)]
 struct Share {
     quotient: u64,
     over: u64,

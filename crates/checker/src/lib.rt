@@ -1,4 +1,6 @@
 // Checking a listing: it is what a trace requires, or the number of its first line that departs.
+#![tactic(auto)]
+
 ghost use Rattle.std.specs.Prelude.{◌≡◌, true, false, ◌+◌, ◌-◌, ◌≤◌, length, drop, replicate};
 ghost use Rattle.aids.specs.Marks.{Marked};
 ghost use Rattle.aids.specs.Bounds.{all_bounds};
@@ -26,14 +28,14 @@ const MARKS: usize = 4_160;
 const BOUNDS: usize = 4_160;
 
 // The answer: the listing passes, or it departs at a line, counted from 1.
-#[derive(Drop)]
+#[derive(Clone, Copy)]
 pub enum Verdict {
     Passes,
     Departs(u64),
 }
 
 // Whether all bytes that were required stood there, and how many lines have ended among those that did.
-#[derive(Drop)]
+#[derive(Clone, Copy)]
 pub struct Compared {
     pub all: bool,
     pub lines: u64,
@@ -41,7 +43,7 @@ pub struct Compared {
 
 // How far a check is: where the listing of the trace is, the bytes of the trace taken, the bytes of the listing passed and the lines ended among them,
 // whether all was the same, and whether lines of the trace may be left.
-#[derive(Drop)]
+#[derive(Clone, Copy)]
 struct Checking {
     place: Place,
     taken: usize,

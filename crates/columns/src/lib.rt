@@ -1,4 +1,6 @@
 // Numbers in columns, read from lent text and printed into a lent buffer; and the line of a refusal.
+#![tactic(auto)]
+
 ghost use Rattle.std.specs.Prelude.{◌≡◌, ◌+◌, ◌*◌, ◌≤◌, ◌<◌, [], ◌∷◌, length, take};
 ghost use Rattle.std.proofs.Math.Seq.{slice};
 ghost use Rattle.columns.specs.Numbers.{digits, field, digit_or_blank, printed, written};
@@ -15,7 +17,7 @@ pub const LINES: u64 = 10_000_000_000;
 pub const NO_NUMBER: u32 = 4_294_967_295;
 
 // What some columns hold.
-#[derive(Drop)]
+#[derive(Clone, Copy)]
 pub enum Field {
     Number(u32),
     Other,

@@ -1,5 +1,7 @@
 // The Misra-Gries summary of disturbed rows in one table with a count for every row of the largest bank: to drop, to raise and to enter a row is one store.
 // An internal layer: its callers keep the tables as `Bank` says.
+#![tactic(auto)]
+
 ghost use Rattle.std.specs.Prelude.{◌≡◌, ◌∷◌, [], ◌++◌, ◌+◌, ◌-◌, ◌≤◌, ◌<◌, length, get_or};
 ghost use Rattle.device.specs.Acceptance.{most_rows};
 ghost use Rattle.device.specs.Victims.{rows_between};
@@ -15,7 +17,7 @@ ghost use Rattle.dense.specs.InnerContracts.{summary, DisturbedIn, Leaves, Track
 const ROWS: usize = 262_144;
 
 // The number of tracked rows, the spillover, and a row before which none is at the spillover.
-#[derive(Drop)]
+#[derive(Clone, Copy)]
 pub struct Tally {
     pub tracked: u32,
     pub spillover: u32,
@@ -23,14 +25,14 @@ pub struct Tally {
 }
 
 // A row that was taken out, and the tally then.
-#[derive(Drop)]
+#[derive(Clone, Copy)]
 pub struct Taken {
     pub row: usize,
     pub tally: Tally,
 }
 
 // How many rows were picked, and the tally then.
-#[derive(Drop)]
+#[derive(Clone, Copy)]
 pub struct Picked {
     pub count: usize,
     pub tally: Tally,

@@ -1,5 +1,7 @@
 // A device: its settings with their tests, where a logical row lies on the die, for how many units it may be held open, and how far a row reaches in
 // its subarray.
+#![tactic(auto)]
+
 ghost use Rattle.std.specs.Prelude.{◌≡◌, ◌<◌, ◌+◌, ◌-◌, ◌*◌, min, max, not, true, leb};
 ghost use Rattle.device.specs.Refusal.{refuse, first_failed};
 ghost use Rattle.device.specs.Acceptance.{most_rows, within, rows_allowed, diameter_allowed, block_allowed, settings_tests, settings_tests_with, settings_tests_but_counters};
@@ -13,7 +15,7 @@ pub const MOST_ROWS: u32 = 262144;
 pub const MOST_COUNTERS: u32 = 2048;
 
 // The settings in document 01's order.
-#[derive(Drop)]
+#[derive(Clone, Copy)]
 pub struct Settings {
     // N, 'rows in the bank'.
     pub rows: u32,

@@ -1,4 +1,6 @@
 // A program over the tracker: it is set up, rows are activated, a refresh event names the row to refresh, and a row's figure is asked for.
+#![tactic(auto)]
+
 use bound::Answer;
 use device::Settings;
 use libc::STDOUT_FILENO;

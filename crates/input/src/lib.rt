@@ -1,4 +1,6 @@
 // Files that are open for reading, and what a read behind bytes that are kept comes to.
+#![tactic(auto)]
+
 ghost use Rattle.std.specs.Prelude.{◌≡◌, ◌&&◌, ◌+◌, ◌≤◌, ltb, length};
 ghost use Rattle.input.specs.AtHand.{input_of, Came};
 ghost use Rattle.input.specs.Files.{is_descriptor, no_file, standard_input};
@@ -13,7 +15,7 @@ pub struct File {
 }
 
 // What a read came to: so many bytes at hand, the input's end, or a failure.
-#[derive(Drop)]
+#[derive(Clone, Copy)]
 pub enum Input {
     Bytes(usize),
     End,

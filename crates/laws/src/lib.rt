@@ -1,1 +1,2 @@
 // Laws of cases, choices and lists that every crate may cite; no code.
+#![tactic(auto)]

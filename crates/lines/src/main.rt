@@ -1,4 +1,6 @@
 // Reads a trace line by line: what a line says is printed, and the text behind it is handed on to the next call.
+#![tactic(auto)]
+
 ghost use Rattle.std.specs.Prelude.{◌≡◌, drop};
 ghost use Rattle.trace.specs.Reading.{reading};
 ghost use Rattle.lines.specs.Lines.{line_count};

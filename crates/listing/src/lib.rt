@@ -1,4 +1,6 @@
 // The listing: what the program prints for a trace that comes in parts.
+#![tactic(auto)]
+
 mod run;
 
 ghost use Rattle.std.specs.Prelude.{◌≡◌, ◌+◌, ◌*◌, ◌≤◌, length};
@@ -15,14 +17,14 @@ use steps::Place;
 const ROOM: usize = 200;
 
 // Where the listing is behind a run of lines that print nothing, and the place behind them.
-#[derive(Drop)]
+#[derive(Clone, Copy)]
 pub struct Ran {
     pub place: Place,
     pub taken: usize,
 }
 
 // Where the listing is behind the lines that were taken, how many bytes of the text they were, and the place behind what was printed.
-#[derive(Drop)]
+#[derive(Clone, Copy)]
 pub struct Part {
     pub place: Place,
     pub taken: usize,
@@ -30,7 +32,7 @@ pub struct Part {
 }
 
 // What lies between two reads left: where the listing is, the place behind what was printed, and how many bytes are kept.
-#[derive(Drop)]
+#[derive(Clone, Copy)]
 pub struct Chunk {
     pub place: Place,
     pub end: usize,

@@ -1,5 +1,7 @@
 // Checks a supplier's listing against a trace: two files, read through buffers of fixed size. The required listing is made part by part and compared as the
 // supplier's comes in.
+#![tactic(auto)]
+
 mod line;
 
 ghost use Rattle.std.specs.Prelude.{◌≡◌, ◌&&◌, [], ◌+◌, ◌≤◌, ◌<◌, leb, ltb, length};
@@ -54,7 +56,7 @@ struct Named {
 }
 
 // What a check has come to.
-#[derive(Drop)]
+#[derive(Clone, Copy)]
 pub enum Answer {
     Open,
     Passes,
@@ -64,7 +66,7 @@ pub enum Answer {
 }
 
 // How far the comparison is: the bytes compared of those that are required now, the lines that have ended among all that were the same, and the answer.
-#[derive(Drop)]
+#[derive(Clone, Copy)]
 pub struct Check {
     pub at: usize,
     pub lines: u64,
@@ -72,7 +74,7 @@ pub struct Check {
 }
 
 // How far a run is: what lies between two reads of the trace left, and how far the comparison is.
-#[derive(Drop)]
+#[derive(Clone, Copy)]
 pub struct Step {
     pub turn: Turn,
     pub check: Check,

@@ -1,4 +1,6 @@
 // A closer figure for each row: the most that its disturbance can be, by where the tracker stands.
+#![tactic(auto)]
+
 ghost use Rattle.std.specs.Prelude.{◌≡◌, ◌≤◌, ◌<◌, min};
 ghost use Rattle.device.specs.Refusal.{first_failed};
 ghost use Rattle.device.specs.Acceptance.{settings_tests};

@@ -1,4 +1,6 @@
 // Lists a trace: standard input to standard output, through buffers of fixed size. What goes wrong is said on standard error.
+#![tactic(auto)]
+
 ghost use Rattle.std.specs.Prelude.{◌≡◌, length};
 ghost use Rattle.aids.specs.Marks.{Marked};
 ghost use Rattle.aids.specs.Bounds.{all_bounds};
@@ -20,7 +22,7 @@ const TEXT: usize = 6_144;
 const OUT: usize = 339_968;
 
 // How a run ended: what its last step left, and whether all that was to be written was.
-#[derive(Drop)]
+#[derive(Clone, Copy)]
 struct Ended {
     turn: Turn,
     written: bool,

@@ -1,4 +1,6 @@
 // One of the reader's answers: what it earns where it is to be written, and its spelling.
+#![tactic(auto)]
+
 ghost use Rattle.std.specs.Prelude.{◌≡◌, cond, [], ◌∷◌, eqb, ◌+◌, ◌*◌, ◌≤◌, length, take};
 ghost use Rattle.trace.specs.Bytes.{letter_A, letter_F, letter_H, letter_R, letter_S};
 ghost use Rattle.device.specs.Refusal.{unless, first_failed};
@@ -14,7 +16,7 @@ use device::Settings;
 use trace::{Read, Record, Sixteen};
 
 // N of the settings last before a record, if any stand.
-#[derive(Drop)]
+#[derive(Clone, Copy)]
 pub struct Standing {
     pub active: bool,
     pub rows: u32,

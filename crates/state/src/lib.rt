@@ -1,11 +1,13 @@
 // The state that the caller lends, and the rules of a valid one, tested on the lent tables.
+#![tactic(auto)]
+
 ghost use Rattle.std.specs.Prelude.{◌≡◌, ◌&&◌, ◌≤◌, leb, length, take, drop};
 ghost use Rattle.state.specs.State.{most_count, zeros, ascending, counts_allowed, position_allowed, valid, tables_long, lent};
 
 use device::Settings;
 
 // Where a tracker stands: events so far in this window, activations since the last event, counted by their units, tracked rows, spillover.
-#[derive(Drop)]
+#[derive(Clone, Copy)]
 pub struct Position {
     pub events: u32,
     pub activations: u32,

@@ -1,4 +1,6 @@
 // One line of a trace: what it does with the tracker that stands, and what it prints.
+#![tactic(auto)]
+
 mod line;
 mod print;
 mod record;
@@ -9,7 +11,7 @@ pub use record::list_line;
 
 // Where a listing is: whether a tracker stands, its settings and remap, its events and activations so far and what goes with its counts, the remap that is
 // loaded for the next, and the lines so far, which count modulo 10,000,000,000.
-#[derive(Drop)]
+#[derive(Clone, Copy)]
 pub struct Place {
     pub active: bool,
     pub settings: Settings,
@@ -22,7 +24,7 @@ pub struct Place {
 }
 
 // Where the listing is behind a line, and the place behind what was printed.
-#[derive(Drop)]
+#[derive(Clone, Copy)]
 pub struct Listed {
     pub place: Place,
     pub end: usize,

@@ -1,5 +1,7 @@
 // The Misra-Gries summary of disturbed rows, in two lent tables: look up, drop, enter, disturb, take out the highest.
 // An internal layer: its callers keep the tables as `Held` says; the tracker's calls refuse any other state.
+#![tactic(auto)]
+
 ghost use Rattle.std.specs.Prelude.{◌≡◌, false, ◌∷◌, [], ◌-◌, ◌≤◌, ◌<◌, length, take};
 ghost use Rattle.device.specs.Victims.{rows_between};
 ghost use Rattle.tables.specs.InnerContracts.{Rising, equal_place, taken_at};
@@ -9,21 +11,21 @@ ghost use Rattle.summary.specs.Rules.{RoomFor};
 ghost use Rattle.summary.specs.InnerContracts.{summary, places, Tracks, Turns, Names, picked_out};
 
 // The number of tracked rows and the spillover, which go with the tables.
-#[derive(Drop)]
+#[derive(Clone, Copy)]
 pub struct Tally {
     pub tracked: usize,
     pub spillover: u32,
 }
 
 // A row that was taken out, and the tally then.
-#[derive(Drop)]
+#[derive(Clone, Copy)]
 pub struct Taken {
     pub row: u32,
     pub tally: Tally,
 }
 
 // How many rows were picked, and the tally then.
-#[derive(Drop)]
+#[derive(Clone, Copy)]
 pub struct Picked {
     pub count: usize,
     pub tally: Tally,

@@ -1,4 +1,6 @@
 // One lent table of numbers, of which the first places are used: find, put in, take out, clear.
+#![tactic(auto)]
+
 ghost use Rattle.std.specs.Prelude.{◌≡◌, ◌≤◌, ◌<◌, length, take, replicate};
 ghost use Rattle.tables.specs.InnerContracts.{Rising, lower_place, equal_place, highest_place, put_in, taken_at};
 

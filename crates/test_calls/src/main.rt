@@ -1,5 +1,7 @@
 // Answers calls of the tracker from standard input, one answer for each whole request, for tests/calls/compare.py,
 // which has the layout of both. All numbers are words of four bytes, the lowest first.
+#![tactic(auto)]
+
 ghost use Rattle.std.specs.Prelude.{◌≤◌};
 
 use agreement::Agreement;

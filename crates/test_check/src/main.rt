@@ -1,4 +1,6 @@
 // Checks a listing by the library's call, for tests/check/compare.py: standard input has the trace, a byte 0, and the listing, together at most 65,536 bytes.
+#![tactic(auto)]
+
 ghost use Rattle.std.specs.Prelude.{◌≤◌, length};
 
 use checker::Verdict;

@@ -1,5 +1,7 @@
 // Answers calls of the writer from standard input, one answer for each whole request, for tests/writer/compare.py,
 // which has the layout of both. All numbers are words of four bytes, the lowest first.
+#![tactic(auto)]
+
 ghost use Rattle.std.specs.Prelude.{◌≡◌, ◌≤◌, length, take};
 ghost use Rattle.canonical.specs.Writing.{writing};
 ghost use Rattle.writer.specs.Answers.{outcomes_of, write_left};

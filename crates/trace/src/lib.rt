@@ -1,4 +1,6 @@
 // The trace reader: lines of a lent text, the records that they say, and the text behind them.
+#![tactic(auto)]
+
 ghost use Rattle.std.specs.Prelude.{◌≡◌, ◌+◌, ◌*◌, ◌≤◌, min, length, drop};
 ghost use Rattle.columns.specs.Numbers.{fields};
 ghost use Rattle.trace.specs.Lines.{extent};
@@ -16,14 +18,14 @@ use device::Settings;
 const KEPT: usize = 128;
 
 // What some fields hold: whether each is a number, and these numbers from the front on.
-#[derive(Drop)]
+#[derive(Clone, Copy)]
 pub struct Fields {
     pub all: bool,
     pub values: [u32; 16],
 }
 
 // The numbers of a remap as fields: an enum can hold these, and no array.
-#[derive(Drop)]
+#[derive(Clone, Copy)]
 pub struct Sixteen {
     pub n0: u32,
     pub n1: u32,
@@ -44,7 +46,7 @@ pub struct Sixteen {
 }
 
 // What a line says: settings, a remap, an activation of a logical row with its hold, a refresh event, or nothing.
-#[derive(Drop)]
+#[derive(Clone, Copy)]
 pub enum Record {
     Set(Settings),
     Remap(Sixteen),
@@ -54,7 +56,7 @@ pub enum Record {
 }
 
 // A record and the place behind its line, or, of a line refused with 11, the place behind it.
-#[derive(Drop)]
+#[derive(Clone, Copy)]
 pub enum Read {
     Line(Record, usize),
     Refused(usize),

@@ -1,5 +1,7 @@
 // Rewrites a trace in its one spelling: standard input to standard output, through buffers of fixed size. At the first faulty line it stops and
 // says on standard error which it is, and so it does where something cannot be read or written.
+#![tactic(auto)]
+
 ghost use Rattle.std.specs.Prelude.{◌≡◌, ◌+◌, ◌≤◌, length, take};
 ghost use Rattle.trace.specs.Reading.{said};
 ghost use Rattle.columns.specs.Output.{PrintsInto};
@@ -18,7 +20,7 @@ use trace::Read;
 const TEXT: usize = 65_536;
 
 // Where a rewriting is: what stands, the lines so far, which count modulo 10,000,000,000, and the refusal that stopped it, or 0.
-#[derive(Drop)]
+#[derive(Clone, Copy)]
 struct Place {
     standing: Standing,
     lines: u64,
@@ -26,14 +28,14 @@ struct Place {
 }
 
 // Where the rewriting is behind a line, and the place behind what was written.
-#[derive(Drop)]
+#[derive(Clone, Copy)]
 struct Rewritten {
     place: Place,
     end: usize,
 }
 
 // Where the rewriting is behind the lines that were taken, how many bytes of the text they were, and the place behind what was written.
-#[derive(Drop)]
+#[derive(Clone, Copy)]
 struct Part {
     place: Place,
     taken: usize,
@@ -41,7 +43,7 @@ struct Part {
 }
 
 // The same with how many bytes are kept.
-#[derive(Drop)]
+#[derive(Clone, Copy)]
 struct Chunk {
     place: Place,
     end: usize,
@@ -50,7 +52,7 @@ struct Chunk {
 
 // What lies between two reads left: where the rewriting is, how many bytes are kept at the text's front and how many are to be written, whether
 // to read again, and whether the read failed.
-#[derive(Drop)]
+#[derive(Clone, Copy)]
 struct Turn {
     place: Place,
     kept: usize,
@@ -60,7 +62,7 @@ struct Turn {
 }
 
 // How a run ended: what its last step left, and whether all that was to be written was.
-#[derive(Drop)]
+#[derive(Clone, Copy)]
 struct Ended {
     turn: Turn,
     written: bool,

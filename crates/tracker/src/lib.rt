@@ -1,5 +1,7 @@
 // The tracker: set up, activation and refresh event, on tables and a position that the caller lends.
 // Every call refuses what document 01 refuses, in its order, and then leaves everything as it came.
+#![tactic(auto)]
+
 mod event;
 mod victims;
 
@@ -15,28 +17,28 @@ pub use state::Position;
 use summary::Tally;
 
 // What setting up answers: the position to begin with, or the refusal.
-#[derive(Drop)]
+#[derive(Clone, Copy)]
 pub enum SetUp {
     Ready(Position),
     Refused(u32),
 }
 
 // What an activation answers: the position after it, or the refusal and the position as it came.
-#[derive(Drop)]
+#[derive(Clone, Copy)]
 pub enum Activation {
     Accepted(Position),
     Refused(u32, Position),
 }
 
 // What a refresh event answers: the number picked and the position after it, or the refusal and the position as it came.
-#[derive(Drop)]
+#[derive(Clone, Copy)]
 pub enum Refreshed {
     Accepted(u32, Position),
     Refused(u32, Position),
 }
 
 // What a refresh event that is accepted leaves: the number picked and the position after it.
-#[derive(Drop)]
+#[derive(Clone, Copy)]
 struct AfterEvent {
     count: u32,
     position: Position,

@@ -1,4 +1,6 @@
 // A read of a trace and what lies behind it: the bytes that came in are listed, up to the last line's end.
+#![tactic(auto)]
+
 ghost use Rattle.std.specs.Prelude.{◌≡◌, true, false};
 ghost use Rattle.steps.specs.Memory.{memory_of, start_place, Ready, BankedIn};
 ghost use Rattle.turns.specs.Turns.{Readable, turn_from, turn_before, turn_left, Stepped};
@@ -9,7 +11,7 @@ use steps::Place;
 
 // What lies between two reads left: where the listing is, how many bytes are kept at the text's front and how many are to be written, whether to
 // read again, and whether the read failed.
-#[derive(Drop)]
+#[derive(Clone, Copy)]
 pub struct Turn {
     pub place: Place,
     pub kept: usize,

@@ -1,4 +1,6 @@
 // The trace writer: from the reader's answers to the one spelling of a trace, in a lent text.
+#![tactic(auto)]
+
 ghost use Rattle.std.specs.Prelude.{◌≡◌, ◌≤◌, length, take};
 ghost use Rattle.columns.specs.Numbers.{written};
 ghost use Rattle.canonical.specs.Spelling.{spelling};
@@ -11,7 +13,7 @@ use trace::Read;
 
 // What a first pass over the answers has found: N of the settings that stand, if any; the first fault, or 0; the bytes of the lent text that are
 // left, and whether they were too few.
-#[derive(Drop)]
+#[derive(Clone, Copy)]
 struct Survey {
     active: bool,
     rows: u32,
@@ -21,7 +23,7 @@ struct Survey {
 }
 
 // What the writer answers: the number of bytes written, or the refusal.
-#[derive(Drop)]
+#[derive(Clone, Copy)]
 pub enum Written {
     Bytes(usize),
     Refused(u32),

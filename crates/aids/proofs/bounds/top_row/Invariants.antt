@@ -1,0 +1,17 @@
+-- `aids::bounds::top_row` meets its contract. The invariant: the bounds hold, and a row that is found is the first of the highest count. The measure is
+-- all bounds together, and one more for the last turn.
+use mathlib.Core.List.{List}
+use Prim.Native.Nat.{ℕ, ◌+◌, ◌-◌, ◌≤◌, ◌<◌}
+use native.Mathlib.Omega.{arith}
+use borrow.Author.Rules.{rules}
+use Rattle.device.specs.Acceptance.{most_rows}
+use Rattle.aids.specs.Bounds.{Capped, Top, total, Tried}
+use Rattle.aids.proofs.BoundsTop.{highest_is}
+use Rattle.aids.proofs.BoundsTried.{tried_less}
+use Rattle.aids.proofs.bounds.top_row.Given as goal
+
+abbrev pub invariant-loop-row : goal.invariant-loop-row
+invariant-loop-row l = Left l.counts l.bounds l.row
+
+abbrev pub decreases-loop-row : goal.decreases-loop-row
+decreases-loop-row l = total l.bounds + (l.row - 262143)

@@ -1,0 +1,12 @@
+-- `aids::marks::clear` meets its contract.
+use mathlib.Core.Path.{ap, ◌∙◌}
+use Prim.Native.Nat.{ℕ}
+use borrow.Author.Rules.{rules}
+use lib.ListN.{replicate}
+use Rattle.aids.proofs.Emptied.{unmarked}
+use Rattle.aids.proofs.marks.clear.Goals as goal
+
+pub returns : goal.returns
+returns c =
+    let c = c in let counts = c.clear_marked.ensures in
+    (counts.1, unmarked counts.0 counts.1 (c.clear_marks.ensures ∙ cp (λ (n : ℕ). replicate n 0) c.requires.marks_long))

@@ -1,0 +1,39 @@
+-- `aids::marks::clear_marked` meets its contract. The invariant: the rows of the words passed have no count, and the others what they had.
+use mathlib.Core.Logic.{⊎_elim}
+use mathlib.Core.List.{List}
+use Prim.Native.Nat.{ℕ, ◌+◌, ◌*◌, ◌-◌, ◌≤◌}
+use native.Mathlib.Omega.{arith}
+use Rattle.aids.specs.Marks.{row_words, Emptied}
+use Rattle.aids.proofs.Emptied.{emptied_none, emptied_on, emptied_word, emptied_all}
+use Rattle.aids.proofs.marks.clear_marked.Goals as goal
+
+record Passed (counts₀ counts : List ℕ) (w : ℕ) : Type 0 where
+  emptied : Emptied counts₀ counts 0 (w * 64)
+  most : w ≤ row_words
+
+pub loop-w-init : goal.loop-w-init
+loop-w-init c = let c = c in record { emptied = emptied_none c.args.counts.now 0 0 (omega crith); most = omega crith }
+
+pub bounds-marks-w : goal.bounds-marks-w
+bounds-marks-w c = omega (arith, c.requires.marks_long)
+
+pub clear_block-requires : goal.clear_block-requires
+clear_block-requires c = let c = c in let l = c.loop-w in omega (crith, l.invariant.emptied.long, c.requires.counts_long)
+
+pub loop-w-preserved : goal.loop-w-preserved
+loop-w-preserved c =
+    let l = c.loop-w in
+    record {
+      emptied =
+          ⊎_elim
+          (λ v. rw v.5 (emptied_on l.invariant.emptied v.2.ensures (omega arith) ((l.w + 1) * 64) (omega arith)))
+          (λ v. rw v.1 (emptied_word c.requires l.w l.invariant.emptied (omega (arith, v.0.left))))
+          c.if-marks-w-ne0.branch;
+      most = omega arith;
+    }
+
+pub shape_of-counts : goal.shape_of-counts
+shape_of-counts c = c.loop-w.invariant.emptied.long
+
+pub returns : goal.returns
+returns c = let l = c.loop-w in emptied_all c.requires (l.w * 64) l.invariant.emptied (omega arith)

@@ -1,0 +1,14 @@
+-- `aids::marks::clear_marked` meets its contract. The invariant: the rows of the words passed have no count, and the others what they had.
+use mathlib.Core.Logic.{⊎_elim}
+use mathlib.Core.List.{List}
+use Prim.Native.Nat.{ℕ, ◌+◌, ◌*◌, ◌-◌, ◌≤◌}
+use native.Mathlib.Omega.{arith}
+use Rattle.aids.specs.Marks.{row_words, Emptied}
+use Rattle.aids.proofs.Emptied.{emptied_none, emptied_on, emptied_word, emptied_all}
+use Rattle.aids.proofs.marks.clear_marked.Given as goal
+
+abbrev pub invariant-loop-w : goal.invariant-loop-w
+invariant-loop-w l = Passed l.initial.counts l.counts l.w
+
+abbrev pub decreases-loop-w : goal.decreases-loop-w
+decreases-loop-w l = row_words - l.w

@@ -1,0 +1,79 @@
+-- `aids::marks::first_in_words` meets its contract. The invariant: no row before those of the word looked at is at the count, and what is left of the
+-- word of words shows those from it on. The measure is how many those are.
+use mathlib.Core.List.{List}
+use Prim.Native.Nat.{ℕ, ◌+◌, ◌*◌, ◌-◌, ◌<◌}
+use native.Mathlib.Omega.{arith}
+use lib.Count.{count_trailing_zeros}
+use Rattle.aids.specs.Marks.{Clear, Shows, in_use}
+use Rattle.aids.proofs.Bits.{few_zeros}
+use Rattle.aids.proofs.Shown.{lowest_inside, rest, rest_less, rows_of_word}
+use Rattle.aids.proofs.Searches.{clear_less, clear_words_skipped, clear_words_end, missed_all, found_part}
+use Rattle.aids.proofs.marks.first_in_words.Goals as goal
+
+record Left (counts marks : List ℕ) (count left w end : ℕ) : Type 0 where
+  shows : Shows (in_use marks) left w end
+  clear : Clear counts count (w * 64)
+  fits : left < 18446744073709551616
+
+pub loop-left-init : goal.loop-left-init
+loop-left-init c = let c = c in record { shows = c.requires.3; clear = c.requires.4; fits = omega crith }
+
+pub overflow_cast-w : goal.overflow_cast-w
+overflow_cast-w c = let l = c.loop-left in omega (arith, lowest_inside l.invariant.shows (omega (arith, c.loop-left-test.true)))
+
+pub overflow_add-w : goal.overflow_add-w
+overflow_add-w c = let l = c.loop-left in omega (arith, lowest_inside l.invariant.shows (omega (arith, c.loop-left-test.true)))
+
+pub offset_bounds-marks-w : goal.offset_bounds-marks-w
+offset_bounds-marks-w c = let l = c.loop-left in omega (arith, lowest_inside l.invariant.shows (omega (arith, c.loop-left-test.true)))
+
+pub bounds-marks-w : goal.bounds-marks-w
+bounds-marks-w c = let l = c.loop-left in omega (arith, lowest_inside l.invariant.shows (omega (arith, c.loop-left-test.true)), c.requires.0.marks_long)
+
+pub overflow_mul-w : goal.overflow_mul-w
+overflow_mul-w c = let l = c.loop-left in omega (arith, lowest_inside l.invariant.shows (omega (arith, c.loop-left-test.true)))
+
+pub overflow_mul-w-in-loop-left : goal.overflow_mul-w-in-loop-left
+overflow_mul-w-in-loop-left c = let l = c.loop-left in omega (arith, lowest_inside l.invariant.shows (omega (arith, c.loop-left-test.true)))
+
+pub overflow_add-w-in-loop-left : goal.overflow_add-w-in-loop-left
+overflow_add-w-in-loop-left c = let l = c.loop-left in omega (arith, lowest_inside l.invariant.shows (omega (arith, c.loop-left-test.true)))
+
+pub first_in_word-row-requires : goal.first_in_word-row-requires
+first_in_word-row-requires c =
+    let l = c.loop-left in
+    let c = c in let some : 0 < l.left = omega (crith, c.loop-left-test.true) in
+    let w = l.w + count_trailing_zeros 64 l.left in
+    let inside = lowest_inside l.invariant.shows some in
+    (c.requires.0.counts_long, omega crith, rows_of_word c.requires.0 c.requires.1 w (omega (crith, c.shared_slice_known-in-loop-left-1.given w)), clear_words_skipped c.requires.0 c.requires.1 l.invariant.shows l.invariant.clear some)
+
+pub returns-then-row-ne-ROWS : goal.returns-then-row-ne-ROWS
+returns-then-row-ne-ROWS c = let c = c in found_part (c.args.end * 64) c.first_in_word-row.ensures c.if-row-ne-ROWS.true
+
+pub overflow_add-w-in-loop-left-2 : goal.overflow_add-w-in-loop-left-2
+overflow_add-w-in-loop-left-2 c = let l = c.loop-left in omega (arith, lowest_inside l.invariant.shows (omega (arith, c.loop-left-test.true)))
+
+pub overflow_cast-left : goal.overflow_cast-left
+overflow_cast-left c = let l = c.loop-left in omega (arith, lowest_inside l.invariant.shows (omega (arith, c.loop-left-test.true)))
+
+pub overflow_shr-left : goal.overflow_shr-left
+overflow_shr-left c = let l = c.loop-left in few_zeros 64 l.left 64 (omega (arith, c.loop-left-test.true)) l.invariant.fits
+
+pub loop-left-smaller : goal.loop-left-smaller
+loop-left-smaller c = let l = c.loop-left in omega (arith, lowest_inside l.invariant.shows (omega (arith, c.loop-left-test.true)))
+
+pub loop-left-preserved : goal.loop-left-preserved
+loop-left-preserved c =
+    let l = c.loop-left in
+    let some : 0 < l.left = omega (arith, c.loop-left-test.true) in
+    let w = l.w + count_trailing_zeros 64 l.left in
+    record {
+      shows = rest l.invariant.shows some;
+      clear = clear_less (c.first_in_word-row.ensures.missed c.if-row-ne-ROWS.false) ((w + 1) * 64) (omega arith);
+      fits = omega (arith, l.invariant.fits, rest_less l.left (count_trailing_zeros 64 l.left));
+    }
+
+pub returns : goal.returns
+returns c =
+    let l = c.loop-left in
+    let c = c in missed_all (clear_words_end c.requires.0 c.requires.1 l.invariant.shows l.invariant.clear (omega (crith, c.loop-left-test.false)))

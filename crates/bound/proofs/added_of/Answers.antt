@@ -1,0 +1,13 @@
+-- `bound::added_of` meets its contract: the settings' ranges keep the product small.
+use mathlib.Core.Path.{refl}
+use native.Mathlib.Omega.{arith}
+use borrow.Author.Rules.{rules}
+use Rattle.device.proofs.Acceptance.{accepted_but_counters}
+use Rattle.bound.proofs.Totals.Bound.{added_le}
+use Rattle.bound.proofs.added_of.Goals as goal
+
+pub overflow_mul-result : goal.overflow_mul-result
+overflow_mul-result c = let c = c in rw c.disturbers_of.ensures (omega (crith, cdded_le c.args.s (cccepted_but_counters c.args.s c.requires)))
+
+pub returns : goal.returns
+returns c = rw c.disturbers_of.ensures refl

@@ -1,0 +1,28 @@
+-- `bound::bound_at` meets its contract: the settings' ranges keep the sum small.
+use mathlib.Core.Path.{refl}
+use native.Mathlib.Omega.{arith}
+use borrow.Author.Rules.{rules}
+use Rattle.device.proofs.Acceptance.{accepted_settings, accepted_skipping}
+use Rattle.bound.specs.Totals.{bound_at}
+use Rattle.bound.proofs.Totals.Bound.{added_le, bound_at_lt}
+use Rattle.bound.proofs.bound_at.Goals as goal
+
+pub added_of-added-requires : goal.added_of-added-requires
+added_of-added-requires c = accepted_skipping c.args.s c.requires.s_value
+
+pub total_of-total-requires : goal.total_of-total-requires
+total_of-total-requires c =
+    let c = c in let ok = cccepted_settings c.args.s c.requires.s_value in (
+      ok.others.volume.least,
+      ok.others.volume.most,
+      ok.counters.most,
+      rw c.added_of-added.ensures (cdded_le c.args.s ok.others),
+      omega crith,
+    )
+
+pub returns : goal.returns
+unfolding bound_at
+returns c = rw (c.total_of-total.ensures, c.disturbers_of.ensures, c.added_of-added.ensures) refl
+
+pub overflow_add-result : goal.overflow_add-result
+overflow_add-result c = let c = c in omega (crith, returns c, bound_at_lt c.args.s c.args.events (cccepted_settings c.args.s c.requires.s_value).others (omega crith))

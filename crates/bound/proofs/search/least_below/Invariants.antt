@@ -1,0 +1,15 @@
+-- `search::least_below` meets its contract, by the laws of the walk.
+use mathlib.Core.Path.{◌∙◌}
+use Prim.Native.Nat.{ℕ, ◌-◌, ◌*◌, ◌^◌, ◌≤◌, ◌<◌}
+use native.Mathlib.Nat.{mul-le-mul}
+use native.Mathlib.Omega.{arith}
+use Rattle.bound.specs.Answers.{outcome}
+use Rattle.bound.proofs.Shares.{Shared, share_begins, shared_room, share_small, share_enough, share_next}
+use Rattle.bound.proofs.Walk.{Walked, all_below, walk_begins, walked_small, room_positive, walk_goes_on, walk_gives_up, walk_ends, walk_finds}
+use Rattle.bound.proofs.search.least_below.Given as goal
+
+abbrev pub invariant-loop-at : goal.invariant-loop-at
+invariant-loop-at l = Stands l.volume l.added l.steps l.end l.sum l.room l.at l.share.quotient l.share.over
+
+abbrev pub decreases-loop-at : goal.decreases-loop-at
+decreases-loop-at l = 2049 - l.at

@@ -1,0 +1,94 @@
+-- `checker::check_in` meets its contract. The invariant: how far the check has come, with tables that are a listing's.
+use mathlib.Core.Path.{◌≡◌, sym, ◌∙◌}
+use mathlib.Core.Bool.{true, false, cond}
+use mathlib.Core.List.{List}
+use Prim.Native.Nat.{ℕ, suc, ◌-◌, ◌<◌}
+use native.Mathlib.Omega.{arith}
+use borrow.Author.Rules.{rules}
+use borrow.Author.Tests.{not-true, not-false}
+use lib.ListN.{length, drop}
+use Rattle.trace.specs.Lines.{ended}
+use Rattle.laws.proofs.Cases.{split, clash}
+use Rattle.steps.specs.Memory.{Memory, memory, Banked}
+use Rattle.steps.proofs.Memory.Zeros.{banked_start}
+use Rattle.checker.specs.declared.Checking.{Checking}
+use Rattle.checker.specs.Comparison.{verdict_of}
+use Rattle.checker.specs.InnerContracts.{Reaches, Onward}
+use Rattle.checker.proofs.Checks.{reaches_start, reached_departs, reached_last}
+use Rattle.checker.proofs.check_in.Goals as goal
+
+record Stands (trace given counts marks bounds : List ℕ) (k : Checking) : Type 0 where
+  reaches : Reaches trace given (memory k.place counts) k
+  banked : Banked k.place counts marks bounds
+  goes : k.more ≡ true → k.same ≡ true
+  last : k.more ≡ false → k.same ≡ true → ended (drop k.taken trace) ≡ false
+
+left : List ℕ → Checking → ℕ
+
+left trace k = cond k.more (suc (length trace - k.taken)) 0
+
+left_less : {trace given : List ℕ} {m : Memory} {k k' : Checking} → Reaches trace given m k' → Onward trace k k' → k.more ≡ true → left trace k' < left trace k
+
+unfolding left
+
+left_less {trace} {k = k} {k' = k'} r o on =
+    rw on (split k'.more (λ more. rw more (omega (arith, o.more more, r.taken))) (λ done. rw done (omega arith)))
+
+pub loop-k-init : goal.loop-k-init
+loop-k-init c =
+    let c = c in rw c.first-k.ensures
+    (record {
+      reaches = reaches_start c.args.trace.now c.args.given.now c.args.counts.now;
+      banked = banked_start c.requires.0 c.requires.1;
+      goes = λ on. on;
+      last = λ off on. clash off;
+    })
+
+pub check_part-k-requires : goal.check_part-k-requires
+check_part-k-requires c =
+    let l = c.loop-k.invariant in
+    (l.reaches, l.banked, l.goes c.loop-k-test.true)
+
+pub loop-k-smaller : goal.loop-k-smaller
+loop-k-smaller c = let r = c.check_part-k.ensures in left_less r.0.0 r.0.1 c.loop-k-test.true
+
+pub loop-k-preserved : goal.loop-k-preserved
+loop-k-preserved c =
+    let r = c.check_part-k.ensures in
+    record { reaches = r.0.0; banked = r.1; goes = r.0.1.goes; last = r.0.1.last }
+
+pub overflow_add-result : goal.overflow_add-result
+overflow_add-result c = record { fits = omega (arith, c.loop-k.invariant.reaches.most, c.well-formed.1.0.1) }
+
+pub shape_of-counts-then-not-k : goal.shape_of-counts-then-not-k
+shape_of-counts-then-not-k c = c.loop-k.invariant.banked.marked.counts_long ∙ sym c.requires.0.counts_long
+
+pub shape_of-marks-then-not-k : goal.shape_of-marks-then-not-k
+shape_of-marks-then-not-k c = c.loop-k.invariant.banked.marked.marks_long ∙ sym c.requires.0.marks_long
+
+pub shape_of-bounds-then-not-k : goal.shape_of-bounds-then-not-k
+shape_of-bounds-then-not-k c = c.loop-k.invariant.banked.bounds_long ∙ sym c.requires.1
+
+pub returns-then-not-k : goal.returns-then-not-k
+unfolding verdict_of
+returns-then-not-k c = reached_departs c.loop-k.invariant.reaches _ c.if-not-k.true (omega arith)
+
+pub check_rest-requires : goal.check_rest-requires
+check_rest-requires c =
+    let r = c.loop-k.invariant.reaches in
+    (r.taken, r.passed, r.few c.if-not-k.false)
+
+pub shape_of-counts : goal.shape_of-counts
+shape_of-counts c = c.loop-k.invariant.banked.marked.counts_long ∙ sym c.requires.0.counts_long
+
+pub shape_of-marks : goal.shape_of-marks
+shape_of-marks c = c.loop-k.invariant.banked.marked.marks_long ∙ sym c.requires.0.marks_long
+
+pub shape_of-bounds : goal.shape_of-bounds
+shape_of-bounds c = c.loop-k.invariant.banked.bounds_long ∙ sym c.requires.1
+
+pub returns : goal.returns
+returns c =
+    let l = c.loop-k.invariant in
+    let on = c.if-not-k.false in
+    c.check_rest.ensures ∙ reached_last l.reaches on (l.last c.loop-k-test.false on)

@@ -1,0 +1,21 @@
+-- `checker::compare_bytes` meets its contract. The invariant: what comparing the rest comes to is what comparing all comes to.
+use mathlib.Core.Path.{◌≡◌, refl, sym, ◌∙◌, ap}
+use mathlib.Core.Bool.{true, false}
+use mathlib.Core.List.{List}
+use Prim.Native.Nat.{ℕ, ◌+◌, ◌-◌, ◌≤◌, ◌<◌}
+use native.Mathlib.Numerals.{add-one}
+use native.Mathlib.Omega.{arith}
+use borrow.Author.Tests.{eq-eqb, ne_eqb}
+use mir.Val.{bool_byte}
+use lib.Dec.{eqb}
+use lib.ListN.{length, get_or, drop, drop_of_length-le}
+use lib.Seq.{drop-cons}
+use Rattle.checker.specs.Comparison.{counted, compared}
+use Rattle.checker.proofs.Comparison.{one_more, one_most}
+use Rattle.checker.proofs.compare_bytes.Given as goal
+
+abbrev pub invariant-loop-i : goal.invariant-loop-i
+invariant-loop-i l = Left l.required l.given l.from l.lines l.at l.i l.ended
+
+abbrev pub decreases-loop-i : goal.decreases-loop-i
+decreases-loop-i l = length l.required - l.i

@@ -1,0 +1,19 @@
+-- `checker::lines_ended` meets its contract. The invariant: the lines so far, and those of the rest, are all lines.
+use mathlib.Core.Path.{◌≡◌, sym, ◌∙◌, ap}
+use mathlib.Core.Bool.{true}
+use mathlib.Core.List.{List}
+use Prim.Native.Nat.{ℕ, ◌+◌, ◌-◌, ◌≤◌, ◌<◌}
+use native.Mathlib.Nat.{add-zero}
+use native.Mathlib.Omega.{arith}
+use lib.Dec.{eqb}
+use lib.ListN.{length, get_or, drop, drop_of_length-le}
+use mir.Val.{bool_byte}
+use Rattle.checker.specs.Comparison.{compared}
+use Rattle.checker.proofs.Comparison.{one_most, itself_compared}
+use Rattle.checker.proofs.lines_ended.Given as goal
+
+abbrev pub invariant-loop-i : goal.invariant-loop-i
+invariant-loop-i l = Counted l.text l.lines l.ended l.i
+
+abbrev pub decreases-loop-i : goal.decreases-loop-i
+decreases-loop-i l = length l.text - l.i

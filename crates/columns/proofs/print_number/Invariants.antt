@@ -1,0 +1,16 @@
+-- `columns::print_number` meets its contract. The invariant: with the columns in front of i still to be written, the buffer is as it is to be.
+use mathlib.Core.Path.{◌≡◌, refl, sym, ◌∙◌}
+use mathlib.Core.List.{List}
+use Prim.Native.Nat.{ℕ, ◌-◌, ◌≤◌, ◌<◌, ◌/◌}
+use native.Mathlib.Omega.{arith}
+use borrow.Author.Rules.{rules}
+use lib.ListN.{length, set, length-set}
+use Rattle.columns.specs.Numbers.{digit_or_blank}
+use Rattle.columns.proofs.Numbers.Printed.{with_columns_before, with_columns_before_set, with_columns_before_none, written_printed_zero, written_printed_last}
+use Rattle.columns.proofs.print_number.Given as goal
+
+abbrev pub invariant-loop-i : goal.invariant-loop-i
+invariant-loop-i l = Left l.initial.out l.at l.initial.i l.initial.left l.out l.i l.left
+
+abbrev pub decreases-loop-i : goal.decreases-loop-i
+decreases-loop-i l = l.i

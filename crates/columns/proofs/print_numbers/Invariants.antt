@@ -1,0 +1,16 @@
+-- `columns::print_numbers` meets its contract. The invariant: the numbers before i are printed.
+use mathlib.Core.Path.{◌≡◌}
+use mathlib.Core.List.{List}
+use Prim.Native.Nat.{ℕ, ◌+◌, ◌-◌, ◌*◌, ◌≤◌, ◌<◌}
+use native.Mathlib.Omega.{arith}
+use lib.ListN.{length, get_or, take}
+use Rattle.columns.specs.Numbers.{printed}
+use Rattle.columns.specs.Output.{number_columns, Prints}
+use Rattle.columns.proofs.Output.{prints_nothing, prints_then, prints_long, length_number_columns_take, number_columns_more}
+use Rattle.columns.proofs.print_numbers.Given as goal
+
+abbrev pub invariant-loop-i : goal.invariant-loop-i
+invariant-loop-i l = Done l.initial.out l.at l.numbers l.count l.out l.place l.i
+
+abbrev pub decreases-loop-i : goal.decreases-loop-i
+decreases-loop-i l = l.count - l.i

@@ -1,0 +1,18 @@
+-- `columns::read_digits` meets its contract. The invariant: the digits from i on, behind n, make what all of them make; and n leaves room for them.
+use mathlib.Core.Path.{◌≡◌, refl, sym, ◌∙◌}
+use mathlib.Core.List.{List}
+use Prim.Native.Nat.{ℕ, suc, ◌+◌, ◌-◌, ◌*◌, ◌≤◌, ◌<◌}
+use native.Mathlib.Omega.{arith}
+use lib.ListN.{length, get_or}
+use lib.Seq.{slice}
+use Rattle.columns.specs.Answers.{number_found}
+use Rattle.columns.specs.Numbers.{digits}
+use Rattle.columns.proofs.Answers.{number_found_none, number_found_some}
+use Rattle.columns.proofs.Numbers.Digits.{is_digit_below, is_digit_above, is_digit_within, digits_other, digits_digit, digits_empty, Room, room_zero, room_lt, room_digit}
+use Rattle.columns.proofs.read_digits.Given as goal
+
+abbrev pub invariant-loop-i : goal.invariant-loop-i
+invariant-loop-i l = Left l.text l.from l.end l.n l.i
+
+abbrev pub decreases-loop-i : goal.decreases-loop-i
+decreases-loop-i l = l.end - l.i

@@ -1,0 +1,31 @@
+-- `spelling::width` meets its contract: by the answer and its record.
+use borrow.Author.Rules.{rules}
+use mathlib.Core.Path.{sym, ◌∙◌}
+use Rattle.trace.specs.Reading.{said}
+use Rattle.canonical.specs.Spelling.{record_spelling, answer_spelling}
+use Rattle.canonical.proofs.Spelling.Lengths.{length_settings_line, length_remap_line, length_activation_line, length_event_line}
+use Rattle.spelling.proofs.width.Goals as goal
+
+pub returns-in-Set : goal.returns-in-Set
+unfolding answer_spelling record_spelling said
+returns-in-Set c = rw (c.answer-1.given.1, c.enum_told-1.given.1) (sym (length_settings_line _))
+
+pub returns-in-Remap : goal.returns-in-Remap
+unfolding answer_spelling record_spelling said
+returns-in-Remap c = rw (c.answer-1.given.1, c.enum_told-in-Remap-1.given.1) (sym (length_remap_line _))
+
+pub returns-in-Activate : goal.returns-in-Activate
+unfolding answer_spelling record_spelling said
+returns-in-Activate c = let c = c in rw (c.answer-1.given.1, c.«record».given.1) (c.activation_width.ensures ∙ sym (length_activation_line _ _))
+
+pub returns-in-Refresh : goal.returns-in-Refresh
+unfolding answer_spelling record_spelling said
+returns-in-Refresh c = rw (c.answer-1.given.1, c.enum_told-in-Refresh-1.given.1) (sym length_event_line)
+
+pub returns-in-Blank : goal.returns-in-Blank
+unfolding answer_spelling record_spelling said
+returns-in-Blank c = rw (c.answer-1.given.1, c.enum_told-in-Blank-1.given.1)
+
+pub returns-in-Refused : goal.returns-in-Refused
+unfolding answer_spelling said
+returns-in-Refused c = rw c.enum_told-in-Refused-1.given.1

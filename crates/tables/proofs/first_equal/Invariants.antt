@@ -1,0 +1,16 @@
+-- `tables::first_equal` meets its contract. The invariant: i, and what the places from i on give, is what all the places give.
+use mathlib.Core.Path.{◌≡◌}
+use mathlib.Core.List.{List, []}
+use Prim.Native.Nat.{ℕ, ◌+◌, ◌-◌, ◌≤◌, ◌<◌}
+use native.Mathlib.Omega.{arith}
+use lib.ListN.{length, get_or, take, drop, drop_of_length-le}
+use lib.Seq.{get_or-take, length-take-le}
+use Rattle.tables.specs.InnerContracts.{equal_place}
+use Rattle.tables.proofs.Searches.{equal_place_here, equal_place_next}
+use Rattle.tables.proofs.first_equal.Given as goal
+
+abbrev pub invariant-loop-i : goal.invariant-loop-i
+invariant-loop-i l = Left l.t l.used l.x l.i
+
+abbrev pub decreases-loop-i : goal.decreases-loop-i
+decreases-loop-i l = l.used - l.i

@@ -1,0 +1,15 @@
+-- `tables::insert_at` meets its contract. The invariant: putting x in with i places used gives what was to be given.
+use mathlib.Core.Path.{◌≡◌, refl, ◌∙◌}
+use mathlib.Core.List.{List}
+use Prim.Native.Nat.{ℕ, ◌-◌, ◌≤◌, ◌<◌}
+use native.Mathlib.Omega.{arith}
+use lib.ListN.{length, get_or, set, length-set}
+use Rattle.tables.specs.InnerContracts.{put_in}
+use Rattle.tables.proofs.Shifts.{put_in_last, put_in_again}
+use Rattle.tables.proofs.insert_at.Given as goal
+
+abbrev pub invariant-loop-i : goal.invariant-loop-i
+invariant-loop-i l = Left l.initial.t l.used l.at l.x l.t l.i
+
+abbrev pub decreases-loop-i : goal.decreases-loop-i
+decreases-loop-i l = l.i

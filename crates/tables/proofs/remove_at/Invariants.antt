@@ -1,0 +1,15 @@
+-- `tables::remove_at` meets its contract. The invariant: taking place i out gives what was to be given.
+use mathlib.Core.Path.{◌≡◌, refl, ◌∙◌}
+use mathlib.Core.List.{List}
+use Prim.Native.Nat.{ℕ, ◌+◌, ◌-◌, ◌≤◌, ◌<◌}
+use native.Mathlib.Omega.{arith}
+use lib.ListN.{length, get_or, set, length-set}
+use Rattle.tables.specs.InnerContracts.{taken_at}
+use Rattle.tables.proofs.Shifts.{taken_at_last, taken_at_again}
+use Rattle.tables.proofs.remove_at.Given as goal
+
+abbrev pub invariant-loop-i : goal.invariant-loop-i
+invariant-loop-i l = Left l.initial.t l.used l.at l.t l.i
+
+abbrev pub decreases-loop-i : goal.decreases-loop-i
+decreases-loop-i l = l.used - l.i

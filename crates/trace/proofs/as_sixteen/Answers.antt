@@ -1,0 +1,9 @@
+-- `trace::as_sixteen` meets its contract.
+use mathlib.Core.Path.{refl}
+use borrow.Author.Rules.{rules}
+use Rattle.trace.specs.Records.{as_sixteen}
+use Rattle.trace.proofs.as_sixteen.Goals as goal
+
+pub returns : goal.returns
+unfolding as_sixteen
+returns c = refl

@@ -1,0 +1,15 @@
+-- `trace::line_end` meets its contract. The invariant: the line's end, looked for from i on, is where it is from the place on.
+use mathlib.Core.Path.{◌≡◌, refl}
+use mathlib.Core.List.{List, []}
+use Prim.Native.Nat.{ℕ, ◌+◌, ◌-◌, ◌≤◌}
+use native.Mathlib.Omega.{arith}
+use lib.ListN.{length, drop, drop_of_length-le}
+use Rattle.trace.specs.Lines.{extent}
+use Rattle.trace.proofs.Lines.{extent_end, extent_other}
+use Rattle.trace.proofs.line_end.Given as goal
+
+abbrev pub invariant-loop-i : goal.invariant-loop-i
+invariant-loop-i l = Left l.text l.place l.i
+
+abbrev pub decreases-loop-i : goal.decreases-loop-i
+decreases-loop-i l = length l.text - l.i

@@ -1,0 +1,25 @@
+-- `trace::line_fields` meets its contract.
+use mathlib.Core.Path.{◌∙◌, sym}
+use native.Mathlib.Omega.{arith}
+use borrow.Author.Rules.{rules}
+use lib.ListN.{length-drop}
+use Rattle.trace.specs.Answers.{found_all}
+use Rattle.trace.specs.InnerContracts.{line_fields}
+use Rattle.trace.proofs.InnerContracts.{ends_after_lt}
+use Rattle.trace.proofs.line_fields.Goals as goal
+
+pub read_fields-requires : goal.read_fields-requires
+read_fields-requires c =
+    let c = c in let inside = ends_after_lt _ _ (sym c.ends_after.ensures ∙ c.if-ends_after.true) in
+    (c.requires.0, omega (crith, rw length-drop ct inside))
+
+pub returns-then-ends_after : goal.returns-then-ends_after
+unfolding line_fields
+returns-then-ends_after c = rw (← c.ends_after.ensures, c.if-ends_after.true) c.read_fields.ensures
+
+pub returns : goal.returns
+unfolding found_all line_fields
+returns c = rw (← c.ends_after.ensures, c.if-ends_after.false)
+
+pub overflow_mul-count : goal.overflow_mul-count
+overflow_mul-count c = omega (arith, c.requires.0)
