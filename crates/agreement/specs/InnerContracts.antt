@@ -1,7 +1,6 @@
 -- What only inner contracts say, and no call's promise: the tests that both calls begin with, tables of a bank, and what a walk over a summary's
 -- two tables, in the order of rows, finds at a place i of them.
 use Rattle.std.specs.Prelude.{ℕ, ◌+◌, Bool, ◌&&◌, cond, List, [], ◌∷◌, ◌++◌, ltb, eqb, length, get_or}
-use Rattle.laws.specs.Lent.{Slice}
 use Rattle.device.specs.Acceptance.{settings_tests}
 use Rattle.device.specs.Refusal.{Test, unless}
 use Rattle.device.specs.declared.Settings.{Settings}
@@ -17,9 +16,9 @@ both_tables_tests s rows counts s' rows' counts' =
     unless (tables_long s rows counts && tables_long s' rows' counts') 8 ∷ []
 
 -- two lent tables and their tally hold a summary of rows below high
-abbrev pub TracksBelow : ℕ → Slice → Slice → Tally → Type 0
+abbrev pub TracksBelow : ℕ → List ℕ → List ℕ → Tally → Type 0
 TracksBelow high rows counts t =
-    Holds (length rows.now) high (summary rows counts t) rows.now counts.now t.tracked t.spillover
+    Holds (length rows) high (summary rows counts t) rows counts t.tracked t.spillover
 
 -- the row at the place, or the bank's end behind the last
 unfoldable pub next_row : List ℕ → ℕ → ℕ → ℕ → ℕ

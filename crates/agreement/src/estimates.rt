@@ -65,9 +65,9 @@ pub fn same_estimates(
     t2: Tally,
     high: u32,
 ) -> bool
-    requires tracks_below { TracksBelow high rows counts t }
-    requires tracks_below_2 { TracksBelow high rows2 counts2 t2 }
-    ensures { result ≡ same_estimates high (summary rows.entry counts.entry t) (summary rows2.entry counts2.entry t2) }
+    requires tracks_below { TracksBelow high rows.now counts.now t }
+    requires tracks_below_2 { TracksBelow high rows2.now counts2.now t2 }
+    ensures { result ≡ same_estimates high (summary rows.now counts.now t) (summary rows2.now counts2.now t2) }
 {
     let mut low = 0;
     let mut i = 0;

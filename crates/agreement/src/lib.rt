@@ -60,7 +60,7 @@ fn both_valid(
     p2: Position,
 ) -> bool
     requires { (tables_long s rows.now counts.now && tables_long s2 rows2.now counts2.now) ≡ true }
-    ensures { result ≡ (valid s (lent rows.entry counts.entry p) && valid s2 (lent rows2.entry counts2.entry p2)) }
+    ensures { result ≡ (valid s (lent rows.now counts.now p) && valid s2 (lent rows2.now counts2.now p2)) }
 {
     state::valid_memory(s, rows, counts, p) && state::valid_memory(s2, rows2, counts2, p2)
 }
@@ -78,7 +78,7 @@ fn agreement_refusal(
     counts2: &[u32],
     p2: Position,
 ) -> u32
-    ensures { result ≡ first_failed (agreement_tests s remap (lent rows.entry counts.entry p) s2 remap2 (lent rows2.entry counts2.entry p2)) }
+    ensures { result ≡ first_failed (agreement_tests s remap (lent rows.now counts.now p) s2 remap2 (lent rows2.now counts2.now p2)) }
 {
     let k = tables_refusal(s, rows, counts, s2, rows2, counts2);
     if k != 0 {
@@ -108,7 +108,7 @@ fn estimates_refusal(
     counts2: &[u32],
     p2: Position,
 ) -> u32
-    ensures { result ≡ first_failed (estimates_tests s (lent rows.entry counts.entry p) s2 (lent rows2.entry counts2.entry p2)) }
+    ensures { result ≡ first_failed (estimates_tests s (lent rows.now counts.now p) s2 (lent rows2.now counts2.now p2)) }
 {
     let k = tables_refusal(s, rows, counts, s2, rows2, counts2);
     if k != 0 {
@@ -134,7 +134,7 @@ pub fn agree(
     counts2: &[u32],
     p2: Position,
 ) -> Agreement
-    ensures { agreement_outcome result ≡ agreement_of s remap (lent rows.entry counts.entry p) s2 remap2 (lent rows2.entry counts2.entry p2) }
+    ensures { agreement_outcome result ≡ agreement_of s remap (lent rows.now counts.now p) s2 remap2 (lent rows2.now counts2.now p2) }
 {
     let k = agreement_refusal(s, remap, rows, counts, p, s2, remap2, rows2, counts2, p2);
     if k != 0 {
@@ -160,7 +160,7 @@ pub fn estimates_agree(
     counts2: &[u32],
     p2: Position,
 ) -> Agreement
-    ensures { agreement_outcome result ≡ estimates_of s (lent rows.entry counts.entry p) s2 (lent rows2.entry counts2.entry p2) }
+    ensures { agreement_outcome result ≡ estimates_of s (lent rows.now counts.now p) s2 (lent rows2.now counts2.now p2) }
 {
     let k = estimates_refusal(s, rows, counts, p, s2, rows2, counts2, p2);
     if k != 0 {

@@ -158,9 +158,9 @@ fn check_part(
     trace: &[u8],
     given: &[u8],
 ) -> Checking
-    requires { Reaches trace.now given.now (memory_of k.place counts) k × BankedIn k.place counts marks bounds × (k.same ≡ true) }
-    ensures reaches { Reaches trace.now given.now (memory_of result.place counts.exit) result × Onward trace.now k result }
-    ensures banked_in { BankedIn result.place counts.exit marks.exit bounds.exit }
+    requires { Reaches trace.now given.now (memory_of k.place counts.old) k × BankedIn k.place counts.old marks.old bounds.old × (k.same ≡ true) }
+    ensures reaches { Reaches trace.now given.now (memory_of result.place counts.new) result × Onward trace.now k result }
+    ensures banked_in { BankedIn result.place counts.new marks.new bounds.new }
 {
     let mut piece = [0u8; PIECE];
     let from = k.place;

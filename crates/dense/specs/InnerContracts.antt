@@ -1,6 +1,6 @@
 -- Inner relations: what a function makes of the summary in lent tables. Only contracts of functions that no caller of the listing reaches say these.
 use Rattle.std.specs.Prelude.{ℕ, ◌+◌, ◌≤◌, ◌<◌, ◌≡◌, Bool, true, false, List, get_or, set}
-use Rattle.laws.specs.Lent.{Slice, Lent}
+use Rattle.laws.specs.Lent.{Lent}
 use Rattle.device.specs.Acceptance.{most_rows}
 use Rattle.summary.specs.Steps.{Summary, empty, disturb}
 use Rattle.aids.specs.Marks.{EmptyFrom}
@@ -37,20 +37,20 @@ pub record Turned (rows counters : ℕ) (sum : Summary) (counts marks bounds : L
   pub holds : dense counts t.spillover ≡ sum
 
 -- the same of lent tables: the summary that they hold, and what a function makes of it
-abbrev pub summary : Slice → Tally → Summary
-summary counts t = dense counts.now t.spillover
+abbrev pub summary : List ℕ → Tally → Summary
+summary counts t = dense counts t.spillover
 
 abbrev pub Leaves : Lent → Lent → Tally → (Summary → Summary) → Tally → Type 0
-Leaves counts marks t step t' = Left (step (summary counts.entry t)) counts.entry.now counts.exit.now marks.exit.now t'
+Leaves counts marks t step t' = Left (step (summary counts.entry.now t)) counts.entry.now counts.exit.now marks.exit.now t'
 
 -- a bank of any size that tracks nothing
 abbrev pub TracksNothing : Lent → Lent → Lent → Tally → Type 0
 TracksNothing counts marks bounds t =
     (rows counters : ℕ) → rows ≤ most_rows → Turned rows counters empty counts.exit.now marks.exit.now bounds.exit.now t
 
-abbrev pub Holds : ℕ → ℕ → Slice → Slice → Slice → Tally → Type 0
-Holds rows counters counts marks bounds t = Bank rows counters counts.now marks.now bounds.now t
+abbrev pub Holds : ℕ → ℕ → List ℕ → List ℕ → List ℕ → Tally → Type 0
+Holds rows counters counts marks bounds t = Bank rows counters counts marks bounds t
 
 abbrev pub Turns : ℕ → ℕ → Lent → Lent → Lent → Tally → (Summary → Summary) → Tally → Type 0
 Turns rows counters counts marks bounds t step t' =
-    Turned rows counters (step (summary counts.entry t)) counts.exit.now marks.exit.now bounds.exit.now t'
+    Turned rows counters (step (summary counts.entry.now t)) counts.exit.now marks.exit.now bounds.exit.now t'

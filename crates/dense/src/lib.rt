@@ -71,7 +71,7 @@ pub fn drop_run(counts: &mut [u32], marks: &mut [u64], t: Tally, low: usize, hig
 // No place is free: the lowest row at the spillover makes room, or the spillover rises.
 fn disturb_full(rows: usize, counts: &mut [u32], marks: &mut [u64], t: Tally, row: usize) -> Tally
     requires { Kept counts.old marks.old t × EmptyFrom counts.old rows × (rows ≤ most_rows) × (row < rows) × (get_or counts.old row 0 ≡ 0) × (t.spillover < 4294967295) }
-    ensures { DisturbedIn rows t.tracked row (summary counts.entry t) counts.old counts.new marks.new result }
+    ensures { DisturbedIn rows t.tracked row (summary counts.old t) counts.old counts.new marks.new result }
 {
     let s = t.spillover;
     if s == 0 {
@@ -108,7 +108,7 @@ fn disturb_untracked(
     row: usize,
 ) -> Tally
     requires { Kept counts.old marks.old t × EmptyFrom counts.old rows × (rows ≤ most_rows) × (row < rows) × (get_or counts.old row 0 ≡ 0) × (t.spillover < 4294967295) × (t.tracked ≤ counters) }
-    ensures { DisturbedIn rows counters row (summary counts.entry t) counts.old counts.new marks.new result }
+    ensures { DisturbedIn rows counters row (summary counts.old t) counts.old counts.new marks.new result }
 {
     if t.tracked < counters {
         aids::enter(counts, marks, row, t.spillover + 1);
@@ -145,7 +145,7 @@ fn disturb_other(
     t: Tally,
     row: usize,
 ) -> Tally
-    requires { Holds rows counters counts marks bounds t × (row < rows) × (get_or counts.old row 0 ≡ 0) × (t.spillover < 4294967295) }
+    requires { Holds rows counters counts.old marks.old bounds.old t × (row < rows) × (get_or counts.old row 0 ≡ 0) × (t.spillover < 4294967295) }
     ensures { Turns rows counters counts marks bounds t (disturb counters row) result }
 {
     let after = disturb_untracked(rows, counters, counts, marks, t, row);
@@ -165,7 +165,7 @@ pub fn disturb_around(
     middle: usize,
     high: usize,
 ) -> Tally
-    requires { Holds rows counters counts marks bounds t × (low ≤ middle) × (middle < high) × (high ≤ rows) × (high - low ≤ 64) × RoomFor 64 (summary counts t) }
+    requires { Holds rows counters counts.old marks.old bounds.old t × (low ≤ middle) × (middle < high) × (high ≤ rows) × (high - low ≤ 64) × RoomFor 64 (summary counts.old t) }
     ensures { Turns rows counters counts marks bounds t (disturb_each counters (rows_between low middle ++ rows_between (middle + 1) high)) result }
 {
     let mut left = t;
@@ -189,7 +189,7 @@ pub fn disturb_around(
 // The first row of the highest count is taken out.
 fn take_top(counts: &mut [u32], marks: &mut [u64], bounds: &mut [u32], t: Tally) -> Taken
     requires { Kept counts.old marks.old t × Capped counts.old bounds.old × (0 < t.tracked) }
-    ensures row_value { result.row ∷ [] ≡ picks_of 1 (summary counts.entry t).entries }
+    ensures row_value { result.row ∷ [] ≡ picks_of 1 (summary counts.old t).entries }
     ensures leaves { Leaves counts marks t (drop_rows (result.row ∷ [])) result.tally × Capped counts.new bounds.new × (result.row < most_rows) }
 {
     let row = aids::top_row(counts, bounds);
@@ -207,7 +207,7 @@ pub fn pick(
     list: &mut [u32],
 ) -> Picked
     requires { Kept counts.old marks.old t × Capped counts.old bounds.old × (volume ≤ length list.old) }
-    ensures names { Names list volume (summary counts.entry t) result.count }
+    ensures names { Names list volume (summary counts.old t) result.count }
     ensures leaves { Leaves counts marks t (picked_out volume) result.tally × Capped counts.new bounds.new }
 {
     let mut left = t;

@@ -23,9 +23,9 @@ fn take_out(
     high: u32,
     picks: &mut [u32],
 ) -> Picked
-    requires holds { Holds s.rows s.counters counts marks bounds t }
+    requires holds { Holds s.rows s.counters counts.old marks.old bounds.old t }
     requires volume_in_bounds { (s.volume ≤ length picks.old) × (high ≤ s.rows) }
-    ensures names { Names picks s.volume (summary counts.entry t) result.count }
+    ensures names { Names picks s.volume (summary counts.old t) result.count }
     ensures turns { Turns s.rows s.counters counts marks bounds t (taken_out s.volume (rows_between low high)) result.tally }
 {
     let picked = dense::pick(counts, marks, bounds, t, s.volume as usize, picks);
@@ -46,7 +46,7 @@ fn clear_if(
     bounds: &mut [u32],
     t: Tally,
 ) -> Tally
-    requires { Holds s.rows s.counters counts marks bounds t }
+    requires { Holds s.rows s.counters counts.old marks.old bounds.old t }
     ensures { Turns s.rows s.counters counts marks bounds t (cleared_if last) result }
 {
     if last {
@@ -66,9 +66,9 @@ fn spread_picks(
     picks: &[u32],
     used: usize,
 ) -> Tally
-    requires holds { Holds s.rows s.counters counts marks bounds t }
+    requires holds { Holds s.rows s.counters counts.old marks.old bounds.old t }
     requires blast_diameter_bound { (s.blast_diameter ≤ 4) × (used ≤ 16) × (used ≤ length picks.now) × Below s.rows (take used picks.now) }
-    requires room_for { RoomFor 128 (summary counts t) }
+    requires room_for { RoomFor 128 (summary counts.old t) }
     ensures { Turns s.rows s.counters counts marks bounds t (spread s.counters (victims_in s) (take used picks.now)) result }
 {
     let n = s.rows;
@@ -94,9 +94,9 @@ fn spread_unlisted(
     used: usize,
     row: u32,
 ) -> Tally
-    requires holds { Holds s.rows s.counters counts marks bounds t }
+    requires holds { Holds s.rows s.counters counts.old marks.old bounds.old t }
     requires blast_diameter_bound { (s.blast_diameter ≤ 4) × (row < s.rows) × (used ≤ length picks.now) }
-    requires room_for { RoomFor 64 (summary counts t) }
+    requires room_for { RoomFor 64 (summary counts.old t) }
     ensures { Turns s.rows s.counters counts marks bounds t (spread s.counters (victims_in s) (besides (take used picks.now) (row ∷ []))) result }
 {
     if summary::is_listed(picks, used, row) {
@@ -127,9 +127,9 @@ fn spread_run(
     low: u32,
     high: u32,
 ) -> Tally
-    requires holds { Holds s.rows s.counters counts marks bounds t }
+    requires holds { Holds s.rows s.counters counts.old marks.old bounds.old t }
     requires blast_diameter_bound { (s.blast_diameter ≤ 4) × (used ≤ length picks.now) × (high ≤ s.rows) × (high - low ≤ 64) }
-    requires room_for { RoomFor 320 (summary counts t) }
+    requires room_for { RoomFor 320 (summary counts.old t) }
     ensures { Turns s.rows s.counters counts marks bounds t (spread s.counters (victims_in s) (besides (take used picks.now) (rows_between low high))) result }
 {
     let mut left = t;
@@ -151,9 +151,9 @@ pub fn refresh(
     e: u32,
     picks: &mut [u32],
 ) -> Picked
-    requires holds { Holds s.rows s.counters counts marks bounds t }
-    requires ranges { Ranges s e (length picks.old) × RoomFor 448 (summary counts t) }
-    ensures names { Names picks s.volume (summary counts.entry t) result.count }
+    requires holds { Holds s.rows s.counters counts.old marks.old bounds.old t }
+    requires ranges { Ranges s e (length picks.old) × RoomFor 448 (summary counts.old t) }
+    ensures names { Names picks s.volume (summary counts.old t) result.count }
     ensures turns { Turns s.rows s.counters counts marks bounds t (event s.counters (victims_in s) s.volume (block_rows s e) (ends_window s e)) result.tally }
 {
     let low = e * s.block;

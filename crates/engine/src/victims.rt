@@ -19,8 +19,8 @@ pub fn disturb_victims(
     t: Tally,
     row: u32,
 ) -> Tally
-    requires holds { Holds rows counters counts marks bounds t }
-    requires diameter_bound { (diameter ≤ 4) × (row < rows) × RoomFor 64 (summary counts t) }
+    requires holds { Holds rows counters counts.old marks.old bounds.old t }
+    requires diameter_bound { (diameter ≤ 4) × (row < rows) × RoomFor 64 (summary counts.old t) }
     ensures { Turns rows counters counts marks bounds t (disturb_each counters (victims rows diameter row)) result }
 {
     let reach = diameter / 2;
@@ -51,8 +51,8 @@ pub fn activate(
     row: u32,
     units: u32,
 ) -> Tally
-    requires holds { Holds rows counters counts marks bounds t }
-    requires diameter_bound { (diameter ≤ 4) × (row < rows) × (1 ≤ units) × (units ≤ 16) × RoomFor 128 (summary counts t) }
+    requires holds { Holds rows counters counts.old marks.old bounds.old t }
+    requires diameter_bound { (diameter ≤ 4) × (row < rows) × (1 ≤ units) × (units ≤ 16) × RoomFor 128 (summary counts.old t) }
     ensures { Turns rows counters counts marks bounds t (repeated units (activation counters (victims rows diameter) row)) result }
 {
     let mut left = dense::drop_row(counts, marks, t, row as usize);

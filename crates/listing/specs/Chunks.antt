@@ -73,12 +73,12 @@ last_line number (b ∷ bs) room = cond (ltb room 18) [] (refusal_line number 11
 -- what the calls' answers say, with what they left in the lent memory: of the tables, the tracker that they hold
 abbrev pub part_left : Part → Lent → Lent → Going
 part_left r counts out =
-    record { memory = memory_of r.place counts.exit; taken = r.taken; buffer = out.exit.now; end = r.end }
+    record { memory = memory_of r.place counts.exit.now; taken = r.taken; buffer = out.exit.now; end = r.end }
 
 abbrev pub chunk_left : Chunk → Lent → Lent → Lent → Chunked
 chunk_left r counts text out =
     record {
-      memory = memory_of r.place counts.exit;
+      memory = memory_of r.place counts.exit.now;
       buffer = out.exit.now;
       end = r.end;
       text = text.exit.now;

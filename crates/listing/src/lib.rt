@@ -77,9 +77,9 @@ pub fn list_part(
     text: &[u8],
     out: &mut [u8],
 ) -> Part
-    requires { Ready (memory_of p counts) × BankedIn p counts marks bounds }
-    ensures out_value { part_left result counts out ≡ part (memory_of p counts.entry) text.now out.old }
-    ensures banked_in { BankedIn result.place counts.exit marks.exit bounds.exit }
+    requires { Ready (memory_of p counts.old) × BankedIn p counts.old marks.old bounds.old }
+    ensures out_value { part_left result counts out ≡ part (memory_of p counts.old) text.now out.old }
+    ensures banked_in { BankedIn result.place counts.new marks.new bounds.new }
 {
     let mut place = p;
     let mut at: usize = 0;
@@ -140,9 +140,9 @@ pub fn list_chunk(
     len: usize,
     out: &mut [u8],
 ) -> Chunk
-    requires { Ready (memory_of p counts) × BankedIn p counts marks bounds × (len ≤ length text.old) × (55 * len + line_room ≤ length out.old) }
-    ensures out_value { chunk_left result counts text out ≡ chunk (memory_of p counts.entry) text.old len out.old }
-    ensures banked_in { BankedIn result.place counts.exit marks.exit bounds.exit }
+    requires { Ready (memory_of p counts.old) × BankedIn p counts.old marks.old bounds.old × (len ≤ length text.old) × (55 * len + line_room ≤ length out.old) }
+    ensures out_value { chunk_left result counts text out ≡ chunk (memory_of p counts.old) text.old len out.old }
+    ensures banked_in { BankedIn result.place counts.new marks.new bounds.new }
 {
     let part = list_part(p, counts, marks, bounds, &text[0..len], out);
     let place = part.place;

@@ -28,9 +28,9 @@ pub fn run_activations(
     text: &[u8],
     from: usize,
 ) -> Ran
-    requires { Ready (memory_of p counts) × BankedIn p counts marks bounds × (from ≤ length text.now) }
-    ensures runs_on { RunsOn text.now (memory_of p counts.entry) from (memory_of result.place counts.exit) result.taken }
-    ensures banked_in { BankedIn result.place counts.exit marks.exit bounds.exit }
+    requires { Ready (memory_of p counts.old) × BankedIn p counts.old marks.old bounds.old × (from ≤ length text.now) }
+    ensures runs_on { RunsOn text.now (memory_of p counts.old) from (memory_of result.place counts.new) result.taken }
+    ensures banked_in { BankedIn result.place counts.new marks.new bounds.new }
 {
     if !p.active {
         return Ran {

@@ -191,8 +191,8 @@ fn trace_step(
     text: &mut [u8],
     out: &mut [u8],
 ) -> Step
-    requires { CarriedIn from.turn counts marks bounds text out }
-    ensures carried_in { CarriedIn result.turn counts.exit marks.exit bounds.exit text.exit out.exit × (result.check.lines ≡ from.check.lines) }
+    requires { CarriedIn from.turn counts.old marks.old bounds.old text.old out.old }
+    ensures carried_in { CarriedIn result.turn counts.new marks.new bounds.new text.new out.new × (result.check.lines ≡ from.check.lines) }
     ensures turn_stepped { TurnStepped (turn_before from.turn counts text out) (turn_left result.turn counts text out) × (result.check ≡ behind_trace from.check result.turn.failed) }
 {
     let before = from.turn;
@@ -259,8 +259,8 @@ fn next_step(
     out: &mut [u8],
     given: &mut [u8],
 ) -> Step
-    requires { CarriedIn from.turn counts marks bounds text out × (length given.old ≡ 339968) × (from.check.lines + 339968 ≤ 18446744073709551615) }
-    ensures carried_in { CarriedIn result.turn counts.exit marks.exit bounds.exit text.exit out.exit × (result.check.lines ≤ from.check.lines + 339968) }
+    requires { CarriedIn from.turn counts.old marks.old bounds.old text.old out.old × (length given.old ≡ 339968) × (from.check.lines + 339968 ≤ 18446744073709551615) }
+    ensures carried_in { CarriedIn result.turn counts.new marks.new bounds.new text.new out.new × (result.check.lines ≤ from.check.lines + 339968) }
     ensures stepped_in { SteppedIn from result counts text out given }
 {
     let so_far = from.check;

@@ -1,6 +1,5 @@
 -- The state that the caller lends: two tables and a position, the summary that they hold, and the rules of a valid state.
 use Rattle.std.specs.Prelude.{ℕ, suc, Bool, true, ◌&&◌, List, [], ◌∷◌, leb, ltb, eqb, length, take, drop}
-use Rattle.laws.specs.Lent.{Slice}
 use Rattle.device.specs.declared.Settings.{Settings}
 use Rattle.summary.specs.Entries.{rows_of, counts_of}
 use Rattle.summary.specs.Steps.{Summary}
@@ -18,8 +17,8 @@ unfoldable pub given : List ℕ → List ℕ → Position → State
 given rows counts p = record { rows = rows; counts = counts; position = p }
 
 -- the same of a call's parameters
-abbrev pub lent : Slice → Slice → Position → State
-lent rows counts p = given rows.now counts.now p
+abbrev pub lent : List ℕ → List ℕ → Position → State
+lent rows counts p = given rows counts p
 
 -- no count and no spillover of a valid state 'exceeds 2,000,000,000'
 abbrev pub most_count : ℕ

@@ -125,7 +125,7 @@ pub fn valid_state(s: Settings, rows: &[u32], counts: &[u32], p: Position) -> bo
 
 // Whether tables and position may be a tracker's: both tables as long as there are counters, and no rule broken.
 pub fn valid_memory(s: Settings, rows: &[u32], counts: &[u32], p: Position) -> bool
-    ensures { result ≡ (tables_long s rows.now counts.now && valid s (lent rows.entry counts.entry p)) }
+    ensures { result ≡ (tables_long s rows.now counts.now && valid s (lent rows.now counts.now p)) }
 {
     tables_long(s, rows, counts) && valid_state(s, rows, counts, p)
 }

@@ -61,8 +61,8 @@ pub record Leaves (step : Step) (loaded : List ℕ) (line : ℕ) (m : Memory) (b
 -- the same of the functions' parameters: a line that printed something, and one that prints nothing
 abbrev pub ListsLine : Step → List ℕ → ℕ → Lent → Lent → ℕ → Listed → Type 0
 ListsLine step loaded line counts out at r =
-    Leaves step loaded line (memory_of r.place counts.exit) out.entry.now at out.exit.now r.end
+    Leaves step loaded line (memory_of r.place counts.exit.now) out.entry.now at out.exit.now r.end
 
 abbrev pub LeavesIn : Option Tracker → List ℕ → ℕ → Lent → Place → Type 0
 LeavesIn tracker loaded line counts p =
-    memory_of p counts.exit ≡ record { tracker = tracker; loaded = loaded; lines = line }
+    memory_of p counts.exit.now ≡ record { tracker = tracker; loaded = loaded; lines = line }

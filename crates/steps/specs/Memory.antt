@@ -3,7 +3,6 @@ use Rattle.std.specs.Prelude.{ℕ, ◌+◌, ◌%◌, ◌≡◌, true, false, con
 use Rattle.std.proofs.Math.Option.{Option, none, some}
 use Rattle.device.specs.Refusal.{Outcome}
 use Rattle.device.specs.Remap.{own_remap, remap_allowed}
-use Rattle.laws.specs.Lent.{Slice}
 use Rattle.state.specs.State.{State, state_of}
 use Rattle.limit.specs.Reachable.{Reached}
 use Rattle.aids.specs.Marks.{Marked}
@@ -33,8 +32,8 @@ abbrev pub memory : Place → List ℕ → Memory
 memory p counts = record { tracker = tracker_in p counts; loaded = p.loaded; lines = p.lines }
 
 -- the same of a call's parameters
-abbrev pub memory_of : Place → Slice → Memory
-memory_of p counts = memory p counts.now
+abbrev pub memory_of : Place → List ℕ → Memory
+memory_of p counts = memory p counts
 
 -- where a listing begins: no tracker stands, our own remap is loaded, no line was read; where a tracker's numbers will stand, 0 and the same remap
 unfoldable pub start_place : Place
@@ -74,8 +73,8 @@ pub record Banked (p : Place) (counts marks bounds : List ℕ) : Type 0 where
   pub bounds_long : length bounds ≡ all_bounds
   pub bank : p.active ≡ true → Bank p.settings.rows p.settings.counters counts marks bounds p.tally
 
-abbrev pub BankedIn : Place → Slice → Slice → Slice → Type 0
-BankedIn p counts marks bounds = Banked p counts.now marks.now bounds.now
+abbrev pub BankedIn : Place → List ℕ → List ℕ → List ℕ → Type 0
+BankedIn p counts marks bounds = Banked p counts marks bounds
 
 -- what is carried is where a listing is, its lines counted modulo 10,000,000,000
 pub record Represents (m : Memory) (g : Progress) : Type 0 where

@@ -77,9 +77,9 @@ fn activated(
     hold: u32,
     line: u64,
 ) -> Place
-    requires { Ready (memory_of p counts) × BankedIn p counts marks bounds × (activation_refusal p row hold ≡ 0) }
-    ensures leaves_in { LeavesIn (record_step line p.loaded (memory_of p counts.entry).tracker (Activate row hold)).tracker p.loaded line counts result }
-    ensures banked_in { BankedIn result counts.exit marks.exit bounds.exit }
+    requires { Ready (memory_of p counts.old) × BankedIn p counts.old marks.old bounds.old × (activation_refusal p row hold ≡ 0) }
+    ensures leaves_in { LeavesIn (record_step line p.loaded (memory_of p counts.old).tracker (Activate row hold)).tracker p.loaded line counts result }
+    ensures banked_in { BankedIn result counts.new marks.new bounds.new }
 {
     let s = p.settings;
     let remap = p.remap;
@@ -111,9 +111,9 @@ pub fn list_activation(
     out: &mut [u8],
     at: usize,
 ) -> Listed
-    requires { Ready (memory_of p counts) × BankedIn p counts marks bounds × (at + 200 ≤ length out.old) }
-    ensures lists_line { ListsLine (record_step line p.loaded (memory_of p counts.entry).tracker (Activate row hold)) p.loaded line counts out at result }
-    ensures banked_in { BankedIn result.place counts.exit marks.exit bounds.exit }
+    requires { Ready (memory_of p counts.old) × BankedIn p counts.old marks.old bounds.old × (at + 200 ≤ length out.old) }
+    ensures lists_line { ListsLine (record_step line p.loaded (memory_of p counts.old).tracker (Activate row hold)) p.loaded line counts out at result }
+    ensures banked_in { BankedIn result.place counts.new marks.new bounds.new }
 {
     let k = activation_refusal(p, row, hold);
     if k != 0 {
@@ -138,9 +138,9 @@ pub fn list_event(
     out: &mut [u8],
     at: usize,
 ) -> Listed
-    requires { Ready (memory_of p counts) × BankedIn p counts marks bounds × (at + 200 ≤ length out.old) }
-    ensures lists_line { ListsLine (record_step line p.loaded (memory_of p counts.entry).tracker Refresh) p.loaded line counts out at result }
-    ensures banked_in { BankedIn result.place counts.exit marks.exit bounds.exit }
+    requires { Ready (memory_of p counts.old) × BankedIn p counts.old marks.old bounds.old × (at + 200 ≤ length out.old) }
+    ensures lists_line { ListsLine (record_step line p.loaded (memory_of p counts.old).tracker Refresh) p.loaded line counts out at result }
+    ensures banked_in { BankedIn result.place counts.new marks.new bounds.new }
 {
     if !p.active {
         let loaded = p.loaded;
@@ -185,9 +185,9 @@ pub fn list_settings(
     out: &mut [u8],
     at: usize,
 ) -> Listed
-    requires { Ready (memory_of p counts) × BankedIn p counts marks bounds × (at + 200 ≤ length out.old) }
-    ensures lists_line { ListsLine (record_step line p.loaded (memory_of p counts.entry).tracker (Set s)) p.loaded line counts out at result }
-    ensures banked_in { BankedIn result.place counts.exit marks.exit bounds.exit }
+    requires { Ready (memory_of p counts.old) × BankedIn p counts.old marks.old bounds.old × (at + 200 ≤ length out.old) }
+    ensures lists_line { ListsLine (record_step line p.loaded (memory_of p counts.old).tracker (Set s)) p.loaded line counts out at result }
+    ensures banked_in { BankedIn result.place counts.new marks.new bounds.new }
 {
     let end = print_settings(out, at, line, bound::bound(s));
     let loaded = p.loaded;

@@ -43,9 +43,9 @@ fn list_record(
     out: &mut [u8],
     at: usize,
 ) -> Listed
-    requires { Ready (memory_of p counts) × BankedIn p counts marks bounds × (at + 200 ≤ length out.old) }
-    ensures lists_line { ListsLine (record_step line p.loaded (memory_of p counts.entry).tracker what) (loaded_behind p.loaded (accepted what)) line counts out at result }
-    ensures banked_in { BankedIn result.place counts.exit marks.exit bounds.exit }
+    requires { Ready (memory_of p counts.old) × BankedIn p counts.old marks.old bounds.old × (at + 200 ≤ length out.old) }
+    ensures lists_line { ListsLine (record_step line p.loaded (memory_of p counts.old).tracker what) (loaded_behind p.loaded (accepted what)) line counts out at result }
+    ensures banked_in { BankedIn result.place counts.new marks.new bounds.new }
 {
     let loaded = p.loaded;
     match what {
@@ -72,9 +72,9 @@ pub fn list_line(
     out: &mut [u8],
     at: usize,
 ) -> Listed
-    requires { Ready (memory_of p counts) × BankedIn p counts marks bounds × (at + 200 ≤ length out.old) }
-    ensures lists_line { ListsLine (step_in (memory_of p counts.entry) (said answer).outcome) (loaded_behind p.loaded (said answer).outcome) (next_number p.lines) counts out at result }
-    ensures banked_in { BankedIn result.place counts.exit marks.exit bounds.exit }
+    requires { Ready (memory_of p counts.old) × BankedIn p counts.old marks.old bounds.old × (at + 200 ≤ length out.old) }
+    ensures lists_line { ListsLine (step_in (memory_of p counts.old) (said answer).outcome) (loaded_behind p.loaded (said answer).outcome) (next_number p.lines) counts out at result }
+    ensures banked_in { BankedIn result.place counts.new marks.new bounds.new }
 {
     let line = p.lines % LINES + 1;
     let Read::Line(what, _) = answer else {

@@ -5,7 +5,7 @@ use Rattle.summary.specs.Entries.{rows_of, counts_of, picks}
 use Rattle.summary.specs.Steps.{Summary, drop_rows}
 use Rattle.summary.specs.Rules.{Sound}
 use Rattle.summary.specs.declared.Tally.{Tally}
-use Rattle.laws.specs.Lent.{Slice, Lent}
+use Rattle.laws.specs.Lent.{Lent}
 use Rattle.summary.specs.Tables.{table, read}
 
 -- two tables of so many places that hold a summary of a bank of so many rows, with its number of entries and its spillover
@@ -26,12 +26,12 @@ abbrev pub Left : List ℕ → Summary → List ℕ → List ℕ → ℕ → ℕ
 Left rows₀ sum rows counts tracked spillover = Holds (length rows₀) 4294967296 sum rows counts tracked spillover
 
 -- the summary that two lent tables and the tally that goes with them hold
-abbrev pub summary : Slice → Slice → Tally → Summary
-summary rows counts t = read rows.now counts.now t.tracked t.spillover
+abbrev pub summary : List ℕ → List ℕ → Tally → Summary
+summary rows counts t = read rows counts t.tracked t.spillover
 
 -- two lent tables and their tally, as the functions want them
-abbrev pub Tracks : Slice → Slice → Tally → Type 0
-Tracks rows counts t = Held rows.now counts.now t.tracked t.spillover
+abbrev pub Tracks : List ℕ → List ℕ → Tally → Type 0
+Tracks rows counts t = Held rows counts t.tracked t.spillover
 
 -- the places of a table that was lent
 abbrev pub places : Lent → ℕ
@@ -40,7 +40,7 @@ places rows = length rows.entry.now
 -- what a function makes of the summary that it was lent, in as many places
 abbrev pub Turns : Lent → Lent → Tally → (Summary → Summary) → Tally → Type 0
 Turns rows counts t step t' =
-    Left rows.entry.now (step (summary rows.entry counts.entry t)) rows.exit.now counts.exit.now t'.tracked t'.spillover
+    Left rows.entry.now (step (summary rows.entry.now counts.entry.now t)) rows.exit.now counts.exit.now t'.tracked t'.spillover
 
 -- the picked rows at the front of a list, whose other places keep what they had, and their number
 pub record PickedFrom (volume : ℕ) (sum : Summary) (list₀ list : List ℕ) (count : ℕ) : Type 0 where

@@ -63,7 +63,7 @@ fn remove_entry(rows: &mut [u32], counts: &mut [u32], t: Tally, at: usize) -> Ta
 
 // A row is dropped if it is tracked.
 pub fn drop_row(rows: &mut [u32], counts: &mut [u32], t: Tally, row: u32) -> Tally
-    requires { Tracks rows counts t }
+    requires { Tracks rows.old counts.old t }
     ensures { Turns rows counts t (drop_rows (row ∷ [])) result }
 {
     let p = lookup(rows, t.tracked, row);
@@ -76,9 +76,9 @@ pub fn drop_row(rows: &mut [u32], counts: &mut [u32], t: Tally, row: u32) -> Tal
 
 // A row that is not tracked is entered with one more than the spillover; a place is free.
 fn enter_row(rows: &mut [u32], counts: &mut [u32], t: Tally, row: u32) -> Tally
-    requires tracks { Tracks rows counts t }
+    requires tracks { Tracks rows.old counts.old t }
     requires tracked_in_bounds { (t.tracked < length rows.old) × (t.spillover < 4294967295) }
-    requires t_value { has row (summary rows counts t).entries ≡ false }
+    requires t_value { has row (summary rows.old counts.old t).entries ≡ false }
     ensures { Turns rows counts t (enter row) result }
 {
     let k = t.tracked;
@@ -93,9 +93,9 @@ fn enter_row(rows: &mut [u32], counts: &mut [u32], t: Tally, row: u32) -> Tally
 
 // No place is free: the lowest-numbered row at the spillover makes room, or the spillover rises.
 fn disturb_full(rows: &mut [u32], counts: &mut [u32], t: Tally, row: u32) -> Tally
-    requires tracks { Tracks rows counts t }
+    requires tracks { Tracks rows.old counts.old t }
     requires tracked_value { (t.tracked ≡ length rows.old) × (t.spillover < 4294967295) }
-    requires t_value { has row (summary rows counts t).entries ≡ false }
+    requires t_value { has row (summary rows.old counts.old t).entries ≡ false }
     ensures { Turns rows counts t (disturb (places rows) row) result }
 {
     let k = t.tracked;
@@ -113,8 +113,8 @@ fn disturb_full(rows: &mut [u32], counts: &mut [u32], t: Tally, row: u32) -> Tal
 
 // 'Disturbing one row'.
 pub fn disturb_row(rows: &mut [u32], counts: &mut [u32], t: Tally, row: u32) -> Tally
-    requires tracks { Tracks rows counts t }
-    requires room_for { RoomFor 1 (summary rows counts t) }
+    requires tracks { Tracks rows.old counts.old t }
+    requires room_for { RoomFor 1 (summary rows.old counts.old t) }
     ensures { Turns rows counts t (disturb (places rows) row) result }
 {
     let k = t.tracked;
@@ -132,8 +132,8 @@ pub fn disturb_row(rows: &mut [u32], counts: &mut [u32], t: Tally, row: u32) -> 
 
 // The rows from one on and below another are disturbed, ascending.
 pub fn disturb_run(rows: &mut [u32], counts: &mut [u32], t: Tally, low: u32, high: u32) -> Tally
-    requires tracks { Tracks rows counts t }
-    requires low_bound { (high - low ≤ 64) × RoomFor 64 (summary rows counts t) }
+    requires tracks { Tracks rows.old counts.old t }
+    requires low_bound { (high - low ≤ 64) × RoomFor 64 (summary rows.old counts.old t) }
     ensures { Turns rows counts t (disturb_each (places rows) (rows_between low high)) result }
 {
     let mut left = t;
@@ -147,7 +147,7 @@ pub fn disturb_run(rows: &mut [u32], counts: &mut [u32], t: Tally, low: u32, hig
 
 // The rows from one on and below another are dropped.
 pub fn drop_run(rows: &mut [u32], counts: &mut [u32], t: Tally, low: u32, high: u32) -> Tally
-    requires { Tracks rows counts t }
+    requires { Tracks rows.old counts.old t }
     ensures { Turns rows counts t (drop_rows (rows_between low high)) result }
 {
     let mut left = t;
@@ -161,9 +161,9 @@ pub fn drop_run(rows: &mut [u32], counts: &mut [u32], t: Tally, low: u32, high: 
 
 // The first entry of the highest count is taken out.
 fn take_top(rows: &mut [u32], counts: &mut [u32], t: Tally) -> Taken
-    requires tracks { Tracks rows counts t }
+    requires tracks { Tracks rows.old counts.old t }
     requires tracked_nonzero { 0 < t.tracked }
-    ensures row_value { result.row ∷ [] ≡ picks 1 (summary rows.entry counts.entry t).entries }
+    ensures row_value { result.row ∷ [] ≡ picks 1 (summary rows.old counts.old t).entries }
     ensures turns { Turns rows counts t (drop_rows (result.row ∷ [])) result.tally }
 {
     let at = tables::first_highest(counts, t.tracked);
@@ -180,9 +180,9 @@ pub fn pick(
     volume: usize,
     list: &mut [u32],
 ) -> Picked
-    requires tracks { Tracks rows counts t }
+    requires tracks { Tracks rows.old counts.old t }
     requires volume_in_bounds { volume ≤ length list.old }
-    ensures names { Names list volume (summary rows.entry counts.entry t) result.count }
+    ensures names { Names list volume (summary rows.old counts.old t) result.count }
     ensures turns { Turns rows counts t (picked_out volume) result.tally }
 {
     let mut left = t;

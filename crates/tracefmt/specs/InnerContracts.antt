@@ -1,6 +1,5 @@
 -- What a step of a run asks and leaves: buffers of fixed size.
 use Rattle.std.specs.Prelude.{ℕ, ◌≤◌, ◌≡◌, List, length}
-use Rattle.laws.specs.Lent.{Slice}
 use Rattle.tracefmt.specs.declared.Turn.{Turn}
 
 -- no more is kept or to be written than the buffers hold
@@ -10,5 +9,5 @@ pub record Carried (t : Turn) (text out : List ℕ) : Type 0 where
   pub kept_few : t.kept ≤ 65536
   pub end_few : t.end ≤ 65536
 
-abbrev pub CarriedIn : Turn → Slice → Slice → Type 0
-CarriedIn t text out = Carried t text.now out.now
+abbrev pub CarriedIn : Turn → List ℕ → List ℕ → Type 0
+CarriedIn t text out = Carried t text out

@@ -1,6 +1,6 @@
 -- The program's turns: what lies between two reads, a read with what lies behind it, and what all turns write.
 use Rattle.std.specs.Prelude.{ℕ, suc, ◌≤◌, ◌≡◌, Bool, true, false, List, [], ◌∷◌, ◌++◌, eqb, length, take, drop}
-use Rattle.laws.specs.Lent.{Slice, Lent}
+use Rattle.laws.specs.Lent.{Lent}
 use Rattle.trace.specs.Lines.{ended}
 use Rattle.trace.specs.Texts.{whole, most_kept}
 use Rattle.columns.specs.Output.{Prints}
@@ -49,10 +49,10 @@ pub record Held (r : Turn) (text out : List ℕ) : Type 0 where
   pub fits : r.end ≤ length out
 
 -- the same of the code's parameters: what is asked for a turn, and what it leaves
-pub record Readable (from : Turn) (input : Input) (text out : Slice) : Type 0 where
-  pub within : Within input from.kept (length text.now)
-  pub few : from.kept ≤ length text.now
-  pub room : length text.now ≤ length out.now
+pub record Readable (from : Turn) (input : Input) (text out : List ℕ) : Type 0 where
+  pub within : Within input from.kept (length text)
+  pub few : from.kept ≤ length text
+  pub room : length text ≤ length out
 
 abbrev pub TurnLeaves : Turn → Lent → Input → Lent → Turn → Type 0
 TurnLeaves from text input out r =

@@ -173,7 +173,7 @@ fn print_fault(p: Place, out: &mut [u8]) -> usize
 
 // What lies between two reads: what came in is rewritten, up to the last line's end or to a faulty line.
 fn between_reads(from: Turn, text: &mut [u8], input: Input, out: &mut [u8]) -> Turn
-    requires { Readable from input text out }
+    requires { Readable from input text.old out.old }
     ensures { TurnLeaves from text input out result }
 {
     let place = from.place;
@@ -230,8 +230,8 @@ fn first_turn() -> Turn
 
 // A read of the trace, and what lies behind it.
 fn next_turn(from: Turn, file: File, text: &mut [u8], out: &mut [u8]) -> Turn
-    requires { CarriedIn from text out }
-    ensures carried_in { CarriedIn result text.exit out.exit }
+    requires { CarriedIn from text.old out.old }
+    ensures carried_in { CarriedIn result text.new out.new }
     ensures stepped { Stepped (state_before from text out) (state_left result text out) }
 {
     let input = input::read_from(file, text, from.kept);

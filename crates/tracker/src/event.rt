@@ -22,9 +22,9 @@ fn take_out(
     high: u32,
     picks: &mut [u32],
 ) -> Picked
-    requires tracks { Tracks rows counts t }
+    requires tracks { Tracks rows.old counts.old t }
     requires volume_in_bounds { s.volume ≤ length picks.old }
-    ensures names { Names picks s.volume (summary rows.entry counts.entry t) result.count }
+    ensures names { Names picks s.volume (summary rows.old counts.old t) result.count }
     ensures turns { Turns rows counts t (taken_out s.volume (rows_between low high)) result.tally }
 {
     let picked = summary::pick(rows, counts, t, s.volume as usize, picks);
@@ -38,7 +38,7 @@ fn take_out(
 
 // Both tables are cleared where the window ends.
 fn clear_if(last: bool, rows: &mut [u32], counts: &mut [u32], t: Tally) -> Tally
-    requires { Tracks rows counts t }
+    requires { Tracks rows.old counts.old t }
     ensures { Turns rows counts t (cleared_if last) result }
 {
     if last {
@@ -62,9 +62,9 @@ fn spread_picks(
     picks: &[u32],
     used: usize,
 ) -> Tally
-    requires tracks { Tracks rows counts t }
+    requires tracks { Tracks rows.old counts.old t }
     requires blast_diameter_bound { (s.blast_diameter ≤ 4) × (used ≤ 16) × (used ≤ length picks.now) × Below most_rows (take used picks.now) }
-    requires room_for { RoomFor 192 (summary rows counts t) }
+    requires room_for { RoomFor 192 (summary rows.old counts.old t) }
     ensures { Turns rows counts t (spread (places rows) (victims_in s) (take used picks.now)) result }
 {
     let mut left = t;
@@ -86,9 +86,9 @@ fn spread_unlisted(
     used: usize,
     row: u32,
 ) -> Tally
-    requires tracks { Tracks rows counts t }
+    requires tracks { Tracks rows.old counts.old t }
     requires blast_diameter_bound { (s.blast_diameter ≤ 4) × (row < most_rows) × (used ≤ length picks.now) }
-    requires room_for { RoomFor 128 (summary rows counts t) }
+    requires room_for { RoomFor 128 (summary rows.old counts.old t) }
     ensures { Turns rows counts t (spread (places rows) (victims_in s) (besides (take used picks.now) (row ∷ []))) result }
 {
     if summary::is_listed(picks, used, row) {
@@ -109,9 +109,9 @@ fn spread_run(
     low: u32,
     high: u32,
 ) -> Tally
-    requires tracks { Tracks rows counts t }
+    requires tracks { Tracks rows.old counts.old t }
     requires blast_diameter_bound { (s.blast_diameter ≤ 4) × (used ≤ length picks.now) × (high ≤ most_rows) × (high - low ≤ 64) }
-    requires room_for { RoomFor 384 (summary rows counts t) }
+    requires room_for { RoomFor 384 (summary rows.old counts.old t) }
     ensures { Turns rows counts t (spread (places rows) (victims_in s) (besides (take used picks.now) (rows_between low high))) result }
 {
     let mut left = t;
@@ -132,10 +132,10 @@ pub fn event_tables(
     e: u32,
     picks: &mut [u32],
 ) -> Picked
-    requires tracks { Tracks rows counts t }
+    requires tracks { Tracks rows.old counts.old t }
     requires ranges { Ranges s e (length picks.old) }
-    requires room_for { RoomFor 448 (summary rows counts t) × Ordered s.rows 0 (summary rows counts t).entries }
-    ensures names { Names picks s.volume (summary rows.entry counts.entry t) result.count }
+    requires room_for { RoomFor 448 (summary rows.old counts.old t) × Ordered s.rows 0 (summary rows.old counts.old t).entries }
+    ensures names { Names picks s.volume (summary rows.old counts.old t) result.count }
     ensures turns { Turns rows counts t (event (places rows) (victims_in s) s.volume (block_rows s e) (ends_window s e)) result.tally }
 {
     let low = e * s.block;

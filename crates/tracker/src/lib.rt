@@ -76,7 +76,7 @@ fn activation_refusal(
     row: u32,
     hold: u32,
 ) -> u32
-    ensures { result ≡ first_failed (activation_tests s remap (lent rows.entry counts.entry p) row hold) }
+    ensures { result ≡ first_failed (activation_tests s remap (lent rows.now counts.now p) row hold) }
 {
     let k = tables_refusal(s, rows, counts);
     if k != 0 {
@@ -99,7 +99,7 @@ fn activation_refusal(
 
 // The refusal of a refresh event, or 0.
 fn refresh_refusal(s: Settings, rows: &[u32], counts: &[u32], p: Position, picks: &[u32]) -> u32
-    ensures { result ≡ first_failed (refresh_tests s (lent rows.entry counts.entry p) picks.now) }
+    ensures { result ≡ first_failed (refresh_tests s (lent rows.now counts.now p) picks.now) }
 {
     let k = tables_refusal(s, rows, counts);
     if k != 0 {
@@ -139,8 +139,8 @@ fn activate_accepted(
     row: u32,
     hold: u32,
 ) -> Position
-    requires { first_failed (activation_tests s remap (lent rows counts p) row hold) ≡ 0 }
-    ensures { lent rows.exit counts.exit result ≡ (activation_on s remap (lent rows.entry counts.entry p) row hold).state }
+    requires { first_failed (activation_tests s remap (lent rows.old counts.old p) row hold) ≡ 0 }
+    ensures { lent rows.new counts.new result ≡ (activation_on s remap (lent rows.old counts.old p) row hold).state }
 {
     let t = Tally {
         tracked: p.tracked as usize,
@@ -166,7 +166,7 @@ pub fn activate(
     row: u32,
     hold: u32,
 ) -> Activation
-    ensures { activation_left result rows counts ≡ activation_on s remap (lent rows.entry counts.entry p) row hold }
+    ensures { activation_left result rows counts ≡ activation_on s remap (lent rows.old counts.old p) row hold }
 {
     let k = activation_refusal(s, remap, rows, counts, p, row, hold);
     if k != 0 {
@@ -191,8 +191,8 @@ fn refresh_accepted(
     p: Position,
     picks: &mut [u32],
 ) -> AfterEvent
-    requires { first_failed (refresh_tests s (lent rows counts p) picks.old) ≡ 0 }
-    ensures { event_left result rows counts picks ≡ refresh_on s (lent rows.entry counts.entry p) picks.old }
+    requires { first_failed (refresh_tests s (lent rows.old counts.old p) picks.old) ≡ 0 }
+    ensures { event_left result rows counts picks ≡ refresh_on s (lent rows.old counts.old p) picks.old }
 {
     let t = Tally {
         tracked: p.tracked as usize,
@@ -219,7 +219,7 @@ pub fn refresh(
     p: Position,
     picks: &mut [u32],
 ) -> Refreshed
-    ensures { refresh_left result rows counts picks ≡ refresh_on s (lent rows.entry counts.entry p) picks.old }
+    ensures { refresh_left result rows counts picks ≡ refresh_on s (lent rows.old counts.old p) picks.old }
 {
     let k = refresh_refusal(s, rows, counts, p, picks);
     if k != 0 {

@@ -18,9 +18,9 @@ pub fn disturb_victims(
     t: Tally,
     row: u32,
 ) -> Tally
-    requires tracks { Tracks rows counts t }
+    requires tracks { Tracks rows.old counts.old t }
     requires blast_diameter_bound { (s.blast_diameter ≤ 4) × (row < most_rows) }
-    requires room_for { RoomFor 128 (summary rows counts t) }
+    requires room_for { RoomFor 128 (summary rows.old counts.old t) }
     ensures { Turns rows counts t (disturb_each (places rows) (victims_in s row)) result }
 {
     let reach = s.blast_diameter / 2;
@@ -40,9 +40,9 @@ pub fn activate_units(
     row: u32,
     units: u32,
 ) -> Tally
-    requires tracks { Tracks rows counts t }
+    requires tracks { Tracks rows.old counts.old t }
     requires blast_diameter_bound { (s.blast_diameter ≤ 4) × (row < s.rows) × (s.rows ≤ most_rows) }
-    requires le_units { (1 ≤ units) × (units ≤ 16) × RoomFor 192 (summary rows counts t) }
+    requires le_units { (1 ≤ units) × (units ≤ 16) × RoomFor 192 (summary rows.old counts.old t) }
     ensures { Turns rows counts t (repeated units (activation (places rows) (victims_in s) row)) result }
 {
     let mut left = summary::drop_row(rows, counts, t, row);

@@ -1,6 +1,5 @@
 -- What a step of a run asks and leaves: memory and tables that are a listing's, in buffers of fixed size.
 use Rattle.std.specs.Prelude.{ℕ, ◌≤◌, ◌≡◌, List, length}
-use Rattle.laws.specs.Lent.{Slice}
 use Rattle.steps.specs.Memory.{memory, Ready, Banked}
 use Rattle.turns.specs.declared.Turn.{Turn}
 
@@ -13,5 +12,5 @@ pub record Carried (t : Turn) (counts marks bounds text out : List ℕ) : Type 0
   pub kept_few : t.kept ≤ 6144
   pub end_few : t.end ≤ 339968
 
-abbrev pub CarriedIn : Turn → Slice → Slice → Slice → Slice → Slice → Type 0
-CarriedIn t counts marks bounds text out = Carried t counts.now marks.now bounds.now text.now out.now
+abbrev pub CarriedIn : Turn → List ℕ → List ℕ → List ℕ → List ℕ → List ℕ → Type 0
+CarriedIn t counts marks bounds text out = Carried t counts marks bounds text out

@@ -1,6 +1,6 @@
 -- Turns: what lies between two reads of a trace, a read with what lies behind it, and what all turns print.
 use Rattle.std.specs.Prelude.{ℕ, suc, ◌+◌, ◌*◌, ◌≤◌, ◌≡◌, Bool, true, false, List, [], ◌∷◌, ◌++◌, length, take, drop}
-use Rattle.laws.specs.Lent.{Slice, Lent}
+use Rattle.laws.specs.Lent.{Lent}
 use Rattle.columns.specs.Numbers.{written}
 use Rattle.steps.specs.Memory.{Memory, memory, memory_of, start_place, next_number}
 use Rattle.listing.specs.Chunks.{line_room, chunk, last_line}
@@ -58,12 +58,12 @@ turn_of m text kept Failed buffer =
 -- the same of the code's parameters: a turn from the one before it, what is asked for it, and what an answer says with what it left
 abbrev pub turn_from : Turn → Lent → Lent → Input → Lent → Turned
 turn_from from counts text input out =
-    turn_of (memory_of from.place counts.entry) text.entry.now from.kept input out.entry.now
+    turn_of (memory_of from.place counts.entry.now) text.entry.now from.kept input out.entry.now
 
-pub record Readable (from : Turn) (input : Input) (text out : Slice) : Type 0 where
-  pub within : Within input from.kept (length text.now)
-  pub few : from.kept ≤ length text.now
-  pub room : 55 * length text.now + line_room ≤ length out.now
+pub record Readable (from : Turn) (input : Input) (text out : List ℕ) : Type 0 where
+  pub within : Within input from.kept (length text)
+  pub few : from.kept ≤ length text
+  pub room : 55 * length text + line_room ≤ length out
 
 abbrev pub turn_in : Turn → List ℕ → List ℕ → List ℕ → Turned
 turn_in t counts text buffer =

@@ -30,9 +30,9 @@ pub fn between_reads(
     input: Input,
     out: &mut [u8],
 ) -> Turn
-    requires { Ready (memory_of from.place counts) × BankedIn from.place counts marks bounds × Readable from input text out }
+    requires { Ready (memory_of from.place counts.old) × BankedIn from.place counts.old marks.old bounds.old × Readable from input text.old out.old }
     ensures out_value { turn_left result counts text out ≡ turn_from from counts text input out }
-    ensures banked_in { BankedIn result.place counts.exit marks.exit bounds.exit }
+    ensures banked_in { BankedIn result.place counts.new marks.new bounds.new }
 {
     let place = from.place;
     let kept = from.kept;
@@ -92,8 +92,8 @@ pub fn next_turn(
     text: &mut [u8],
     out: &mut [u8],
 ) -> Turn
-    requires { CarriedIn from counts marks bounds text out }
-    ensures carried_in { CarriedIn result counts.exit marks.exit bounds.exit text.exit out.exit }
+    requires { CarriedIn from counts.old marks.old bounds.old text.old out.old }
+    ensures carried_in { CarriedIn result counts.new marks.new bounds.new text.new out.new }
     ensures stepped { Stepped (turn_before from counts text out) (turn_left result counts text out) }
 {
     let input = input::read_from(file, text, from.kept);

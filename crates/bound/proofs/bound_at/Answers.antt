@@ -12,12 +12,12 @@ added_of-added-requires c = accepted_skipping c.args.s c.requires.s_value
 
 pub total_of-total-requires : goal.total_of-total-requires
 total_of-total-requires c =
-    let c = c in let ok = cccepted_settings c.args.s c.requires.s_value in (
+    let c = c in let ok = accepted_settings c.args.s c.requires.s_value in (
       ok.others.volume.least,
       ok.others.volume.most,
       ok.counters.most,
-      rw c.added_of-added.ensures (cdded_le c.args.s ok.others),
-      omega crith,
+      rw c.added_of-added.ensures (added_le c.args.s ok.others),
+      omega arith,
     )
 
 pub returns : goal.returns
@@ -25,4 +25,4 @@ unfolding bound_at
 returns c = rw (c.total_of-total.ensures, c.disturbers_of.ensures, c.added_of-added.ensures) refl
 
 pub overflow_add-result : goal.overflow_add-result
-overflow_add-result c = let c = c in omega (crith, returns c, bound_at_lt c.args.s c.args.events (cccepted_settings c.args.s c.requires.s_value).others (omega crith))
+overflow_add-result c = let c = c in omega (arith, returns c, bound_at_lt c.args.s c.args.events (accepted_settings c.args.s c.requires.s_value).others (omega arith))

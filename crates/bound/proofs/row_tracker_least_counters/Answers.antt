@@ -12,4 +12,4 @@ signed_number-requires c = rw c.least_counters.ensures (small_least_answer _ _)
 
 pub returns : goal.returns
 unfolding settings_of
-returns c = to_z-of_z w64 c.signed_number.result (record { sfits = c.signed_number.type-inv }) ∙ c.signed_number.ensures ∙ ap signed c.least_counters.ensures
+returns c = to_z-of_z w64 c.signed_number.result (record { sfits = c.signed_number.type_inv }) ∙ c.signed_number.ensures ∙ ap signed c.least_counters.ensures

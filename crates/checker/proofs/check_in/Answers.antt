@@ -15,17 +15,8 @@ use Rattle.checker.specs.declared.Checking.{Checking}
 use Rattle.checker.specs.Comparison.{verdict_of}
 use Rattle.checker.specs.InnerContracts.{Reaches, Onward}
 use Rattle.checker.proofs.Checks.{reaches_start, reached_departs, reached_last}
+use Rattle.checker.proofs.check_in.Invariants.{Stands}
 use Rattle.checker.proofs.check_in.Goals as goal
-
-record Stands (trace given counts marks bounds : List ℕ) (k : Checking) : Type 0 where
-  reaches : Reaches trace given (memory k.place counts) k
-  banked : Banked k.place counts marks bounds
-  goes : k.more ≡ true → k.same ≡ true
-  last : k.more ≡ false → k.same ≡ true → ended (drop k.taken trace) ≡ false
-
-left : List ℕ → Checking → ℕ
-
-left trace k = cond k.more (suc (length trace - k.taken)) 0
 
 left_less : {trace given : List ℕ} {m : Memory} {k k' : Checking} → Reaches trace given m k' → Onward trace k k' → k.more ≡ true → left trace k' < left trace k
 

@@ -17,6 +17,16 @@ use Rattle.checker.specs.InnerContracts.{Reaches, Onward}
 use Rattle.checker.proofs.Checks.{reaches_start, reached_departs, reached_last}
 use Rattle.checker.proofs.check_in.Given as goal
 
+pub record Stands (trace given counts marks bounds : List ℕ) (k : Checking) : Type 0 where
+  pub reaches : Reaches trace given (memory k.place counts) k
+  pub banked : Banked k.place counts marks bounds
+  pub goes : k.more ≡ true → k.same ≡ true
+  pub last : k.more ≡ false → k.same ≡ true → ended (drop k.taken trace) ≡ false
+
+left : List ℕ → Checking → ℕ
+
+left trace k = cond k.more (suc (length trace - k.taken)) 0
+
 abbrev pub invariant-loop-k : goal.invariant-loop-k
 invariant-loop-k l = Stands l.trace l.given l.counts l.marks l.bounds l.k
 

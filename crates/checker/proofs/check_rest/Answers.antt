@@ -9,27 +9,27 @@ use Rattle.checker.proofs.check_rest.Goals as goal
 
 pub overflow_add-line : goal.overflow_add-line
 overflow_add-line c =
-    let c = c in let e = rw (sub-zero c.list_end-end.result) ct c.compare-found.ensures in
-    record { fits = omega (crith, last_most c.args.k.lines c.list_end-end.ensures c.args.given.now c.args.k.passed e c.requires.2 c.requires.1, c.well-formed.1.1.0.1) }
+    let c = c in let e = rw (sub-zero c.list_end-end.result) at c.compare-found.ensures in
+    record { fits = omega (arith, last_most c.args.k.lines c.list_end-end.ensures c.args.given.now c.args.k.passed e c.requires.2 c.requires.1, c.well-formed.1.1.0.1) }
 
 pub returns-then-not-found : goal.returns-then-not-found
 unfolding verdict_of
 returns-then-not-found c =
-    let c = c in let p = rw (rest_all c.args.trace.now c.args.k.taken) ct c.list_end-end.ensures in
-    let e = rw (sub-zero c.list_end-end.result) ct c.compare-found.ensures in
-    last_off c.args.k.lines p c.args.given.now c.args.k.passed e _ c.if-not-found.true (omega crith)
+    let c = c in let p = rw (rest_all c.args.trace.now c.args.k.taken) at c.list_end-end.ensures in
+    let e = rw (sub-zero c.list_end-end.result) at c.compare-found.ensures in
+    last_off c.args.k.lines p c.args.given.now c.args.k.passed e _ c.if-not-found.true (omega arith)
 
 pub returns-then-end-given : goal.returns-then-end-given
 unfolding verdict_of
 returns-then-end-given c =
-    let c = c in let p = rw (rest_all c.args.trace.now c.args.k.taken) ct c.list_end-end.ensures in
-    let e = rw (sub-zero c.list_end-end.result) ct c.compare-found.ensures in
-    last_surplus c.args.k.lines p c.args.given.now c.args.k.passed e _ c.if-not-found.false (λ same. omega (crith, same, c.if-end-given.true)) (omega crith)
+    let c = c in let p = rw (rest_all c.args.trace.now c.args.k.taken) at c.list_end-end.ensures in
+    let e = rw (sub-zero c.list_end-end.result) at c.compare-found.ensures in
+    last_surplus c.args.k.lines p c.args.given.now c.args.k.passed e _ c.if-not-found.false (λ same. omega (arith, same, c.if-end-given.true)) (omega arith)
 
 pub returns : goal.returns
 unfolding verdict_of
 returns c =
-    let c = c in let p = rw (rest_all c.args.trace.now c.args.k.taken) ct c.list_end-end.ensures in
-    let e = rw (sub-zero c.list_end-end.result) ct c.compare-found.ensures in
-    let cll = c.if-not-found.false in
-    last_passes c.args.k.lines p c.args.given.now c.args.k.passed e cll (omega (crith, c.if-end-given.false, last_fits c.args.k.lines p c.args.given.now c.args.k.passed e cll))
+    let c = c in let p = rw (rest_all c.args.trace.now c.args.k.taken) at c.list_end-end.ensures in
+    let e = rw (sub-zero c.list_end-end.result) at c.compare-found.ensures in
+    let all = c.if-not-found.false in
+    last_passes c.args.k.lines p c.args.given.now c.args.k.passed e all (omega (arith, c.if-end-given.false, last_fits c.args.k.lines p c.args.given.now c.args.k.passed e all))

@@ -12,12 +12,8 @@ use lib.ListN.{length, get_or, drop, drop_of_length-le}
 use lib.Seq.{drop-cons}
 use Rattle.checker.specs.Comparison.{counted, compared}
 use Rattle.checker.proofs.Comparison.{one_more, one_most}
+use Rattle.checker.proofs.compare_bytes.Invariants.{Left}
 use Rattle.checker.proofs.compare_bytes.Goals as goal
-
-record Left (required given : List ℕ) (from lines at i ended : ℕ) : Type 0 where
-  within : at ≤ length given
-  fits : ended + (length given - at) ≤ 18446744073709551615
-  same : compared ended (drop i required) (drop at given) ≡ compared lines required (drop from given)
 
 module _ {required given : List ℕ} {from lines at i ended : ℕ} (l : Left required given from lines at i ended) where
   whole : length required ≤ i → record { all = true; lines = ended } ≡ compared lines required (drop from given)

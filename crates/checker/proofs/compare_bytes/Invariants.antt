@@ -14,6 +14,11 @@ use Rattle.checker.specs.Comparison.{counted, compared}
 use Rattle.checker.proofs.Comparison.{one_more, one_most}
 use Rattle.checker.proofs.compare_bytes.Given as goal
 
+pub record Left (required given : List ℕ) (from lines at i ended : ℕ) : Type 0 where
+  pub within : at ≤ length given
+  pub fits : ended + (length given - at) ≤ 18446744073709551615
+  pub same : compared ended (drop i required) (drop at given) ≡ compared lines required (drop from given)
+
 abbrev pub invariant-loop-i : goal.invariant-loop-i
 invariant-loop-i l = Left l.required l.given l.from l.lines l.at l.i l.ended
 

@@ -10,12 +10,8 @@ use lib.ListN.{length, get_or, drop, drop_of_length-le}
 use mir.Val.{bool_byte}
 use Rattle.checker.specs.Comparison.{compared}
 use Rattle.checker.proofs.Comparison.{one_most, itself_compared}
+use Rattle.checker.proofs.lines_ended.Invariants.{Counted}
 use Rattle.checker.proofs.lines_ended.Goals as goal
-
-record Counted (text : List ℕ) (lines ended i : ℕ) : Type 0 where
-  few : ended ≤ i
-  within : i ≤ length text
-  same : compared (lines + ended) (drop i text) (drop i text) ≡ compared lines text text
 
 counted_next : {text : List ℕ} {lines ended i : ℕ} → Counted text lines ended i → i < length text → Counted text lines (ended + bool_byte (eqb (get_or text i 0) 10)) (i + 1)
 

@@ -12,6 +12,11 @@ use Rattle.checker.specs.Comparison.{compared}
 use Rattle.checker.proofs.Comparison.{one_most, itself_compared}
 use Rattle.checker.proofs.lines_ended.Given as goal
 
+pub record Counted (text : List ℕ) (lines ended i : ℕ) : Type 0 where
+  pub few : ended ≤ i
+  pub within : i ≤ length text
+  pub same : compared (lines + ended) (drop i text) (drop i text) ≡ compared lines text text
+
 abbrev pub invariant-loop-i : goal.invariant-loop-i
 invariant-loop-i l = Counted l.text l.lines l.ended l.i
 

@@ -11,11 +11,8 @@ use lib.ListN.{length, get_or, take, drop, length-drop}
 use lib.Seq.{take-suc, take_all, get_or-drop}
 use Rattle.laws.proofs.Cases.{split, clash}
 use Rattle.checker.specs.InnerContracts.{StandsAt}
+use Rattle.checker.proofs.stands_at.Invariants.{SoFar}
 use Rattle.checker.proofs.stands_at.Goals as goal
-
-record SoFar (required given : List ℕ) (from : ℕ) (alike : Bool) (i : ℕ) : Type 0 where
-  within : i ≤ length required
-  same : alike ≡ true → take i required ≡ take i (drop from given)
 
 so_far_next : {required given : List ℕ} {from : ℕ} {alike alike' : Bool} {i : ℕ} → SoFar required given from alike i → i < length required → from + i < length given → (alike' ≡ true → (alike ≡ true) × (eqb (get_or required i 0) (get_or given (from + i) 0) ≡ true)) → SoFar required given from alike' (i + 1)
 
@@ -66,4 +63,4 @@ loop-i-preserved c =
     (λ not_so. clash (sym (rw not_so at on))))
 
 pub returns : goal.returns
-returns c = let c = c in λ on. so_far_all c.loop-i.invariant c.loop-i-test.false on c.if-required-gt-MOST.false (omega (crith, c.if-given-from.false, length-drop c.args.from c.args.given.now))
+returns c = let c = c in λ on. so_far_all c.loop-i.invariant c.loop-i-test.false on c.if-required-gt-MOST.false (omega (arith, c.if-given-from.false, length-drop c.args.from c.args.given.now))

@@ -13,6 +13,10 @@ use Rattle.laws.proofs.Cases.{split, clash}
 use Rattle.checker.specs.InnerContracts.{StandsAt}
 use Rattle.checker.proofs.stands_at.Given as goal
 
+pub record SoFar (required given : List ℕ) (from : ℕ) (alike : Bool) (i : ℕ) : Type 0 where
+  pub within : i ≤ length required
+  pub same : alike ≡ true → take i required ≡ take i (drop from given)
+
 abbrev pub invariant-loop-i : goal.invariant-loop-i
 invariant-loop-i l = SoFar l.required l.given l.from l.alike l.i
 

@@ -7,13 +7,8 @@ use borrow.Author.Rules.{rules}
 use lib.ListN.{length, set, length-set}
 use Rattle.columns.specs.Numbers.{digit_or_blank}
 use Rattle.columns.proofs.Numbers.Printed.{with_columns_before, with_columns_before_set, with_columns_before_none, written_printed_zero, written_printed_last}
+use Rattle.columns.proofs.print_number.Invariants.{Left}
 use Rattle.columns.proofs.print_number.Goals as goal
-
-record Left (out₀ : List ℕ) (at i₀ left₀ : ℕ) (out : List ℕ) (i left : ℕ) : Type 0 where
-  same : with_columns_before out at i left ≡ with_columns_before out₀ at i₀ left₀
-  same_length : length out ≡ length out₀
-  least : at ≤ i
-  most : i < length out₀
 
 again : {out₀ out : List ℕ} {at i₀ left₀ i left left' : ℕ} → Left out₀ at i₀ left₀ out i left → at < i → left' ≡ left / 10
     → Left out₀ at i₀ left₀ (set out (i - 1) (digit_or_blank left)) (i - 1) left'

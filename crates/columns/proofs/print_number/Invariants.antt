@@ -9,6 +9,12 @@ use Rattle.columns.specs.Numbers.{digit_or_blank}
 use Rattle.columns.proofs.Numbers.Printed.{with_columns_before, with_columns_before_set, with_columns_before_none, written_printed_zero, written_printed_last}
 use Rattle.columns.proofs.print_number.Given as goal
 
+pub record Left (out₀ : List ℕ) (at i₀ left₀ : ℕ) (out : List ℕ) (i left : ℕ) : Type 0 where
+  pub same : with_columns_before out at i left ≡ with_columns_before out₀ at i₀ left₀
+  pub same_length : length out ≡ length out₀
+  pub least : at ≤ i
+  pub most : i < length out₀
+
 abbrev pub invariant-loop-i : goal.invariant-loop-i
 invariant-loop-i l = Left l.initial.out l.at l.initial.i l.initial.left l.out l.i l.left
 

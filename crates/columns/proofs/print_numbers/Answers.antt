@@ -7,11 +7,8 @@ use lib.ListN.{length, get_or, take}
 use Rattle.columns.specs.Numbers.{printed}
 use Rattle.columns.specs.Output.{number_columns, Prints}
 use Rattle.columns.proofs.Output.{prints_nothing, prints_then, prints_long, length_number_columns_take, number_columns_more}
+use Rattle.columns.proofs.print_numbers.Invariants.{Done}
 use Rattle.columns.proofs.print_numbers.Goals as goal
-
-record Done (out₀ : List ℕ) (at : ℕ) (numbers : List ℕ) (count : ℕ) (out : List ℕ) (place i : ℕ) : Type 0 where
-  prints : Prints out₀ at (number_columns (take i numbers)) out place
-  most : i ≤ count
 
 again : {out₀ numbers out out' : List ℕ} {at count place place' i : ℕ} → Done out₀ at numbers count out place i → i < count → count ≤ length numbers
     → Prints out place (printed 6 (get_or numbers i 0)) out' place' → Done out₀ at numbers count out' place' (i + 1)

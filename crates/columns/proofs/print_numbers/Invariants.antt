@@ -9,6 +9,10 @@ use Rattle.columns.specs.Output.{number_columns, Prints}
 use Rattle.columns.proofs.Output.{prints_nothing, prints_then, prints_long, length_number_columns_take, number_columns_more}
 use Rattle.columns.proofs.print_numbers.Given as goal
 
+pub record Done (out₀ : List ℕ) (at : ℕ) (numbers : List ℕ) (count : ℕ) (out : List ℕ) (place i : ℕ) : Type 0 where
+  pub prints : Prints out₀ at (number_columns (take i numbers)) out place
+  pub most : i ≤ count
+
 abbrev pub invariant-loop-i : goal.invariant-loop-i
 invariant-loop-i l = Done l.initial.out l.at l.numbers l.count l.out l.place l.i
 

@@ -9,12 +9,8 @@ use Rattle.columns.specs.Answers.{number_found}
 use Rattle.columns.specs.Numbers.{digits}
 use Rattle.columns.proofs.Answers.{number_found_none, number_found_some}
 use Rattle.columns.proofs.Numbers.Digits.{is_digit_below, is_digit_above, is_digit_within, digits_other, digits_digit, digits_empty, Room, room_zero, room_lt, room_digit}
+use Rattle.columns.proofs.read_digits.Invariants.{Left}
 use Rattle.columns.proofs.read_digits.Goals as goal
-
-record Left (text : List ℕ) (from end n i : ℕ) : Type 0 where
-  same : digits n (slice i end text) ≡ digits 0 (slice from end text)
-  most : i ≤ end
-  room : Room n (end - i)
 
 small : {text : List ℕ} {from end n i : ℕ} → Left text from end n i → n < 1000000
 

@@ -11,6 +11,11 @@ use Rattle.columns.proofs.Answers.{number_found_none, number_found_some}
 use Rattle.columns.proofs.Numbers.Digits.{is_digit_below, is_digit_above, is_digit_within, digits_other, digits_digit, digits_empty, Room, room_zero, room_lt, room_digit}
 use Rattle.columns.proofs.read_digits.Given as goal
 
+pub record Left (text : List ℕ) (from end n i : ℕ) : Type 0 where
+  pub same : digits n (slice i end text) ≡ digits 0 (slice from end text)
+  pub most : i ≤ end
+  pub room : Room n (end - i)
+
 abbrev pub invariant-loop-i : goal.invariant-loop-i
 invariant-loop-i l = Left l.text l.from l.end l.n l.i
 

@@ -8,12 +8,8 @@ use lib.Seq.{slice}
 use Rattle.columns.specs.Numbers.{number, field}
 use Rattle.columns.proofs.Answers.{number_found_none}
 use Rattle.columns.proofs.Numbers.Digits.{number_blank, number_not_blank, number_empty, slice_take_drop}
+use Rattle.columns.proofs.read_padded.Invariants.{Left}
 use Rattle.columns.proofs.read_padded.Goals as goal
-
-record Left (text : List ℕ) (from i : ℕ) : Type 0 where
-  same : number (slice i (from + 6) text) ≡ field from text
-  least : from ≤ i
-  most : i ≤ from + 6
 
 done : {text : List ℕ} {from i : ℕ} → Left text from i → i ≡ from + 6 → none ≡ field from text
 

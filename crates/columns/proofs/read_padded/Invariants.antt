@@ -10,6 +10,11 @@ use Rattle.columns.proofs.Answers.{number_found_none}
 use Rattle.columns.proofs.Numbers.Digits.{number_blank, number_not_blank, number_empty, slice_take_drop}
 use Rattle.columns.proofs.read_padded.Given as goal
 
+pub record Left (text : List ℕ) (from i : ℕ) : Type 0 where
+  pub same : number (slice i (from + 6) text) ≡ field from text
+  pub least : from ≤ i
+  pub most : i ≤ from + 6
+
 abbrev pub invariant-loop-i : goal.invariant-loop-i
 invariant-loop-i l = Left l.text l.from l.i
 

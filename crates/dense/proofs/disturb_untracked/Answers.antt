@@ -9,9 +9,9 @@ pub returns-then-t-counters : goal.returns-then-t-counters
 returns-then-t-counters c =
     let c = c in let p = c.requires in
     let enter = c.enter in
-    enter_free p.0 p.1 p.2 p.3 p.4 c.args.counters (omega (crith, c.if-t-counters.true)) enter.ensures.0 enter.ensures.1
+    enter_free p.0 p.1 p.2 p.3 p.4 c.args.counters (omega (arith, c.if-t-counters.true)) enter.ensures.0 enter.ensures.1
 
 pub returns : goal.returns
 returns c =
-    let c = c in let full : c.args.t.tracked ≡ c.args.counters = omega (crith, c.requires.6, c.if-t-counters.false) in
-    rw full ct c.disturb_full.ensures
+    let c = c in let full : c.args.t.tracked ≡ c.args.counters = omega (arith, c.requires.6, c.if-t-counters.false) in
+    rw full at c.disturb_full.ensures

@@ -10,10 +10,10 @@ returns-then-counts-row-eq0 c = let c = c in drop_none c.requires.0 c.args.row c
 pub overflow_sub-result : goal.overflow_sub-result
 overflow_sub-result c =
     let c = c in let if1 = c.if-counts-row-eq0 in
-    omega (crith, drop_count c.requires.0 c.args.row c.requires.1 (omega (crith, if1.false)))
+    omega (arith, drop_count c.requires.0 c.args.row c.requires.1 (omega (arith, if1.false)))
 
 pub returns : goal.returns
 returns c =
     let c = c in let if1 = c.if-counts-row-eq0 in
     let remove = c.remove in
-    drop_some c.requires.0 c.args.row c.requires.1 (omega (crith, if1.false)) remove.ensures.0 remove.ensures.1
+    drop_some c.requires.0 c.args.row c.requires.1 (omega (arith, if1.false)) remove.ensures.0 remove.ensures.1

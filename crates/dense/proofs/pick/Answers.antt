@@ -21,7 +21,7 @@ loop-i-init c =
       same = rw (sub-zero c.args.volume);
       rest = rw (sub-zero c.args.volume);
       written = refl;
-      most = omega crith;
+      most = omega arith;
     }
 
 pub take_top-taken-requires : goal.take_top-taken-requires

@@ -65,7 +65,7 @@ bounds-text-next c =
 
 pub returns-then-text-next-ne10 : goal.returns-then-text-next-ne10
 unfolding part
-returns-then-text-next-ne10 c = let c = c in let at = c.place_behind-next.ensures ∙ ap (λ (r : Reading). r.place) c.read_line-answer.ensures in record { out_value = going_unended (ran_on c) (left_over c) (cnds_without _ _ _ at (left_over c) (λ ten. omega (arith, ten, c.if-text-next-ne10.true))); banked_in = c.run_activations-run.ensures.banked_in }
+returns-then-text-next-ne10 c = let c = c in let at = c.place_behind-next.ensures ∙ ap (λ (r : Reading). r.place) c.read_line-answer.ensures in record { out_value = going_unended (ran_on c) (left_over c) (ends_without _ _ _ at (left_over c) (λ ten. omega (arith, ten, c.if-text-next-ne10.true))); banked_in = c.run_activations-run.ensures.banked_in }
 
 pub list_line-listed-requires : goal.list_line-listed-requires
 list_line-listed-requires c =
@@ -84,7 +84,7 @@ loop-at-preserved c =
     let c = c in let read_line = c.read_line-answer in
     let at = c.place_behind-next.ensures ∙ ap (λ (r : Reading). r.place) read_line.ensures in
     let line = c.list_line-listed in (
-      rw at (turning_step (ran_on c) (left_over c) (cnds_with _ _ _ at (left_over c) (omega (arith, c.if-text-next-ne10.false))) (room c) (rw read_line.ensures at line.ensures.0)),
+      rw at (turning_step (ran_on c) (left_over c) (ends_with _ _ _ at (left_over c) (omega (arith, c.if-text-next-ne10.false))) (room c) (rw read_line.ensures at line.ensures.0)),
       line.ensures.1,
     )
 

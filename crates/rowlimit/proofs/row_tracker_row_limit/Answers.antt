@@ -14,4 +14,4 @@ signed_number-requires c = rw c.row_limit.ensures (small_row_limit_answer _ _ _ 
 
 pub returns : goal.returns
 unfolding settings_of position_of
-returns c = to_z-of_z w64 c.signed_number.result (record { sfits = c.signed_number.type-inv }) ∙ c.signed_number.ensures ∙ ap signed c.row_limit.ensures
+returns c = to_z-of_z w64 c.signed_number.result (record { sfits = c.signed_number.type_inv }) ∙ c.signed_number.ensures ∙ ap signed c.row_limit.ensures

@@ -11,10 +11,8 @@ use lib.Dec.{leb, ltb}
 use lib.ListN.{length, take, drop, get_or}
 use Rattle.state.specs.State.{ascending}
 use Rattle.tables.proofs.Scans.{used_step, left_none}
+use Rattle.state.proofs.ascending_rows.Invariants.{Left}
 use Rattle.state.proofs.ascending_rows.Goals as goal
-
-record Left (t : List ℕ) (used high low i : ℕ) : Type 0 where
-  same : ascending low high (drop i (take used t)) ≡ ascending 0 high (take used t)
 
 module _ {t : List ℕ} {used high low i : ℕ} (l : Left t used high low i) (fits : used ≤ length t) where
   here : i < used → ascending 0 high (take used t) ≡ (leb low (get_or t i 0) && ltb (get_or t i 0) high && ascending (get_or t i 0 + 1) high (drop (i + 1) (take used t)))

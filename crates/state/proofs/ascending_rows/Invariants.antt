@@ -13,6 +13,9 @@ use Rattle.state.specs.State.{ascending}
 use Rattle.tables.proofs.Scans.{used_step, left_none}
 use Rattle.state.proofs.ascending_rows.Given as goal
 
+pub record Left (t : List ℕ) (used high low i : ℕ) : Type 0 where
+  pub same : ascending low high (drop i (take used t)) ≡ ascending 0 high (take used t)
+
 abbrev pub invariant-loop-i : goal.invariant-loop-i
 invariant-loop-i l = Left l.t l.used l.high l.low l.i
 

@@ -11,10 +11,8 @@ use lib.Dec.{leb}
 use lib.ListN.{length, take, drop, get_or}
 use Rattle.state.specs.State.{counts_allowed, most_count}
 use Rattle.tables.proofs.Scans.{used_step, left_none}
+use Rattle.state.proofs.counts_in_range.Invariants.{Left}
 use Rattle.state.proofs.counts_in_range.Goals as goal
-
-record Left (t : List ℕ) (used spillover i : ℕ) : Type 0 where
-  same : counts_allowed spillover (drop i (take used t)) ≡ counts_allowed spillover (take used t)
 
 module _ {t : List ℕ} {used spillover i : ℕ} (l : Left t used spillover i) (fits : used ≤ length t) where
   here : i < used → counts_allowed spillover (take used t) ≡ (leb 1 (get_or t i 0) && leb spillover (get_or t i 0) && leb (get_or t i 0) most_count && counts_allowed spillover (drop (i + 1) (take used t)))
@@ -29,12 +27,12 @@ pub loop-i-init : goal.loop-i-init
 loop-i-init c = record { same = refl }
 
 pub returns-then-not-count_in_range : goal.returns-then-not-count_in_range
-returns-then-not-count_in_range c = let c = c in rw (here c.loop-i.invariant c.requires (omega arith), ← c.count_in_range.ensures, not-true c.count_in_range.result c.if-not-count_in_range.true)
+returns-then-not-count_in_range c = let c = c in rw (here c.loop-i.invariant c.requires (omega arith), ← c.count_in_range.ensures, c.if-not-count_in_range.true)
 
 pub loop-i-preserved : goal.loop-i-preserved
 loop-i-preserved c =
     let c = c in record {
-      same = rw (here c.loop-i.invariant c.requires (omega arith), ← c.count_in_range.ensures, not-false c.count_in_range.result c.if-not-count_in_range.false);
+      same = rw (here c.loop-i.invariant c.requires (omega arith), ← c.count_in_range.ensures, c.if-not-count_in_range.false);
     }
 
 pub returns : goal.returns

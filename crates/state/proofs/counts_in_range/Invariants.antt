@@ -13,6 +13,9 @@ use Rattle.state.specs.State.{counts_allowed, most_count}
 use Rattle.tables.proofs.Scans.{used_step, left_none}
 use Rattle.state.proofs.counts_in_range.Given as goal
 
+pub record Left (t : List ℕ) (used spillover i : ℕ) : Type 0 where
+  pub same : counts_allowed spillover (drop i (take used t)) ≡ counts_allowed spillover (take used t)
+
 abbrev pub invariant-loop-i : goal.invariant-loop-i
 invariant-loop-i l = Left l.t l.used l.spillover l.i
 

@@ -33,18 +33,18 @@ grouped s rows counts p =
 pub returns-then-not-position_in_range : goal.returns-then-not-position_in_range
 returns-then-not-position_in_range c =
     let c = c in let a = c.args in
-    rw (grouped a.s a.rows.now a.counts.now a.p, ← c.position_in_range.ensures, not-true c.position_in_range.result c.if-not-position_in_range.true)
+    rw (grouped a.s a.rows.now a.counts.now a.p, ← c.position_in_range.ensures, c.if-not-position_in_range.true)
 
 pub rows_laid-requires : goal.rows_laid-requires
 rows_laid-requires c =
     let c = c in let start = c in
-    let passed = not-false c.position_in_range.result c.if-not-position_in_range.false in
+    let passed = c.if-not-position_in_range.false in
     omega (arith, (position_facts start.args.s start.args.p (rw c.position_in_range.ensures c passed)).fits, start.requires.0)
 
 pub counts_laid-requires : goal.counts_laid-requires
 counts_laid-requires c =
     let c = c in let start = c in
-    let passed = not-false c.position_in_range.result c.if-not-position_in_range.false in
+    let passed = c.if-not-position_in_range.false in
     omega (arith, (position_facts start.args.s start.args.p (rw c.position_in_range.ensures c passed)).fits, start.requires.1)
 
 pub returns-then-rows_laid : goal.returns-then-rows_laid
@@ -54,7 +54,7 @@ returns-then-rows_laid c =
     rw (
       grouped a.s a.rows.now a.counts.now a.p,
       ← at.position-in-range.ensures,
-      not-false at.position-in-range.result c.if-not-position_in_range.false,
+      c.if-not-position_in_range.false,
       ← c.rows_laid.ensures,
       c.if-rows_laid.true,
     )
@@ -67,7 +67,7 @@ returns-else-rows_laid c =
     rw (
       grouped a.s a.rows.now a.counts.now a.p,
       ← at.position-in-range.ensures,
-      not-false at.position-in-range.result c.if-not-position_in_range.false,
+      c.if-not-position_in_range.false,
       ← c.rows_laid.ensures,
       c.if-rows_laid.false,
     )

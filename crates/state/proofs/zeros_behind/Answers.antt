@@ -10,10 +10,8 @@ use lib.Dec.{eqb}
 use lib.ListN.{length, drop, get_or, drop_of_length-le}
 use lib.Seq.{drop-cons}
 use Rattle.state.specs.State.{zeros}
+use Rattle.state.proofs.zeros_behind.Invariants.{Left}
 use Rattle.state.proofs.zeros_behind.Goals as goal
-
-record Left (t : List ℕ) (from i : ℕ) : Type 0 where
-  same : zeros (drop i t) ≡ zeros (drop from t)
 
 module _ {t : List ℕ} {from i : ℕ} (l : Left t from i) where
   here : i < length t → zeros (drop from t) ≡ (eqb (get_or t i 0) 0 && zeros (drop (i + 1) t))

@@ -12,6 +12,9 @@ use lib.Seq.{drop-cons}
 use Rattle.state.specs.State.{zeros}
 use Rattle.state.proofs.zeros_behind.Given as goal
 
+pub record Left (t : List ℕ) (from i : ℕ) : Type 0 where
+  pub same : zeros (drop i t) ≡ zeros (drop from t)
+
 abbrev pub invariant-loop-i : goal.invariant-loop-i
 invariant-loop-i l = Left l.t l.from l.i
 

@@ -36,5 +36,5 @@ returns-else-q-k c =
     let c = c in let h = c.requires.tracks in
     let q = c.first_equal-q in
     let up = count_missed h c.args.t.spillover q.result q.ensures c.if-q-k.false in
-    rw (disturb_spill (length c.args.rows.now) c.args.row (read c.args.rows.now c.args.counts.now c.args.t.tracked c.args.t.spillover) c.requires.t_value (omega (crith, h.tracked_is, c.requires.tracked_value.0)) up)
+    rw (disturb_spill (length c.args.rows.now) c.args.row (read c.args.rows.now c.args.counts.now c.args.t.tracked c.args.t.spillover) c.requires.t_value (omega (arith, h.tracked_is, c.requires.tracked_value.0)) up)
     (holds_spill h up)

@@ -10,7 +10,7 @@ use Rattle.summary.proofs.InnerContracts.Runs.{Disturbing, disturbing_ready, dis
 use Rattle.summary.proofs.disturb_run.Goals as goal
 
 pub loop-row-init : goal.loop-row-init
-loop-row-init c = let c = c in record { sum = read c.args.rows.now c.args.counts.now c.args.t.tracked c.args.t.spillover; holds = c.requires.tracks; same = refl; room = room_more c.requires.low_bound.1 (omega crith); behind = omega crith }
+loop-row-init c = let c = c in record { sum = read c.args.rows.now c.args.counts.now c.args.t.tracked c.args.t.spillover; holds = c.requires.tracks; same = refl; room = room_more c.requires.low_bound.1 (omega arith); behind = omega arith }
 
 pub disturb_row-left-requires : goal.disturb_row-left-requires
 disturb_row-left-requires c = let c = c in let all = disturbing_ready c.loop-row.invariant c.loop-row-test.true c.requires.low_bound.0 in record { tracks = all.0; room_for = all.1 }

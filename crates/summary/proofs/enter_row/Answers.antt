@@ -14,7 +14,7 @@ insert_at-requires c = let c = c in (place_le c.requires.tracks c.args.row c.low
 pub insert_at-requires-2 : goal.insert_at-requires-2
 insert_at-requires-2 c =
     let lower_bound = c.lower_bound-p in
-    let c = c in (place_le c.requires.tracks c.args.row lower_bound.result lower_bound.ensures, omega (crith, c.requires.tracked_in_bounds.0, long_counts c.requires.tracks))
+    let c = c in (place_le c.requires.tracks c.args.row lower_bound.result lower_bound.ensures, omega (arith, c.requires.tracked_in_bounds.0, long_counts c.requires.tracks))
 
 pub returns : goal.returns
 returns c =

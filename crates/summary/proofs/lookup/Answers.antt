@@ -37,4 +37,4 @@ returns-then-rows-p c =
 pub returns-else-p-tracked : goal.returns-else-p-tracked
 returns-else-p-tracked c =
     let c = c in missed c.args.rows.now c.args.tracked c.args.row c.lower_bound-p.result c.requires.0 c.requires.1 c.lower_bound-p.ensures
-    (⊎_elim (λ w less ct. eqb-false _ _ w.2.left ct) (λ w less ct. omega (crith, w.left)) c.else-p-tracked.branch)
+    (⊎_elim (λ w less at. eqb-false _ _ w.2.left at) (λ w less at. omega (arith, w.left)) c.else-p-tracked.branch)

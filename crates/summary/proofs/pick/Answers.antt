@@ -21,7 +21,7 @@ loop-i-init c =
       same = rw (sub-zero c.args.volume);
       rest = rw (sub-zero c.args.volume);
       written = refl;
-      most = omega crith;
+      most = omega arith;
     }
 
 pub take_top-taken-requires : goal.take_top-taken-requires
@@ -37,7 +37,7 @@ pub bounds-list-i : goal.bounds-list-i
 bounds-list-i c =
     let loop_test = c.loop-i-test in
     let l = c.loop-i.invariant in
-    let c = c in omega (crith, loop_test.true, c.requires.volume_in_bounds, picking_long l (omega (crith, l.most, c.requires.volume_in_bounds)))
+    let c = c in omega (arith, loop_test.true, c.requires.volume_in_bounds, picking_long l (omega (arith, l.most, c.requires.volume_in_bounds)))
 
 pub overflow_add-i : goal.overflow_add-i
 overflow_add-i c =

@@ -6,12 +6,8 @@ use native.Mathlib.Omega.{arith}
 use borrow.Author.Fill.{fill_none, fill_more}
 use lib.ListN.{length, drop, set, replicate, length-set}
 use lib.Seq.{drop-length}
+use Rattle.tables.proofs.clear.Invariants.{Cleared}
 use Rattle.tables.proofs.clear.Goals as goal
-
-record Cleared (t₀ t : List ℕ) (i : ℕ) : Type 0 where
-  same : t ≡ replicate i 0 ++ drop i t₀
-  kept : length t ≡ length t₀
-  most : i ≤ length t₀
 
 again : {t₀ t : List ℕ} {i : ℕ} → Cleared t₀ t i → i < length t₀ → Cleared t₀ (set t i 0) (i + 1)
 

@@ -8,6 +8,11 @@ use lib.ListN.{length, drop, set, replicate, length-set}
 use lib.Seq.{drop-length}
 use Rattle.tables.proofs.clear.Given as goal
 
+pub record Cleared (t₀ t : List ℕ) (i : ℕ) : Type 0 where
+  pub same : t ≡ replicate i 0 ++ drop i t₀
+  pub kept : length t ≡ length t₀
+  pub most : i ≤ length t₀
+
 abbrev pub invariant-loop-i : goal.invariant-loop-i
 invariant-loop-i l = Cleared l.initial.t l.t l.i
 

@@ -7,11 +7,8 @@ use lib.ListN.{length, get_or, take, drop, drop_of_length-le}
 use lib.Seq.{get_or-take, length-take-le}
 use Rattle.tables.specs.InnerContracts.{equal_place}
 use Rattle.tables.proofs.Searches.{equal_place_here, equal_place_next}
+use Rattle.tables.proofs.first_equal.Invariants.{Left}
 use Rattle.tables.proofs.first_equal.Goals as goal
-
-record Left (t : List ℕ) (used x i : ℕ) : Type 0 where
-  same : i + equal_place x (drop i (take used t)) ≡ equal_place x (take used t)
-  most : i ≤ used
 
 found : {t : List ℕ} {used x i : ℕ} → Left t used x i → used ≤ length t → i < used → get_or t i 0 ≡ x → i ≡ equal_place x (take used t)
 

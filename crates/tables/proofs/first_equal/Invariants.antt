@@ -9,6 +9,10 @@ use Rattle.tables.specs.InnerContracts.{equal_place}
 use Rattle.tables.proofs.Searches.{equal_place_here, equal_place_next}
 use Rattle.tables.proofs.first_equal.Given as goal
 
+pub record Left (t : List ℕ) (used x i : ℕ) : Type 0 where
+  pub same : i + equal_place x (drop i (take used t)) ≡ equal_place x (take used t)
+  pub most : i ≤ used
+
 abbrev pub invariant-loop-i : goal.invariant-loop-i
 invariant-loop-i l = Left l.t l.used l.x l.i
 

@@ -9,11 +9,8 @@ use lib.ListN.{length, get_or, take, drop, drop_of_length-le}
 use lib.Seq.{get_or-take, length-take-le}
 use Rattle.tables.specs.InnerContracts.{highest_from, highest_place}
 use Rattle.tables.proofs.Searches.{highest_place_start, highest_from_next}
+use Rattle.tables.proofs.first_highest.Invariants.{Left}
 use Rattle.tables.proofs.first_highest.Goals as goal
-
-record Left (t : List ℕ) (used place best i : ℕ) : Type 0 where
-  same : highest_from place best i (drop i (take used t)) ≡ highest_place (take used t)
-  most : i ≤ used
 
 start : (t : List ℕ) (used : ℕ) → 0 < used → used ≤ length t → Left t used 0 (get_or t 0 0) 1
 

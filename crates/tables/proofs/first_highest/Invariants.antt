@@ -11,6 +11,10 @@ use Rattle.tables.specs.InnerContracts.{highest_from, highest_place}
 use Rattle.tables.proofs.Searches.{highest_place_start, highest_from_next}
 use Rattle.tables.proofs.first_highest.Given as goal
 
+pub record Left (t : List ℕ) (used place best i : ℕ) : Type 0 where
+  pub same : highest_from place best i (drop i (take used t)) ≡ highest_place (take used t)
+  pub most : i ≤ used
+
 abbrev pub invariant-loop-i : goal.invariant-loop-i
 invariant-loop-i l = Left l.t l.used l.place l.best l.i
 

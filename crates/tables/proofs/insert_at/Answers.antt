@@ -6,13 +6,8 @@ use native.Mathlib.Omega.{arith}
 use lib.ListN.{length, get_or, set, length-set}
 use Rattle.tables.specs.InnerContracts.{put_in}
 use Rattle.tables.proofs.Shifts.{put_in_last, put_in_again}
+use Rattle.tables.proofs.insert_at.Invariants.{Left}
 use Rattle.tables.proofs.insert_at.Goals as goal
-
-record Left (t₀ : List ℕ) (used at x : ℕ) (t : List ℕ) (i : ℕ) : Type 0 where
-  same : put_in t i at x ≡ put_in t₀ used at x
-  kept : length t ≡ length t₀
-  least : at ≤ i
-  most : i < length t₀
 
 again : {t₀ t : List ℕ} {used at x i : ℕ} → Left t₀ used at x t i → at < i → Left t₀ used at x (set t i (get_or t (i - 1) 0)) (i - 1)
 

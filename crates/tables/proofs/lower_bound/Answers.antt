@@ -9,12 +9,8 @@ use lib.Seq.{get_or-take, length-take-le}
 use Rattle.laws.proofs.Cases.{le_or_lt}
 use Rattle.tables.specs.InnerContracts.{Rising, lower_place}
 use Rattle.tables.proofs.Searches.{lower_place_le, lower_before, lower_at}
+use Rattle.tables.proofs.lower_bound.Invariants.{Between}
 use Rattle.tables.proofs.lower_bound.Goals as goal
-
-record Between (t : List ℕ) (used x low high : ℕ) : Type 0 where
-  least : low ≤ lower_place x (take used t)
-  most : lower_place x (take used t) ≤ high
-  inside : high ≤ used
 
 -- in ascending numbers the place is behind a number below x
 

@@ -11,6 +11,11 @@ use Rattle.tables.specs.InnerContracts.{Rising, lower_place}
 use Rattle.tables.proofs.Searches.{lower_place_le, lower_before, lower_at}
 use Rattle.tables.proofs.lower_bound.Given as goal
 
+pub record Between (t : List ℕ) (used x low high : ℕ) : Type 0 where
+  pub least : low ≤ lower_place x (take used t)
+  pub most : lower_place x (take used t) ≤ high
+  pub inside : high ≤ used
+
 abbrev pub invariant-loop-low : goal.invariant-loop-low
 invariant-loop-low l = Between l.t l.used l.x l.low l.high
 

@@ -6,12 +6,8 @@ use native.Mathlib.Omega.{arith}
 use lib.ListN.{length, get_or, set, length-set}
 use Rattle.tables.specs.InnerContracts.{taken_at}
 use Rattle.tables.proofs.Shifts.{taken_at_last, taken_at_again}
+use Rattle.tables.proofs.remove_at.Invariants.{Left}
 use Rattle.tables.proofs.remove_at.Goals as goal
-
-record Left (t₀ : List ℕ) (used at : ℕ) (t : List ℕ) (i : ℕ) : Type 0 where
-  same : taken_at t used i ≡ taken_at t₀ used at
-  kept : length t ≡ length t₀
-  most : i < used
 
 again : {t₀ t : List ℕ} {used at i : ℕ} → Left t₀ used at t i → used ≤ length t₀ → i + 1 < used → Left t₀ used at (set t i (get_or t (i + 1) 0)) (i + 1)
 

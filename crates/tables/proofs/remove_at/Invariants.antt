@@ -8,6 +8,11 @@ use Rattle.tables.specs.InnerContracts.{taken_at}
 use Rattle.tables.proofs.Shifts.{taken_at_last, taken_at_again}
 use Rattle.tables.proofs.remove_at.Given as goal
 
+pub record Left (t₀ : List ℕ) (used at : ℕ) (t : List ℕ) (i : ℕ) : Type 0 where
+  pub same : taken_at t used i ≡ taken_at t₀ used at
+  pub kept : length t ≡ length t₀
+  pub most : i < used
+
 abbrev pub invariant-loop-i : goal.invariant-loop-i
 invariant-loop-i l = Left l.initial.t l.used l.at l.t l.i
 

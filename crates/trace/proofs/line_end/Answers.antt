@@ -6,11 +6,8 @@ use native.Mathlib.Omega.{arith}
 use lib.ListN.{length, drop, drop_of_length-le}
 use Rattle.trace.specs.Lines.{extent}
 use Rattle.trace.proofs.Lines.{extent_end, extent_other}
+use Rattle.trace.proofs.line_end.Invariants.{Left}
 use Rattle.trace.proofs.line_end.Goals as goal
-
-record Left (text : List ℕ) (place i : ℕ) : Type 0 where
-  same : i + extent (drop i text) ≡ place + extent (drop place text)
-  most : i ≤ length text
 
 done : {text : List ℕ} {place i : ℕ} → Left text place i → length text ≤ i → i ≡ place + extent (drop place text)
 

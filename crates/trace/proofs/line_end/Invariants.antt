@@ -8,6 +8,10 @@ use Rattle.trace.specs.Lines.{extent}
 use Rattle.trace.proofs.Lines.{extent_end, extent_other}
 use Rattle.trace.proofs.line_end.Given as goal
 
+pub record Left (text : List ℕ) (place i : ℕ) : Type 0 where
+  pub same : i + extent (drop i text) ≡ place + extent (drop place text)
+  pub most : i ≤ length text
+
 abbrev pub invariant-loop-i : goal.invariant-loop-i
 invariant-loop-i l = Left l.text l.place l.i
 

@@ -14,14 +14,10 @@ use Rattle.trace.specs.Answers.{found_all}
 use Rattle.columns.specs.Numbers.{field, fields}
 use Rattle.columns.proofs.Answers.{field_found_number, field_found_other}
 use Rattle.columns.proofs.Numbers.Fields.{behind, behind_none_read, behind_one_more, fields_number, fields_other}
+use Rattle.trace.proofs.read_fields.Invariants.{Filled}
 use Rattle.trace.proofs.read_fields.Goals as goal
 
 -- i of the numbers are read into the front of the array
-
-record Filled (text : List ℕ) (at count : ℕ) (values : List ℕ) (i : ℕ) : Type 0 where
-  same : behind (take i values) (fields (count - i) (drop (at + 6 * i) text)) ≡ fields count (drop at text)
-  long : length values ≡ 16
-  most : i ≤ count
 
 filled_zero : (text : List ℕ) (at count : ℕ) (values : List ℕ) → length values ≡ 16 → Filled text at count values 0
 

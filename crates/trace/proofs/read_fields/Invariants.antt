@@ -16,6 +16,11 @@ use Rattle.columns.proofs.Answers.{field_found_number, field_found_other}
 use Rattle.columns.proofs.Numbers.Fields.{behind, behind_none_read, behind_one_more, fields_number, fields_other}
 use Rattle.trace.proofs.read_fields.Given as goal
 
+pub record Filled (text : List ℕ) (at count : ℕ) (values : List ℕ) (i : ℕ) : Type 0 where
+  pub same : behind (take i values) (fields (count - i) (drop (at + 6 * i) text)) ≡ fields count (drop at text)
+  pub long : length values ≡ 16
+  pub most : i ≤ count
+
 abbrev pub invariant-loop-i : goal.invariant-loop-i
 invariant-loop-i l = Filled l.text l.at l.count l.values l.i
 

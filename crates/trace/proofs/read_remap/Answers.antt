@@ -14,7 +14,7 @@ unfolding remap
 returns-then-not-found c =
     let a = c.args in
     let f = c.line_fields-found in
-    reading_no_numbers 16 (λ numbers. Remap (as_sixteen numbers)) (drop a.at a.text.now) a.at f.result f.ensures _ (not-true f.result.all c.if-not-found.true) c.line_end.ensures
+    reading_no_numbers 16 (λ numbers. Remap (as_sixteen numbers)) (drop a.at a.text.now) a.at f.result f.ensures _ c.if-not-found.true c.line_end.ensures
 
 pub returns : goal.returns
 unfolding remap
@@ -22,4 +22,4 @@ returns c =
     let a = c.args in
     let f = c.line_fields-found in
     rw (c.as_sixteen.ensures, ← as_sixteen_take f.result.values)
-    (reading_numbers 16 (λ numbers. Remap (as_sixteen numbers)) (drop a.at a.text.now) a.at f.result f.ensures _ (not-false f.result.all c.if-not-found.false) (omega arith))
+    (reading_numbers 16 (λ numbers. Remap (as_sixteen numbers)) (drop a.at a.text.now) a.at f.result f.ensures _ c.if-not-found.false (omega arith))

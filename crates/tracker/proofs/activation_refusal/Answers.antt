@@ -51,55 +51,55 @@ returns-then-k-ne0 c =
 pub returns-then-s-row : goal.returns-then-s-row
 unfolding given refuse
 returns-then-s-row c =
-    let a = c1.before.before.before.before.args in
-    rw (activation_tested a.s a.remap (given a.rows.now a.counts.now a.p) a.row a.hold, or_later_zero _ _ (tables c1), le-ltb a.row a.s.rows c.if-s-row.true)
+    let c = c in let a = c.args in
+    rw (activation_tested a.s a.remap (given a.rows.now a.counts.now a.p) a.row a.hold, or_later_zero _ _ (tables c), le-ltb a.row a.s.rows c.if-s-row.true)
 
 pub returns-then-not-hold_allowed : goal.returns-then-not-hold_allowed
 unfolding given refuse
 returns-then-not-hold_allowed c =
-    let c1 = c2.before.before in
+    let c = c in let c1 = c in
     let a = c1.before.before.before.before.args in
-    rw (activation_tested a.s a.remap (given a.rows.now a.counts.now a.p) a.row a.hold, or_later_zero _ _ (tables c1), inside c2, sym c.hold_allowed.ensures ∙ c.if-not-hold_allowed.true)
+    rw (activation_tested a.s a.remap (given a.rows.now a.counts.now a.p) a.row a.hold, or_later_zero _ _ (tables c1), inside c, sym c.hold_allowed.ensures ∙ c.if-not-hold_allowed.true)
 
 pub returns-then-not-remap_allowed : goal.returns-then-not-remap_allowed
 unfolding given refuse
 returns-then-not-remap_allowed c =
-    let c2 = c3.before.before in
+    let c = c in let c2 = c in
     let c1 = c2.before.before in
     let a = c1.before.before.before.before.args in
-    rw (activation_tested a.s a.remap (given a.rows.now a.counts.now a.p) a.row a.hold, or_later_zero _ _ (tables c1), inside c2, held c3, sym c.remap_allowed.ensures ∙ c.if-not-remap_allowed.true)
+    rw (activation_tested a.s a.remap (given a.rows.now a.counts.now a.p) a.row a.hold, or_later_zero _ _ (tables c1), inside c2, held c, sym c.remap_allowed.ensures ∙ c.if-not-remap_allowed.true)
 
 pub valid_state-requires : goal.valid_state-requires
 valid_state-requires c =
-    let a = c1.before.before.before.before.args in
-    let o = open_tables a.s a.rows.now a.counts.now (tables c1) in
+    let c = c in let a = c.args in
+    let o = open_tables a.s a.rows.now a.counts.now (tables c) in
     (o.rows_long, o.counts_long)
 
 pub returns-then-not-valid_state : goal.returns-then-not-valid_state
 unfolding given refuse
 returns-then-not-valid_state c =
-    let c3 = c4.before.before in
+    let c = c in let c3 = c in
     let c2 = c3.before.before in
     let c1 = c2.before.before in
     let a = c1.before.before.before.before.args in
-    rw (activation_tested a.s a.remap (given a.rows.now a.counts.now a.p) a.row a.hold, or_later_zero _ _ (tables c1), inside c2, held c3, allowed c4, sym c.valid_state.ensures ∙ c.if-not-valid_state.true)
+    rw (activation_tested a.s a.remap (given a.rows.now a.counts.now a.p) a.row a.hold, or_later_zero _ _ (tables c1), inside c2, held c3, allowed c, sym c.valid_state.ensures ∙ c.if-not-valid_state.true)
 
 pub overflow_add-p : goal.overflow_add-p
 unfolding given
 overflow_add-p c =
-    let c3 = c5.before.before.before.before in
+    let c = c in let c3 = c in
     let c1 = c3.before.before.before.before in
     let a = c1.before.before.before.before.args in
     let o = open_tables a.s a.rows.now a.counts.now (tables c1) in
-    let facts = valid_facts a.s (given a.rows.now a.counts.now a.p) o.long (sound c5) in
+    let facts = valid_facts a.s (given a.rows.now a.counts.now a.p) o.long (sound c) in
     omega (arith, facts.within, (accepted_settings a.s o.settled).others.interval.most, (hold_between a.hold (held c3)).most)
 
 pub returns : goal.returns
 unfolding given refuse
 returns c =
-    let c4 = c5.before.before in
+    let c = c in let c4 = c in
     let c3 = c4.before.before in
     let c2 = c3.before.before in
     let c1 = c2.before.before in
     let a = c1.before.before.before.before.args in
-    rw (activation_tested a.s a.remap (given a.rows.now a.counts.now a.p) a.row a.hold, or_later_zero _ _ (tables c1), inside c2, held c3, allowed c4, sound c5) c.refuse_unless.ensures
+    rw (activation_tested a.s a.remap (given a.rows.now a.counts.now a.p) a.row a.hold, or_later_zero _ _ (tables c1), inside c2, held c3, allowed c4, sound c) c.refuse_unless.ensures

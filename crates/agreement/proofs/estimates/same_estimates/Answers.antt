@@ -14,7 +14,7 @@ pub lower_row-row-requires : goal.lower_row-row-requires
 lower_row-row-requires c = record { tracked_in_bounds = c.loop-low.invariant.first.rows_long; tracked_in_bounds_2 = c.loop-low.invariant.second.rows_long }
 
 pub returns-then-t-t2 : goal.returns-then-t-t2
-returns-then-t-t2 c = sym (gap_differs come.lower-row.result come.before.before.loop.invariant come.lower-row.ensures c.if-low-row.true c.if-t-t2.true)
+returns-then-t-t2 c = let c = c in sym (gap_differs c.lower_row-row.result c.loop-low.invariant c.lower_row-row.ensures c.if-low-row.true c.if-t-t2.true)
 
 pub returns-then-row-high : goal.returns-then-row-high
 returns-then-row-high c =

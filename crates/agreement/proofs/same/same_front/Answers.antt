@@ -10,10 +10,8 @@ use lib.Dec.{eqb}
 use lib.ListN.{length, take, drop, get_or}
 use Rattle.laws.specs.Same.{same}
 use Rattle.tables.proofs.Scans.{used_step, left_none}
+use Rattle.agreement.proofs.same.same_front.Invariants.{Left}
 use Rattle.agreement.proofs.same.same_front.Goals as goal
-
-record Left (a b : List ℕ) (used i : ℕ) : Type 0 where
-  says : same (drop i (take used a)) (drop i (take used b)) ≡ same (take used a) (take used b)
 
 module _ {a b : List ℕ} {used i : ℕ} (l : Left a b used i) (fits : used ≤ length a) (fits' : used ≤ length b) where
   here : i < used → same (take used a) (take used b) ≡ (eqb (get_or a i 0) (get_or b i 0) && same (drop (i + 1) (take used a)) (drop (i + 1) (take used b)))

@@ -12,6 +12,9 @@ use Rattle.laws.specs.Same.{same}
 use Rattle.tables.proofs.Scans.{used_step, left_none}
 use Rattle.agreement.proofs.same.same_front.Given as goal
 
+pub record Left (a b : List ℕ) (used i : ℕ) : Type 0 where
+  pub says : same (drop i (take used a)) (drop i (take used b)) ≡ same (take used a) (take used b)
+
 abbrev pub invariant-loop-i : goal.invariant-loop-i
 invariant-loop-i l = Left l.a l.b l.used l.i
 

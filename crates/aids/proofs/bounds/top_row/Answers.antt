@@ -8,12 +8,8 @@ use Rattle.device.specs.Acceptance.{most_rows}
 use Rattle.aids.specs.Bounds.{Capped, Top, total, Tried}
 use Rattle.aids.proofs.BoundsTop.{highest_is}
 use Rattle.aids.proofs.BoundsTried.{tried_less}
+use Rattle.aids.proofs.bounds.top_row.Invariants.{Left}
 use Rattle.aids.proofs.bounds.top_row.Goals as goal
-
-record Left (counts bounds : List ℕ) (row : ℕ) : Type 0 where
-  capped : Capped counts bounds
-  range : row ≤ most_rows
-  found : row < most_rows → Top counts 0 most_rows row
 
 left : {counts bounds bounds' : List ℕ} {row : ℕ} → Tried counts bounds bounds' row → Left counts bounds' row
 
@@ -33,5 +29,5 @@ loop-row-preserved c = left c.try_top-row-in-loop-row.ensures
 pub returns : goal.returns
 returns c =
     let c = c in let l = c.loop-row.invariant in
-    let less : c.loop-row.row < most_rows = omega (crith, l.range, c.loop-row-test.false) in
+    let less : c.loop-row.row < most_rows = omega (arith, l.range, c.loop-row-test.false) in
     (highest_is c.args.counts.now most_rows c.loop-row.row c.requires.0 (l.found less), less, l.capped)

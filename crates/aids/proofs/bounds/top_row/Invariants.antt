@@ -10,6 +10,11 @@ use Rattle.aids.proofs.BoundsTop.{highest_is}
 use Rattle.aids.proofs.BoundsTried.{tried_less}
 use Rattle.aids.proofs.bounds.top_row.Given as goal
 
+pub record Left (counts bounds : List ℕ) (row : ℕ) : Type 0 where
+  pub capped : Capped counts bounds
+  pub range : row ≤ most_rows
+  pub found : row < most_rows → Top counts 0 most_rows row
+
 abbrev pub invariant-loop-row : goal.invariant-loop-row
 invariant-loop-row l = Left l.counts l.bounds l.row
 

@@ -5,11 +5,8 @@ use Prim.Native.Nat.{ℕ, ◌+◌, ◌-◌, ◌≤◌}
 use native.Mathlib.Omega.{arith}
 use Rattle.aids.specs.Marks.{Emptied}
 use Rattle.aids.proofs.Emptied.{emptied_none, emptied_more}
+use Rattle.aids.proofs.marks.clear_block.Invariants.{Passed}
 use Rattle.aids.proofs.marks.clear_block.Goals as goal
-
-record Passed (counts₀ counts : List ℕ) (from i : ℕ) : Type 0 where
-  emptied : Emptied counts₀ counts from (from + i)
-  most : i ≤ 64
 
 pub loop-i-init : goal.loop-i-init
 loop-i-init c = record { emptied = emptied_none c.args.counts.now c.args.from (c.args.from + 0) (omega arith); most = omega arith }

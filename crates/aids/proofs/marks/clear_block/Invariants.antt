@@ -7,6 +7,10 @@ use Rattle.aids.specs.Marks.{Emptied}
 use Rattle.aids.proofs.Emptied.{emptied_none, emptied_more}
 use Rattle.aids.proofs.marks.clear_block.Given as goal
 
+pub record Passed (counts₀ counts : List ℕ) (from i : ℕ) : Type 0 where
+  pub emptied : Emptied counts₀ counts from (from + i)
+  pub most : i ≤ 64
+
 abbrev pub invariant-loop-i : goal.invariant-loop-i
 invariant-loop-i l = Passed l.initial.counts l.counts l.from l.i
 

@@ -5,20 +5,17 @@ use Prim.Native.Nat.{ℕ, ◌+◌, ◌*◌, ◌-◌, ◌≤◌}
 use native.Mathlib.Omega.{arith}
 use Rattle.aids.specs.Marks.{row_words, Emptied}
 use Rattle.aids.proofs.Emptied.{emptied_none, emptied_on, emptied_word, emptied_all}
+use Rattle.aids.proofs.marks.clear_marked.Invariants.{Passed}
 use Rattle.aids.proofs.marks.clear_marked.Goals as goal
 
-record Passed (counts₀ counts : List ℕ) (w : ℕ) : Type 0 where
-  emptied : Emptied counts₀ counts 0 (w * 64)
-  most : w ≤ row_words
-
 pub loop-w-init : goal.loop-w-init
-loop-w-init c = let c = c in record { emptied = emptied_none c.args.counts.now 0 0 (omega crith); most = omega crith }
+loop-w-init c = let c = c in record { emptied = emptied_none c.args.counts.now 0 0 (omega arith); most = omega arith }
 
 pub bounds-marks-w : goal.bounds-marks-w
 bounds-marks-w c = omega (arith, c.requires.marks_long)
 
 pub clear_block-requires : goal.clear_block-requires
-clear_block-requires c = let c = c in let l = c.loop-w in omega (crith, l.invariant.emptied.long, c.requires.counts_long)
+clear_block-requires c = let c = c in let l = c.loop-w in omega (arith, l.invariant.emptied.long, c.requires.counts_long)
 
 pub loop-w-preserved : goal.loop-w-preserved
 loop-w-preserved c =

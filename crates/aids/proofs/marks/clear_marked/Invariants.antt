@@ -7,6 +7,10 @@ use Rattle.aids.specs.Marks.{row_words, Emptied}
 use Rattle.aids.proofs.Emptied.{emptied_none, emptied_on, emptied_word, emptied_all}
 use Rattle.aids.proofs.marks.clear_marked.Given as goal
 
+pub record Passed (counts₀ counts : List ℕ) (w : ℕ) : Type 0 where
+  pub emptied : Emptied counts₀ counts 0 (w * 64)
+  pub most : w ≤ row_words
+
 abbrev pub invariant-loop-w : goal.invariant-loop-w
 invariant-loop-w l = Passed l.initial.counts l.counts l.w
 

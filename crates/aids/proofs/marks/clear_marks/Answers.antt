@@ -6,12 +6,8 @@ use native.Mathlib.Omega.{arith}
 use borrow.Author.Fill.{fill_none, fill_more}
 use lib.ListN.{length, drop, set, replicate, length-set}
 use lib.Seq.{drop-length}
+use Rattle.aids.proofs.marks.clear_marks.Invariants.{Cleared}
 use Rattle.aids.proofs.marks.clear_marks.Goals as goal
-
-record Cleared (marks₀ marks : List ℕ) (w : ℕ) : Type 0 where
-  same : marks ≡ replicate w 0 ++ drop w marks₀
-  kept : length marks ≡ length marks₀
-  most : w ≤ length marks₀
 
 again : {marks₀ marks : List ℕ} {w : ℕ} → Cleared marks₀ marks w → w < length marks₀ → Cleared marks₀ (set marks w 0) (w + 1)
 

@@ -8,6 +8,11 @@ use lib.ListN.{length, drop, set, replicate, length-set}
 use lib.Seq.{drop-length}
 use Rattle.aids.proofs.marks.clear_marks.Given as goal
 
+pub record Cleared (marks₀ marks : List ℕ) (w : ℕ) : Type 0 where
+  pub same : marks ≡ replicate w 0 ++ drop w marks₀
+  pub kept : length marks ≡ length marks₀
+  pub most : w ≤ length marks₀
+
 abbrev pub invariant-loop-w : goal.invariant-loop-w
 invariant-loop-w l = Cleared l.initial.marks l.marks l.w
 

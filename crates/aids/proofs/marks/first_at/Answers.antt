@@ -5,11 +5,8 @@ use native.Mathlib.Omega.{arith}
 use Rattle.aids.specs.Marks.{row_words, Clear}
 use Rattle.aids.proofs.Shown.{rows_from, words_from}
 use Rattle.aids.proofs.Searches.{clear_less, sought_found, sought_none}
+use Rattle.aids.proofs.marks.first_at.Invariants.{Passed}
 use Rattle.aids.proofs.marks.first_at.Goals as goal
-
-record Passed (counts : List ℕ) (count next : ℕ) : Type 0 where
-  clear : Clear counts count (next * 64)
-  most : next ≤ row_words
 
 pub returns-then-rows-from : goal.returns-then-rows-from
 returns-then-rows-from c = let c = c in sought_none c.requires.0.counts_long c.requires.1 c.requires.4 c.requires.3 c.if-rows-from.true
@@ -18,7 +15,7 @@ pub bounds-marks-w : goal.bounds-marks-w
 bounds-marks-w c = omega (arith, c.requires.0.marks_long)
 
 pub first_in_word-row-requires : goal.first_in_word-row-requires
-first_in_word-row-requires c = let c = c in (c.requires.0.counts_long, omega crith, rows_from c.requires.0 c.requires.1 c.args.from (omega (crith, c.shared_slice_known-3-1.given (c.args.from / 64))), c.requires.4)
+first_in_word-row-requires c = let c = c in (c.requires.0.counts_long, omega arith, rows_from c.requires.0 c.requires.1 c.args.from (omega (arith, c.shared_slice_known-3-1.given (c.args.from / 64))), c.requires.4)
 
 pub returns-then-row-ne-ROWS : goal.returns-then-row-ne-ROWS
 returns-then-row-ne-ROWS c = sought_found c.requires.0.counts_long c.first_in_word-row.ensures c.if-row-ne-ROWS.true
@@ -32,7 +29,7 @@ bounds-marks-next c = omega (arith, c.requires.0.marks_long)
 pub first_in_words-r-requires : goal.first_in_words-r-requires
 first_in_words-r-requires c =
     let c = c in let l = c.loop-next in
-    (c.requires.0, c.requires.1, omega crith, words_from c.requires.0 l.next (omega crith) (omega (crith, c.shared_slice_known-in-loop-next-1.given (row_words + l.next / 64))), l.invariant.clear)
+    (c.requires.0, c.requires.1, omega arith, words_from c.requires.0 l.next (omega arith) (omega (arith, c.shared_slice_known-in-loop-next-1.given (row_words + l.next / 64))), l.invariant.clear)
 
 pub returns-then-r-ne-ROWS : goal.returns-then-r-ne-ROWS
 returns-then-r-ne-ROWS c = sought_found c.requires.0.counts_long c.first_in_words-r.ensures c.if-r-ne-ROWS.true

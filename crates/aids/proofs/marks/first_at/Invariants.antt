@@ -7,6 +7,10 @@ use Rattle.aids.proofs.Shown.{rows_from, words_from}
 use Rattle.aids.proofs.Searches.{clear_less, sought_found, sought_none}
 use Rattle.aids.proofs.marks.first_at.Given as goal
 
+pub record Passed (counts : List ℕ) (count next : ℕ) : Type 0 where
+  pub clear : Clear counts count (next * 64)
+  pub most : next ≤ row_words
+
 abbrev pub invariant-loop-next : goal.invariant-loop-next
 invariant-loop-next l = Passed l.counts l.count l.next
 

@@ -8,12 +8,8 @@ use Rattle.aids.specs.Marks.{Clear, Shows, at_number}
 use Rattle.aids.proofs.Bits.{few_zeros}
 use Rattle.aids.proofs.Shown.{lowest_inside, rest, rest_less}
 use Rattle.aids.proofs.Searches.{clear_on, clear_skipped, clear_end, found_at, missed_all}
+use Rattle.aids.proofs.marks.first_in_word.Invariants.{Left}
 use Rattle.aids.proofs.marks.first_in_word.Goals as goal
-
-record Left (counts : List ℕ) (count left row end : ℕ) : Type 0 where
-  shows : Shows (at_number counts count) left row end
-  clear : Clear counts count row
-  fits : left < 18446744073709551616
 
 pub loop-left-init : goal.loop-left-init
 loop-left-init c = record { shows = c.requires.2; clear = c.requires.3; fits = omega arith }
@@ -33,8 +29,8 @@ bounds-counts-row c = let l = c.loop-left in omega (arith, lowest_inside l.invar
 pub returns-then-counts-row : goal.returns-then-counts-row
 returns-then-counts-row c =
     let l = c.loop-left in
-    let c = c in let some : 0 < l.left = omega (crith, c.loop-left-test.true) in
-    found_at c.args.end (clear_skipped l.invariant.shows l.invariant.clear some) c.if-counts-row.true (omega (crith, lowest_inside l.invariant.shows some))
+    let c = c in let some : 0 < l.left = omega (arith, c.loop-left-test.true) in
+    found_at c.args.end (clear_skipped l.invariant.shows l.invariant.clear some) c.if-counts-row.true (omega (arith, lowest_inside l.invariant.shows some))
 
 pub overflow_add-row-in-loop-left : goal.overflow_add-row-in-loop-left
 overflow_add-row-in-loop-left c = let l = c.loop-left in omega (arith, lowest_inside l.invariant.shows (omega (arith, c.loop-left-test.true)))

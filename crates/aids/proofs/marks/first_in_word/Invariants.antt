@@ -10,6 +10,11 @@ use Rattle.aids.proofs.Shown.{lowest_inside, rest, rest_less}
 use Rattle.aids.proofs.Searches.{clear_on, clear_skipped, clear_end, found_at, missed_all}
 use Rattle.aids.proofs.marks.first_in_word.Given as goal
 
+pub record Left (counts : List ℕ) (count left row end : ℕ) : Type 0 where
+  pub shows : Shows (at_number counts count) left row end
+  pub clear : Clear counts count row
+  pub fits : left < 18446744073709551616
+
 abbrev pub invariant-loop-left : goal.invariant-loop-left
 invariant-loop-left l = Left l.counts l.count l.left l.row l.end
 

@@ -8,15 +8,11 @@ use Rattle.aids.specs.Marks.{Clear, Shows, in_use}
 use Rattle.aids.proofs.Bits.{few_zeros}
 use Rattle.aids.proofs.Shown.{lowest_inside, rest, rest_less, rows_of_word}
 use Rattle.aids.proofs.Searches.{clear_less, clear_words_skipped, clear_words_end, missed_all, found_part}
+use Rattle.aids.proofs.marks.first_in_words.Invariants.{Left}
 use Rattle.aids.proofs.marks.first_in_words.Goals as goal
 
-record Left (counts marks : List ℕ) (count left w end : ℕ) : Type 0 where
-  shows : Shows (in_use marks) left w end
-  clear : Clear counts count (w * 64)
-  fits : left < 18446744073709551616
-
 pub loop-left-init : goal.loop-left-init
-loop-left-init c = let c = c in record { shows = c.requires.3; clear = c.requires.4; fits = omega crith }
+loop-left-init c = let c = c in record { shows = c.requires.3; clear = c.requires.4; fits = omega arith }
 
 pub overflow_cast-w : goal.overflow_cast-w
 overflow_cast-w c = let l = c.loop-left in omega (arith, lowest_inside l.invariant.shows (omega (arith, c.loop-left-test.true)))
@@ -42,10 +38,10 @@ overflow_add-w-in-loop-left c = let l = c.loop-left in omega (arith, lowest_insi
 pub first_in_word-row-requires : goal.first_in_word-row-requires
 first_in_word-row-requires c =
     let l = c.loop-left in
-    let c = c in let some : 0 < l.left = omega (crith, c.loop-left-test.true) in
+    let c = c in let some : 0 < l.left = omega (arith, c.loop-left-test.true) in
     let w = l.w + count_trailing_zeros 64 l.left in
     let inside = lowest_inside l.invariant.shows some in
-    (c.requires.0.counts_long, omega crith, rows_of_word c.requires.0 c.requires.1 w (omega (crith, c.shared_slice_known-in-loop-left-1.given w)), clear_words_skipped c.requires.0 c.requires.1 l.invariant.shows l.invariant.clear some)
+    (c.requires.0.counts_long, omega arith, rows_of_word c.requires.0 c.requires.1 w (omega (arith, c.shared_slice_known-in-loop-left-1.given w)), clear_words_skipped c.requires.0 c.requires.1 l.invariant.shows l.invariant.clear some)
 
 pub returns-then-row-ne-ROWS : goal.returns-then-row-ne-ROWS
 returns-then-row-ne-ROWS c = let c = c in found_part (c.args.end * 64) c.first_in_word-row.ensures c.if-row-ne-ROWS.true
@@ -76,4 +72,4 @@ loop-left-preserved c =
 pub returns : goal.returns
 returns c =
     let l = c.loop-left in
-    let c = c in missed_all (clear_words_end c.requires.0 c.requires.1 l.invariant.shows l.invariant.clear (omega (crith, c.loop-left-test.false)))
+    let c = c in missed_all (clear_words_end c.requires.0 c.requires.1 l.invariant.shows l.invariant.clear (omega (arith, c.loop-left-test.false)))

@@ -10,6 +10,11 @@ use Rattle.aids.proofs.Shown.{lowest_inside, rest, rest_less, rows_of_word}
 use Rattle.aids.proofs.Searches.{clear_less, clear_words_skipped, clear_words_end, missed_all, found_part}
 use Rattle.aids.proofs.marks.first_in_words.Given as goal
 
+pub record Left (counts marks : List ℕ) (count left w end : ℕ) : Type 0 where
+  pub shows : Shows (in_use marks) left w end
+  pub clear : Clear counts count (w * 64)
+  pub fits : left < 18446744073709551616
+
 abbrev pub invariant-loop-left : goal.invariant-loop-left
 invariant-loop-left l = Left l.counts l.marks l.count l.left l.w l.end
 

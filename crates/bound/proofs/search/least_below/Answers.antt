@@ -6,13 +6,10 @@ use native.Mathlib.Omega.{arith}
 use Rattle.bound.specs.Answers.{outcome}
 use Rattle.bound.proofs.Shares.{Shared, share_begins, shared_room, share_small, share_enough, share_next}
 use Rattle.bound.proofs.Walk.{Walked, all_below, walk_begins, walked_small, room_positive, walk_goes_on, walk_gives_up, walk_ends, walk_finds}
+use Rattle.bound.proofs.search.least_below.Invariants.{Stands}
 use Rattle.bound.proofs.search.least_below.Goals as goal
 
 -- where the walk stands, with its share
-
-record Stands (volume added steps end sum room at quotient over : ℕ) : Type 0 where
-  walked : Walked volume added steps end sum room at
-  shared : Shared volume room at quotient over
 
 pub overflow_mul-sum : goal.overflow_mul-sum
 overflow_mul-sum c =

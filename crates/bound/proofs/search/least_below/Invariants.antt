@@ -8,6 +8,10 @@ use Rattle.bound.proofs.Shares.{Shared, share_begins, shared_room, share_small, 
 use Rattle.bound.proofs.Walk.{Walked, all_below, walk_begins, walked_small, room_positive, walk_goes_on, walk_gives_up, walk_ends, walk_finds}
 use Rattle.bound.proofs.search.least_below.Given as goal
 
+pub record Stands (volume added steps end sum room at quotient over : ℕ) : Type 0 where
+  pub walked : Walked volume added steps end sum room at
+  pub shared : Shared volume room at quotient over
+
 abbrev pub invariant-loop-at : goal.invariant-loop-at
 invariant-loop-at l = Stands l.volume l.added l.steps l.end l.sum l.room l.at l.share.quotient l.share.over
 

@@ -9,14 +9,8 @@ use Rattle.bound.specs.Totals.{size, total}
 use Rattle.bound.proofs.Totals.Size.{size_positive, size_grows, size_rising}
 use Rattle.bound.proofs.Totals.Total.{total_next, step_le}
 use Rattle.bound.proofs.Totals.Flat.{rising, rising_low, flat_first}
+use Rattle.bound.proofs.total.total_of.Invariants.{Left}
 use Rattle.bound.proofs.total.total_of.Goals as goal
-
-record Left (volume counters added steps j t at : ℕ) : Type 0 where
-  same : total (size volume counters) added j t ≡ total (size volume counters) added steps 0
-  low : (i : ℕ) → i < j → i * volume ≤ counters
-  size_is : at ≡ size volume counters j
-  fewer : j ≤ steps
-  small : t + j * added ≤ steps * added
 
 -- how far the total gets
 

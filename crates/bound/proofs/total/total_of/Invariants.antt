@@ -11,6 +11,13 @@ use Rattle.bound.proofs.Totals.Total.{total_next, step_le}
 use Rattle.bound.proofs.Totals.Flat.{rising, rising_low, flat_first}
 use Rattle.bound.proofs.total.total_of.Given as goal
 
+pub record Left (volume counters added steps j t at : ℕ) : Type 0 where
+  pub same : total (size volume counters) added j t ≡ total (size volume counters) added steps 0
+  pub low : (i : ℕ) → i < j → i * volume ≤ counters
+  pub size_is : at ≡ size volume counters j
+  pub fewer : j ≤ steps
+  pub small : t + j * added ≤ steps * added
+
 abbrev pub invariant-loop-j : goal.invariant-loop-j
 invariant-loop-j l = Left l.volume l.counters l.added l.steps l.j l.t l.at
 

@@ -8,29 +8,29 @@ use Rattle.steps.proofs.Steps.CallLines.{banked_moved, activation_active, activa
 use Rattle.steps.proofs.line.activated.Goals as goal
 
 pub physical_row-physical-requires : goal.physical_row-physical-requires
-physical_row-physical-requires c = let c = c in (cctivation_facts c.args.p c.args.counts.now c.requires.0 c.args.row c.args.hold c.requires.2).allowed
+physical_row-physical-requires c = let c = c in (activation_facts c.args.p c.args.counts.now c.requires.0 c.args.row c.args.hold c.requires.2).allowed
 
 pub activate-tally-requires : goal.activate-tally-requires
 activate-tally-requires c =
-    let c = c in let facts = cctivation_facts c.args.p c.args.counts.now c.requires.0 c.args.row c.args.hold c.requires.2 in record { holds = c.requires.1.bank (cctivation_active c.args.p c.args.counts.now c.requires.0 c.args.row c.args.hold c.requires.2); diameter_bound = (
-        cctivation_diameter c.args.p c.args.counts.now c.requires.0 c.args.row c.args.hold c.requires.2,
-        omega (crith, c.physical_row-physical.ensures, physical_inside c.args.p c.args.counts.now c.requires.0 c.args.row c.args.hold c.requires.2),
+    let c = c in let facts = activation_facts c.args.p c.args.counts.now c.requires.0 c.args.row c.args.hold c.requires.2 in record { holds = c.requires.1.bank (activation_active c.args.p c.args.counts.now c.requires.0 c.args.row c.args.hold c.requires.2); diameter_bound = (
+        activation_diameter c.args.p c.args.counts.now c.requires.0 c.args.row c.args.hold c.requires.2,
+        omega (arith, c.physical_row-physical.ensures, physical_inside c.args.p c.args.counts.now c.requires.0 c.args.row c.args.hold c.requires.2),
         facts.units.least,
         facts.units.most,
-        room_more (cctivation_room c.args.p c.args.counts.now c.requires.0 c.args.row c.args.hold c.requires.2) (omega crith),
+        room_more (activation_room c.args.p c.args.counts.now c.requires.0 c.args.row c.args.hold c.requires.2) (omega arith),
       ) }
 
 pub overflow_add-p : goal.overflow_add-p
 unfolding state_of
 overflow_add-p c =
-    let c = c in let facts = cctivation_facts c.args.p c.args.counts.now c.requires.0 c.args.row c.args.hold c.requires.2 in
-    omega (crith, facts.spare, facts.state.settings.others.interval.most)
+    let c = c in let facts = activation_facts c.args.p c.args.counts.now c.requires.0 c.args.row c.args.hold c.requires.2 in
+    omega (arith, facts.spare, facts.state.settings.others.interval.most)
 
 pub returns : goal.returns
 returns c =
     let c = c in let t = c.activate-tally.ensures in
     let m = c.moved in
-    let f = c.physical_row-physical.ensures in record { leaves_in = rw m.ensures (cctivation_moves c.args.p c.args.counts.now c.requires.0 c.args.row c.args.hold c.requires.2 c.args.line f t); banked_in = rw m.ensures (banked_moved c.args.p _ _ c.args.line t) }
+    let f = c.physical_row-physical.ensures in record { leaves_in = rw m.ensures (activation_moves c.args.p c.args.counts.now c.requires.0 c.args.row c.args.hold c.requires.2 c.args.line f t); banked_in = rw m.ensures (banked_moved c.args.p _ _ c.args.line t) }
 
 pub shape_of-counts : goal.shape_of-counts
 shape_of-counts c = let c = c in (returns c).1.marked.counts_long ∙ sym c.requires.1.marked.counts_long

@@ -10,19 +10,19 @@ use Rattle.steps.proofs.Steps.SettingsLine.{settings_printed, settings_leave}
 use Rattle.steps.proofs.line.list_settings.Goals as goal
 
 pub print_settings-end-requires : goal.print_settings-end-requires
-print_settings-end-requires c = let c = c in (omega (crith, c.requires.2), rw c.bound.ensures (small_bound_answer c.args.s))
+print_settings-end-requires c = let c = c in (omega (arith, c.requires.2), rw c.bound.ensures (small_bound_answer c.args.s))
 
 pub returns : goal.returns
 returns c =
     let c = c in let b = c.bound in
     let k = c.settings_refusal-active in
     let e = c.clear-tally in
-    let none = e.ensures 0 0 (omega crith) in
+    let none = e.ensures 0 0 (omega arith) in
     let t = tracker_in c.args.p c.args.counts.now in record { lists_line = record {
         printed = settings_printed c.args.p.loaded c.requires.0.loadable c.args.line c.args.s t b.result b.ensures c.print_settings-end.ensures;
         left = settings_leave c.args.p.loaded c.requires.0.loadable c.args.line c.args.s t _ e.result _ (rw k.ensures) none.holds;
       }; banked_in = record {
         marked = none.bank.kept.marked;
         bounds_long = none.bank.capped.nested.bounds_long;
-        bank = λ on. (e.ensures c.args.s.rows c.args.s.counters (cccepted_settings c.args.s (sym k.ensures ∙ eqb-true _ 0 on)).others.rows.most).bank;
+        bank = λ on. (e.ensures c.args.s.rows c.args.s.counters (accepted_settings c.args.s (sym k.ensures ∙ eqb-true _ 0 on)).others.rows.most).bank;
       } }

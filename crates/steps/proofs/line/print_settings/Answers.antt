@@ -8,8 +8,8 @@ use Rattle.steps.proofs.line.print_settings.Goals as goal
 pub print_bound-requires : goal.print_bound-requires
 unfolding outcome Small
 print_bound-requires c =
-    let c = c in let small = rw c.answer-1.given.1 ct c.requires.1 in
-    (omega (crith, c.requires.0), omega (crith, small))
+    let c = c in let small = rw c.answer-1.given.1 at c.requires.1 in
+    (omega (arith, c.requires.0), omega (arith, small))
 
 pub returns-in-Value : goal.returns-in-Value
 unfolding outcome settings_line

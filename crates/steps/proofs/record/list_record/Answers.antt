@@ -30,6 +30,6 @@ pub returns-in-Blank : goal.returns-in-Blank
 unfolding record_step_to loaded_behind
 returns-in-Blank c =
     let c = c in let all = rw c.enum_told-in-Blank-1.given.1 (
-      leaves_unmoved c.args.p c.args.counts.now c.at_line.ensures _ (prints_nothing c.args.out.now c.args.at (omega (crith, c.requires.2))),
+      leaves_unmoved c.args.p c.args.counts.now c.at_line.ensures _ (prints_nothing c.args.out.now c.args.at (omega (arith, c.requires.2))),
       banked_unmoved c.args.p c.args.counts.now c.at_line.ensures c.requires.1,
     ) in record { lists_line = all.0; banked_in = all.1 }

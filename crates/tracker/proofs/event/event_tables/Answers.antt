@@ -38,7 +38,7 @@ spread_picks-named-requires c =
     let c = c in let p = c.pre.1.0 in
     let t = c.take_out-taken in
     let sum = read c.args.rows.now c.args.counts.now c.args.t.tracked c.args.t.spillover in
-    let x = t.ensures.0 in record { tracks = held_again clear_if.ensures; blast_diameter_bound = (p.0, omega (crith, count_picked_le x, p.2), omega (crith, count_picked_le x, p.6, t.kept.1.1.1.1.1.1.0), take_picked_below x c.pre.1.1.1 p.1); room_for = room_cleared_read c.args.s.volume (victims_in c.args.s) _ _ sum (take t.result.count t.last.1.1.1.1.1.1.0) (take_picked x) t.ensures.1 clear_if.ensures (room_more c.pre.1.1.0 (omega crith)) }
+    let x = t.ensures.0 in record { tracks = held_again clear_if.ensures; blast_diameter_bound = (p.0, omega (arith, count_picked_le x, p.2), omega (arith, count_picked_le x, p.6, t.kept.1.1.1.1.1.1.0), take_picked_below x c.pre.1.1.1 p.1); room_for = room_cleared_read c.args.s.volume (victims_in c.args.s) _ _ sum (take t.result.count t.last.1.1.1.1.1.1.0) (take_picked x) t.ensures.1 clear_if.ensures (room_more c.pre.1.1.0 (omega arith)) }
 
 pub spread_run-after-requires : goal.spread_run-after-requires
 spread_run-after-requires c =
@@ -51,7 +51,7 @@ spread_run-after-requires c =
     let sum = read c.args.rows.now c.args.counts.now c.args.t.tracked c.args.t.spillover in
     let x = t.ensures.0 in
     let high = c.smaller-high.ensures in
-    let long = t.kept.1.1.1.1.1.1.0 in record { tracks = held_again spread_picks.ensures; blast_diameter_bound = (p.0, omega (crith, count_picked_le x, p.6, long), omega (crith, high, p.1), omega (crith, high, p.3)); room_for = room_spread_read c.args.s.volume (victims_in c.args.s) (rows_between (c.args.e * c.args.s.block) smaller.result) _ sum names (take_picked x) t.ensures.1 clear_if.ensures spread_picks.ensures (λ row. victims_four c.args.s row p.0) (omega (crith, length-take-le t.result.count t.last.1.1.1.1.1.1.0 (omega (crith, count_picked_le x, p.6, long)), count_picked_le x, p.2)) c.pre.1.1.0 }
+    let long = t.kept.1.1.1.1.1.1.0 in record { tracks = held_again spread_picks.ensures; blast_diameter_bound = (p.0, omega (arith, count_picked_le x, p.6, long), omega (arith, high, p.1), omega (arith, high, p.3)); room_for = room_spread_read c.args.s.volume (victims_in c.args.s) (rows_between (c.args.e * c.args.s.block) smaller.result) _ sum names (take_picked x) t.ensures.1 clear_if.ensures spread_picks.ensures (λ row. victims_four c.args.s row p.0) (omega (arith, length-take-le t.result.count t.last.1.1.1.1.1.1.0 (omega (arith, count_picked_le x, p.6, long)), count_picked_le x, p.2)) c.pre.1.1.0 }
 
 pub returns : goal.returns
 unfolding block_rows ends_window

@@ -21,9 +21,9 @@ loop-i-init c =
         sum = read c.args.rows.now c.args.counts.now c.args.t.tracked c.args.t.spillover;
         holds = c.requires.tracks;
         same = refl;
-        room = room_more c.requires.room_for (omega crith);
+        room = room_more c.requires.room_for (omega arith);
       },
-      omega crith,
+      omega arith,
     )
 
 pub offset_bounds-picks-i : goal.offset_bounds-picks-i
@@ -37,10 +37,10 @@ disturb_victims-left-requires c =
     let c = c in let p = c.requires.blast_diameter_bound in
     let i = c.loop-i.i in
     let less = c.loop-i-test.true in
-    let ready = spreading_ready c.loop-i.invariant.0 (omega (crith, less, p.1)) in record { tracks = ready.0; blast_diameter_bound = (
+    let ready = spreading_ready c.loop-i.invariant.0 (omega (arith, less, p.1)) in record { tracks = ready.0; blast_diameter_bound = (
           p.0,
-          rw (get_or-take c.args.used c.args.picks.now i 0 less) ct
-              (below_at p.3 i (omega (crith, less, length-take-le c.args.used c.args.picks.now p.2))),
+          rw (get_or-take c.args.used c.args.picks.now i 0 less) at
+              (below_at p.3 i (omega (arith, less, length-take-le c.args.used c.args.picks.now p.2))),
         ); room_for = ready.1 }
 
 pub overflow_add-i : goal.overflow_add-i
@@ -59,9 +59,9 @@ loop-i-preserved c =
     let c = c in let p = c.requires.blast_diameter_bound in
     let i = c.loop-i.i in
     let less = c.loop-i-test.true in
-    let l = rw (used_step c.args.picks.now c.args.used i p.2 less) ct turn.invariant.0 in (
-      rw (cdd-one i) (spreading_more (spreading_again (get_or c.args.picks.now i 0) l (victims_four c.args.s (get_or c.args.picks.now i 0) p.0) c.disturb_victims-left.ensures) (omega crith)),
-      omega (crith, less),
+    let l = rw (used_step c.args.picks.now c.args.used i p.2 less) at turn.invariant.0 in (
+      rw (add-one i) (spreading_more (spreading_again (get_or c.args.picks.now i 0) l (victims_four c.args.s (get_or c.args.picks.now i 0) p.0) c.disturb_victims-left.ensures) (omega arith)),
+      omega (arith, less),
     )
 
 pub shape_of-rows : goal.shape_of-rows

@@ -21,9 +21,9 @@ loop-row-init c =
         sum = read c.args.rows.now c.args.counts.now c.args.t.tracked c.args.t.spillover;
         holds = c.requires.tracks;
         same = refl;
-        room = room_more c.requires.room_for (omega crith);
+        room = room_more c.requires.room_for (omega arith);
       },
-      omega crith,
+      omega arith,
     )
 
 pub spread_unlisted-left-requires : goal.spread_unlisted-left-requires
@@ -47,11 +47,11 @@ loop-row-preserved c =
     let turn = c.loop-row in
     let c = c in let less = c.loop-row-test.true in
     let row = c.loop-row.row in
-    let l = rw (between_step row c.args.high less) ct turn.invariant.0 in (
+    let l = rw (between_step row c.args.high less) at turn.invariant.0 in (
       spreading_more
           (spreading_beside (take c.args.used c.args.picks.now) row (rows_between (row + 1) c.args.high) l (victims_four c.args.s row c.requires.blast_diameter_bound.0) c.spread_unlisted-left.ensures)
-          (omega (crith, turn.invariant.1)),
-      omega (crith, turn.invariant.1),
+          (omega (arith, turn.invariant.1)),
+      omega (arith, turn.invariant.1),
     )
 
 pub shape_of-rows : goal.shape_of-rows

@@ -14,4 +14,4 @@ drop_run-rest-requires c =
 pub returns : goal.returns
 returns c =
     let c = c in let x = c.pick-picked.ensures in record { names = x.0; turns = rw (taken_out_split c.args.s.volume (rows_between c.args.low c.args.high) (read c.args.rows.now c.args.counts.now c.args.t.tracked c.args.t.spillover))
-          (rw (held_read x.1, long_rows x.1) ct c.drop_run-rest.ensures) }
+          (rw (held_read x.1, long_rows x.1) at c.drop_run-rest.ensures) }

@@ -33,6 +33,7 @@ use denote.Enum.Laws as EL
 use denote.Struct.Laws as SL
 use denote.Triple.Entry.{Vals, on_entry}
 use denote.Triple.Spec.{Meets, triple_of}
+use denote.Triple.Statement.{Contract, Triple}
 use denote.Triple.Call.{calls_at}
 use denote.Triple.Clauses.{ensured, lasts}
 use denote.Triple.Table.{entered, cited}
@@ -72,22 +73,17 @@ use Rattle.writer.specs.contracts.write.Key.{name as #f}
 use Rattle.writer.specs.contracts.write as f
 use Rattle.writer.proofs.write.Statement as stated
 use Rattle.writer.proofs.write.Code as code
-use Rattle.writer.proofs.write.Goals as goal
 
 abbrev R : RattleType
-
 R = T.the_row
 
 abbrev S : RattleType
-
 S = F.the_row
 
 abbrev stayed : Stays (f.ended).signature.params (f.ended).kept
-
 stayed = (stay_none_slice (0 ∷ []) tt (plain (λ _. R)) yes, (gave_slice (1 ∷ []) tt (plain (λ _. u8)), tt))
 
 -- the contracts that the walk cites
-
 module _ {M : Type 1} {𝓤 : Ura M} (𝓛 : Logic 𝓤) (mem : Memory → SProp 𝓤) (run : Routine → Fun 𝓤) where
   abbrev SurveysAll : Contract 𝓤
   SurveysAll = triple_of 𝓛 survey.signature (survey.spec 𝓛 mem run)
@@ -284,12 +280,13 @@ module _ {M : Type 1} {𝓤 : Ura M} (𝓛 : Logic 𝓤) (mem : Memory → SProp
 meets : {M : Type 1} {𝓤 : Ura M} (𝓛 : Logic 𝓤) → (mem : Memory → SProp 𝓤) (run : Routine → Fun 𝓤) (𝓣 : Tables 𝓤 𝓛.H)
     → Triple 𝓤 (𝓣.C #survey) (SurveysAll 𝓛 mem run) → Triple 𝓤 (𝓣.C #due) (Due 𝓛 mem run) → Triple 𝓤 (𝓣.C #print) (PrintsFirst 𝓛 mem run)
     → Triple 𝓤 (𝓣.C #end) (Concludes 𝓛 mem run) → Meets 𝓛 f.signature (WpFn 𝓤 𝓛.H 𝓣.C 𝓣.Λ code.function) (f.spec 𝓛 mem run)
-
 meets {𝓤 = 𝓤} 𝓛 mem run 𝓣 known_survey known_due known_print known_end =
     walk_Meets 𝓛 f.ended stayed (Goes-none_slice 𝓛 2 (0 ∷ []) tt (plain (λ _. R)) yes, (Goes-gave_slice 𝓛 2 1 tt (plain (λ _. u8)), tt)) (f.clauses 𝓛 mem run)
     (WpFn 𝓤 𝓛.H 𝓣.C 𝓣.Λ code.function) (WpFn-mono 𝓤 𝓛.H 𝓛.laws 𝓣 code.function)
     (walks 𝓛 mem run 𝓣.C 𝓣.Λ (fm_of 𝓤 𝓛.H 𝓛.laws 𝓣) known_survey known_due known_print known_end)
 
+pub write_spec : {M : Type 1} → stated.statement M
+unfolding code.routine tables_of
 write_spec 𝓤 𝓛 𝓜 𝓡 =
     entered 𝓤 𝓛.H (triple_of 𝓛 f.signature (f.spec 𝓛 𝓜.mem 𝓡.run))
     (tables 𝓤 𝓛.H 𝓜 𝓡 code.env).C (tables 𝓤 𝓛.H 𝓜 𝓡 code.env).Λ #f code.function (code.unfolded 𝓤 𝓛.H 𝓜 𝓡)

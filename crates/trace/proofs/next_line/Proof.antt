@@ -34,6 +34,7 @@ use denote.Struct.Field.{rows}
 use denote.Struct.Laws as LL
 use denote.Struct.Struct.{within}
 use denote.Struct.Values.{intos}
+use denote.Triple.Statement.{Contract, Triple}
 use denote.Triple.Call.{calls_at}
 use denote.Triple.Entry.{on_entry}
 use denote.Triple.Spec.{Meets, triple_of}
@@ -60,10 +61,8 @@ use Rattle.trace.specs.contracts.next_line.Key.{name as #trace·next-line}
 use Rattle.trace.specs.contracts.next_line as next
 use Rattle.trace.proofs.next_line.Statement as stated
 use Rattle.trace.proofs.next_line.Code as code
-use Rattle.trace.proofs.next_line.Goals as goal
 
 abbrev stayed : Stays (next.ended).signature.params (next.ended).kept
-
 stayed = (stay_none_slice (0 ∷ []) tt (plain (λ _. u8)) yes, (stay_none (λ _. usize) yes, tt))
 
 module _ {M : Type 1} {𝓤 : Ura M} (𝓛 : Logic 𝓤) (mem : Memory → SProp 𝓤) (run : Routine → Fun 𝓤) where
@@ -188,11 +187,12 @@ module _ {M : Type 1} {𝓤 : Ura M} (𝓛 : Logic 𝓤) (mem : Memory → SProp
 next_meets : {M : Type 1} {𝓤 : Ura M} (𝓛 : Logic 𝓤) (mem : Memory → SProp 𝓤) (run : Routine → Fun 𝓤) (𝓣 : Tables 𝓤 𝓛.H)
     → Triple 𝓤 (𝓣.C #trace·read-line) (ReadLine 𝓛 mem run) → Triple 𝓤 (𝓣.C #trace·text-behind) (Behind 𝓛 mem run)
     → Meets 𝓛 next.signature (WpFn 𝓤 𝓛.H 𝓣.C 𝓣.Λ code.function) (next.spec 𝓛 mem run)
-
 next_meets {𝓤 = 𝓤} 𝓛 mem run 𝓣 known_read Known-Behind =
     walk_Meets 𝓛 next.ended stayed (Goes-none_slice 𝓛 1 (0 ∷ []) tt (plain (λ _. u8)) yes, (Goes-none 𝓛 1 (λ _. usize) yes (λ κs x f. refl), tt)) (next.clauses 𝓛 mem run)
     (WpFn 𝓤 𝓛.H 𝓣.C 𝓣.Λ code.function) (WpFn-mono 𝓤 𝓛.H 𝓛.laws 𝓣 code.function) (next_walks 𝓛 mem run 𝓣.C 𝓣.Λ (fm_of 𝓤 𝓛.H 𝓛.laws 𝓣) known_read Known-Behind)
 
+pub next_line_spec : {M : Type 1} → stated.statement M
+unfolding code.routine tables_of
 next_line_spec 𝓤 𝓛 𝓜 𝓡 =
     entered 𝓤 𝓛.H (triple_of 𝓛 next.signature (next.spec 𝓛 𝓜.mem 𝓡.run))
     (tables 𝓤 𝓛.H 𝓜 𝓡 code.env).C (tables 𝓤 𝓛.H 𝓜 𝓡 code.env).Λ #trace·next-line code.function (code.unfolded 𝓤 𝓛.H 𝓜 𝓡)
