@@ -14,17 +14,13 @@ use Rattle.agreement.proofs.Alike.{same_position_alike}
 use Rattle.agreement.proofs.agree.Goals as goal
 
 -- what is known where a test passed
-
 accepts : (c : tie.Else1) → let a = c.before.before.before.before.before.before.args in first_failed (agreement_tests a.s a.remap (given a.rows.now a.counts.now a.p) a.s2 a.remap2 (given a.rows2.now a.counts2.now a.p2)) ≡ 0
-
 accepts c = sym c.before.agreement-refusal.ensures ∙ c.if1.false
 
 alike : (c : tie.Else2) → let a = c.before.before.before.before.before.before.before.before.args in (same_settings a.s a.s2 && same a.remap a.remap2) ≡ true
-
 alike c = sym c.before.same_set_up.ensures ∙ c.if2.false
 
 placed : (c : tie.Else3) → let a = c.before.before.before.before.before.before.before.before.before.before.args in same_position a.p a.p2 ≡ true
-
 placed c = sym c.before.same-position.ensures ∙ c.if3.false
 
 pub returns-then-k-ne0 : goal.returns-then-k-ne0

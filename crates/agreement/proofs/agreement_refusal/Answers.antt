@@ -12,23 +12,17 @@ use Rattle.agreement.proofs.Calls.Tests.{agreement_tested, tables_passed}
 use Rattle.agreement.proofs.agreement_refusal.Goals as goal
 
 -- what each test says where it passed
-
 tables : (c : tie.Else1) → let a = c.before.before.before.before.before.before.args in first_failed (both_tables_tests a.s a.rows.now a.counts.now a.s2 a.rows2.now a.counts2.now) ≡ 0
-
 tables c = sym c.before.tables-refusal.ensures ∙ c.if1.false
 
 allowed : (c : tie.Else2) → remap_allowed c.before.before.before.before.before.before.before.before.args.remap ≡ true
-
 allowed c = sym c.before.remap-allowed.ensures ∙ c.if2.false
 
 allowed-2 : (c : tie.Else3) → remap_allowed c.before.before.before.before.before.before.before.before.before.before.args.remap2 ≡ true
-
 allowed-2 c = sym c.before.remap-allowed2.ensures ∙ c.if3.false
 
 -- and where it refused
-
 refused-2 : (c : tie.Then3) → remap_allowed c.before.before.before.before.before.before.before.before.before.before.args.remap2 ≡ false
-
 refused-2 c = sym c.before.remap-allowed2.ensures ∙ c.if3.true
 
 pub returns-then-k-ne0 : goal.returns-then-k-ne0

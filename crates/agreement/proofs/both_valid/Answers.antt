@@ -7,19 +7,15 @@ use Rattle.state.specs.State.{valid, tables_long, given}
 use Rattle.agreement.proofs.both_valid.Goals as goal
 
 -- tables that are long enough leave the rules to decide
-
 rules_decide : {r : Bool} (long sound : Bool) → r ≡ (long && sound) → long ≡ true → r ≡ sound
-
 rules_decide long sound e h = e ∙ ap (λ (b : Bool). b && sound) h
 
 longs : (c : tie.Start) → let a = c.args in (tables_long a.s a.rows.now a.counts.now ≡ true) × (tables_long a.s2 a.rows2.now a.counts2.now ≡ true)
-
 longs c =
     let a = c.args in
     and_both (tables_long a.s a.rows.now a.counts.now) (tables_long a.s2 a.rows2.now a.counts2.now) c.requires
 
 first-sound : (c : tie.After-valid-memory) → let a = c.before.before.before.before.before.args in c.valid-memory.result ≡ valid a.s (given a.rows.now a.counts.now a.p)
-
 first-sound c =
     let a = c.before.before.before.before.before.args in
     rules_decide (tables_long a.s a.rows.now a.counts.now) _ c.valid-memory.ensures (longs c.before.before.before.before.before).0

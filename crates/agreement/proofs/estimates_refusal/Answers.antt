@@ -9,7 +9,6 @@ use Rattle.agreement.proofs.Calls.Tests.{estimates_tested, tables_passed}
 use Rattle.agreement.proofs.estimates_refusal.Goals as goal
 
 tables : (c : tie.Else1) → let a = c.before.before.before.before.before.before.args in first_failed (both_tables_tests a.s a.rows.now a.counts.now a.s2 a.rows2.now a.counts2.now) ≡ 0
-
 tables c = sym c.before.tables-refusal.ensures ∙ c.if1.false
 
 pub returns-then-k-ne0 : goal.returns-then-k-ne0

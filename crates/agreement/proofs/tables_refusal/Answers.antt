@@ -11,17 +11,13 @@ use Rattle.agreement.proofs.Calls.Tests.{both_tables_tested}
 use Rattle.agreement.proofs.tables_refusal.Goals as goal
 
 -- what each test says where it passed
-
 settled : (c : tie.Else1) → first_failed (settings_tests c.before.before.before.before.before.before.args.s) ≡ 0
-
 settled c = sym c.before.settings-refusal.ensures ∙ c.if1.false
 
 settled-2 : (c : tie.Else2) → first_failed (settings_tests c.before.before.before.before.before.before.before.before.args.s2) ≡ 0
-
 settled-2 c = sym c.before.settings-refusal2.ensures ∙ c.if2.false
 
 long : (c : tie.Else3) → let a = c.before.before.before.before.before.before.before.before.before.before.args in tables_long a.s a.rows.now a.counts.now ≡ true
-
 long c = sym c.before.tables-long.ensures ∙ c.if3.false
 
 pub returns-then-k-ne0 : goal.returns-then-k-ne0

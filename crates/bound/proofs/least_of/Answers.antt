@@ -15,16 +15,12 @@ use Rattle.bound.proofs.Least.{first_from_same}
 use Rattle.bound.proofs.least_of.Goals as goal
 
 -- twice a total with T' is below the threshold exactly if the total is below the room
-
 halved : (t d threshold : ℕ) → ltb t ((threshold + 1) / 2 - d) ≡ ltb (2 * (t + d)) threshold
-
 halved t d threshold = tests_same t ((threshold + 1) / 2 - d) (2 * (t + d)) threshold (λ h. omega arith) (λ h. omega arith)
 
 same : (s : Settings) (threshold c : ℕ) →
     ends_below s.volume (s.blast_diameter * disturbers s) (s.window - 1) ((threshold + 1) / 2 - disturbers s) c ≡ meets s threshold c
-
 unfolding ends_below meets bound_of bound_at with_counters disturbers
-
 same s threshold c = halved (total (size s.volume c) (s.blast_diameter * disturbers s) (s.window - 1) 0) (disturbers s) threshold
 
 pub overflow_sub-s : goal.overflow_sub-s

@@ -11,29 +11,21 @@ use Rattle.bound.specs.Answers.{outcome, signed, Small}
 use Rattle.bound.proofs.signed_number.Goals as goal
 
 negative : (k : ℕ) → k < 2 ^ 63 → pos 0 -ℤ to_z w64 k ≡ neg_ℤ (pos k)
-
 negative k h = rw (to_z_pos w64 k h) (+ℤ_idl (neg_ℤ (pos k)))
 
 negative_fits : (k : ℕ) → k < 2 ^ 63 → SFits w64 (neg_ℤ (pos k))
-
 negative_fits zero h = record { sfits = omega arith }
-
 negative_fits (suc k) h = record { sfits = omega arith }
 
 difference_fits : (k : ℕ) → k < 2 ^ 63 → SFits w64 (pos 0 -ℤ to_z w64 k)
-
 difference_fits k h = rw (negative k h) (negative_fits k h)
 
 value-small : (c : tie.After-known-told) → c.before.answer.given.0.0 < 2 ^ 63
-
 unfolding outcome Small
-
 value-small c = rw c.before.answer.given.1 at c.before.before.before.requires
 
 refusal-small : (c : tie.After-known-told2) → c.before.answer2.given.0.0 < 2 ^ 63
-
 unfolding outcome Small
-
 refusal-small c = rw c.before.answer2.given.1 at c.before.before.before.requires
 
 pub overflow_cast-result : goal.overflow_cast-result

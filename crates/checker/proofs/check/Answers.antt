@@ -8,7 +8,6 @@ use Rattle.steps.proofs.Memory.Zeros.{zeros_marked}
 use Rattle.checker.proofs.check.Goals as goal
 
 zeros_alike : {t : List ℕ} {n m : ℕ} → t ≡ replicate n 0 → n ≡ m → t ≡ replicate m 0
-
 zeros_alike e same = e ∙ ap (λ (n : ℕ). replicate n 0) same
 
 pub check_in-verdict-requires : goal.check_in-verdict-requires

@@ -19,9 +19,7 @@ use Rattle.checker.proofs.check_in.Invariants.{Stands}
 use Rattle.checker.proofs.check_in.Goals as goal
 
 left_less : {trace given : List ℕ} {m : Memory} {k k' : Checking} → Reaches trace given m k' → Onward trace k k' → k.more ≡ true → left trace k' < left trace k
-
 unfolding left
-
 left_less {trace} {k = k} {k' = k'} r o on =
     rw on (split k'.more (λ more. rw more (omega (arith, o.more more, r.taken))) (λ done. rw done (omega arith)))
 

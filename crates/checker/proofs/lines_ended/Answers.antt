@@ -14,7 +14,6 @@ use Rattle.checker.proofs.lines_ended.Invariants.{Counted}
 use Rattle.checker.proofs.lines_ended.Goals as goal
 
 counted_next : {text : List ℕ} {lines ended i : ℕ} → Counted text lines ended i → i < length text → Counted text lines (ended + bool_byte (eqb (get_or text i 0) 10)) (i + 1)
-
 counted_next {text} {lines} {ended} {i} k h =
     let one = bool_byte (eqb (get_or text i 0) 10) in
     let sum : lines + (ended + one) ≡ lines + ended + one = omega arith in
@@ -25,9 +24,7 @@ counted_next {text} {lines} {ended} {i} k h =
     }
 
 counted_all : {text : List ℕ} {lines ended i : ℕ} → Counted text lines ended i → length text ≤ i → record { all = true; lines = lines + ended } ≡ compared lines text text
-
 unfolding compared
-
 counted_all {text} {i = i} k h = rw (drop_of_length-le text {i = i} h) at k.same
 
 pub loop-i-init : goal.loop-i-init

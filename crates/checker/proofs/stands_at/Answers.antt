@@ -15,7 +15,6 @@ use Rattle.checker.proofs.stands_at.Invariants.{SoFar}
 use Rattle.checker.proofs.stands_at.Goals as goal
 
 so_far_next : {required given : List ℕ} {from : ℕ} {alike alike' : Bool} {i : ℕ} → SoFar required given from alike i → i < length required → from + i < length given → (alike' ≡ true → (alike ≡ true) × (eqb (get_or required i 0) (get_or given (from + i) 0) ≡ true)) → SoFar required given from alike' (i + 1)
-
 so_far_next {required} {given} {from} {alike} {alike'} {i} s h inside tells =
     record {
       within = omega arith;
@@ -25,7 +24,6 @@ so_far_next {required} {given} {from} {alike} {alike'} {i} s h inside tells =
     }
 
 so_far_all : {required given : List ℕ} {from : ℕ} {alike : Bool} {i : ℕ} → SoFar required given from alike i → length required ≤ i → alike ≡ true → length required ≤ 1000000000 → length required ≤ length (drop from given) → StandsAt required (drop from given)
-
 so_far_all {required} {given} {from} {i = i} s h on few enough =
     let whole : i ≡ length required = omega (arith, s.within) in
     record {

@@ -12,7 +12,6 @@ use Rattle.columns.proofs.print_number.Goals as goal
 
 again : {out₀ out : List ℕ} {at i₀ left₀ i left left' : ℕ} → Left out₀ at i₀ left₀ out i left → at < i → left' ≡ left / 10
     → Left out₀ at i₀ left₀ (set out (i - 1) (digit_or_blank left)) (i - 1) left'
-
 again {out₀} {out} {at} {i₀} {left₀} {i} {left} {left'} l h e =
     record {
       same = rw e (with_columns_before_set out at i left h (omega arith) ∙ l.same);
@@ -22,7 +21,6 @@ again {out₀} {out} {at} {i₀} {left₀} {i} {left} {left'} l h e =
     }
 
 done : {out₀ out : List ℕ} {at i₀ left₀ i left : ℕ} → Left out₀ at i₀ left₀ out i left → i ≡ at → out ≡ with_columns_before out₀ at i₀ left₀
-
 done {out₀} {out} {at} {i₀} {left₀} {i} {left} l h = sym (with_columns_before_none out at left) ∙ rw h at l.same
 
 pub returns-then-columns-eq0 : goal.returns-then-columns-eq0

@@ -12,17 +12,14 @@ use Rattle.columns.proofs.print_numbers.Goals as goal
 
 again : {out₀ numbers out out' : List ℕ} {at count place place' i : ℕ} → Done out₀ at numbers count out place i → i < count → count ≤ length numbers
     → Prints out place (printed 6 (get_or numbers i 0)) out' place' → Done out₀ at numbers count out' place' (i + 1)
-
 again {out₀} {numbers} {out} {out'} {at} {count} {place} {place'} {i} d h fits one =
     record { prints = rw (number_columns_more numbers i (omega arith)) (prints_then d.prints one); most = omega arith }
 
 behind : {out₀ numbers out : List ℕ} {at count place i : ℕ} → Done out₀ at numbers count out place i → count ≤ length numbers → place ≡ at + 6 * i
-
 behind {out₀} {numbers} {out} {at} {count} {place} {i} d h =
     omega (arith, d.prints.behind, length_number_columns_take numbers i (omega arith))
 
 done : {out₀ numbers out : List ℕ} {at count place i : ℕ} → Done out₀ at numbers count out place i → i ≡ count → Prints out₀ at (number_columns (take count numbers)) out place
-
 done {out₀} {numbers} {out} {at} {count} {place} {i} d h = rw h at d.prints
 
 pub loop-i-init : goal.loop-i-init

@@ -13,12 +13,10 @@ use Rattle.columns.proofs.read_digits.Invariants.{Left}
 use Rattle.columns.proofs.read_digits.Goals as goal
 
 small : {text : List ℕ} {from end n i : ℕ} → Left text from end n i → n < 1000000
-
 small {text} {from} {end} {n} {i} l = room_lt n (end - i) l.room
 
 again : {text : List ℕ} {from end n i : ℕ} → Left text from end n i → i < end → end ≤ length text → 48 ≤ get_or text i 0 → get_or text i 0 ≤ 57
     → Left text from end (n * 10 + (get_or text i 0 - 48)) (i + 1)
-
 again {text} {from} {end} {n} {i} l h fits low high =
     let one_more : end - i ≡ suc (end - (i + 1)) = omega arith in
     record {
@@ -28,7 +26,6 @@ again {text} {from} {end} {n} {i} l h fits low high =
     }
 
 done : {text : List ℕ} {from end n i : ℕ} → Left text from end n i → i ≡ end → number_found n ≡ digits 0 (slice from end text)
-
 done {text} {from} {end} {n} {i} l h =
     let lt = small l in
     number_found_some n (λ e. absurd (omega (arith, lt))) ∙ sym (digits_empty n end text) ∙ rw h at l.same

@@ -14,7 +14,6 @@ use Rattle.columns.proofs.Numbers.Digits.{is_digit_below, is_digit_above, is_dig
 use Rattle.columns.proofs.read_number.Goals as goal
 
 -- a field whose first column is blank
-
 module _ (text : List ℕ) (from : ℕ) (fits : from + 6 ≤ length text) (blank : get_or text from 0 ≡ 32) where
   five : field from text ≡ number (slice (from + 1) (from + 6) text)
   unfolding field
@@ -26,7 +25,6 @@ module _ (text : List ℕ) (from : ℕ) (fits : from + 6 ≤ length text) (blank
       sym (five ∙ number_not_blank text (from + 1) (from + 6) lt fits h ∙ digits_other text (from + 1) (from + 6) lt fits 0 e)
 
 -- and whose last four are digits
-
 module _ (text : List ℕ) (from low : ℕ) (fits : from + 6 ≤ length text) (last : digits 0 (slice (from + 2) (from + 6) text) ≡ some low) where
   width : length (slice (from + 2) (from + 6) text) ≡ 4
   width = let all = length-slice (from + 2) (from + 6) text fits in omega (arith, all)

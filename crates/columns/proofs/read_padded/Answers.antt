@@ -12,7 +12,6 @@ use Rattle.columns.proofs.read_padded.Invariants.{Left}
 use Rattle.columns.proofs.read_padded.Goals as goal
 
 done : {text : List ℕ} {from i : ℕ} → Left text from i → i ≡ from + 6 → none ≡ field from text
-
 done {text} {from} {i} l h = sym (number_empty (from + 6) text) ∙ rw h at l.same
 
 pub loop-i-init : goal.loop-i-init

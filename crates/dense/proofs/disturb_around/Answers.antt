@@ -13,13 +13,10 @@ use Rattle.dense.proofs.InnerContracts.Turned.{Disturbing, disturbing_start, dis
 use Rattle.dense.proofs.disturb_around.Goals as goal
 
 -- what is left while rows below the middle one are, and when none is
-
 next_below : (row middle high : ℕ) → row < middle → rows_between row middle ++ rows_between (middle + 1) high ≡ row ∷ (rows_between (row + 1) middle ++ rows_between (middle + 1) high)
-
 next_below row middle high h = ap (λ rows. rows ++ rows_between (middle + 1) high) (between_step row middle h)
 
 none_below : (row middle high : ℕ) → middle ≤ row → rows_between row middle ++ rows_between (middle + 1) high ≡ rows_between (middle + 1) high
-
 none_below row middle high h = ap (λ rows. rows ++ rows_between (middle + 1) high) (between_none row middle h)
 
 pub loop-row-init : goal.loop-row-init

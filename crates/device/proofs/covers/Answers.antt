@@ -6,7 +6,6 @@ use borrow.Author.Rules.{rules}
 use Rattle.device.proofs.covers.Goals as goal
 
 product : (a b : ℕ) → a < 4294967296 → b < 4294967296 → a * b < 18446744073709551616
-
 product a b ha hb =
     let ha' : a ≤ 4294967295 = omega arith in
     let hb' : b ≤ 4294967295 = omega arith in

@@ -12,9 +12,7 @@ use Rattle.listing.proofs.Chunks.LastLine.{last_line_none, last_line_short, last
 use Rattle.listing.proofs.list_end.Goals as goal
 
 -- a refused line's number counts modulo 10,000,000,000
-
 renumbered : {before after line : List ℕ} {at end : ℕ} (m n k : ℕ) → Prints before at line after end → line ≡ refusal_line n k → n % 10000000000 ≡ m % 10000000000 → Prints before at (refusal_line m k) after end
-
 renumbered m n k printed is same = rw (← refusal_alike n m same k, ← is) printed
 
 pub returns-then-text-eq0 : goal.returns-then-text-eq0

@@ -13,29 +13,23 @@ use Rattle.listing.proofs.Chunks.PartLoop.{come, Turning, turning_start, turning
 use Rattle.listing.proofs.list_part.Goals as goal
 
 -- behind the run of activations, where no line is left
-
 ran : (c : tie.Then2 invariant-loop decreases-loop) → Turning c.before.before.before.before.before.before.before.before.before.before.before.before.before.before.before.before.before.before.before.before.args.text.now (come c.before.before.before.before.before.before.before.before.before.before.before.before.before.before.before.before.before.before.before.before.args.p c.before.before.before.before.before.before.before.before.before.before.before.before.before.before.before.before.before.before.before.before.args.counts.now c.before.before.before.before.before.before.before.before.before.before.before.before.before.before.before.before.before.before.before.before.args.out.now 0 0) (come c.before.before.before.before.before.before.before.before.run-activations.result.place c.before.before.before.before.before.before.before.before.run-activations.new.1.0 c.before.before.before.before.before.before.before.before.before.before.before.before.before.before.loop.out c.before.before.before.before.before.before.before.before.run-activations.result.taken c.before.before.before.before.before.before.before.before.before.before.before.before.before.before.loop.end)
-
 ran c =
     let l = c.before.before.before.before.before.before.before.before.before.before.before.before.before.before.loop in
     turning_run l.invariant.0 c.before.before.before.before.before.before.before.before.run-activations.ensures.0 (omega (arith, l.invariant.0.fits, leb-true _ (length l.out - l.end) c.before.before.before.before.before.before.before.before.before.before.before.before.if1.true))
 
 room : (c : tie.Else2 invariant-loop decreases-loop) → c.before.before.before.before.before.before.before.before.before.before.before.before.before.before.loop.end + 200 ≤ length c.before.before.before.before.before.before.before.before.before.before.before.before.before.before.loop.out
-
 room c =
     let l = c.before.before.before.before.before.before.before.before.before.before.before.before.before.before.loop in
     omega (arith, l.invariant.0.fits, leb-true _ (length l.out - l.end) c.before.before.before.before.before.before.before.before.before.before.before.before.if1.true)
 
 -- and where one is
-
 ran_on : (c : tie.Else2 invariant-loop decreases-loop) → Turning c.before.before.before.before.before.before.before.before.before.before.before.before.before.before.before.before.before.before.before.before.args.text.now (come c.before.before.before.before.before.before.before.before.before.before.before.before.before.before.before.before.before.before.before.before.args.p c.before.before.before.before.before.before.before.before.before.before.before.before.before.before.before.before.before.before.before.before.args.counts.now c.before.before.before.before.before.before.before.before.before.before.before.before.before.before.before.before.before.before.before.before.args.out.now 0 0) (come c.before.before.before.before.before.before.before.before.run-activations.result.place c.before.before.before.before.before.before.before.before.run-activations.new.1.0 c.before.before.before.before.before.before.before.before.before.before.before.before.before.before.loop.out c.before.before.before.before.before.before.before.before.run-activations.result.taken c.before.before.before.before.before.before.before.before.before.before.before.before.before.before.loop.end)
-
 ran_on c =
     let l = c.before.before.before.before.before.before.before.before.before.before.before.before.before.before.loop in
     turning_run l.invariant.0 c.before.before.before.before.before.before.before.before.run-activations.ensures.0 (room c)
 
 left_over : (c : tie.Else2 invariant-loop decreases-loop) → c.before.before.before.before.before.before.before.before.run-activations.result.taken < length c.before.before.before.before.before.before.before.before.before.before.before.before.before.before.before.before.before.before.before.before.args.text.now
-
 left_over c = omega (arith, c.before.before.before.before.before.before.before.before.run-activations.ensures.0.within, c.if2.false)
 
 pub loop-at-init : goal.loop-at-init

@@ -11,11 +11,9 @@ use Rattle.limit.proofs.ByRow.{own_early}
 use Rattle.rowlimit.proofs.carried.Goals as goal
 
 product_lt : {t k : ℕ} → t ≤ 4176 → k ≤ 8192 → t * k < 2 ^ 64
-
 product_lt ht hk = omega (arith, mul-le-mul ht hk)
 
 -- less can have gathered than H
-
 pub overflow_sub-later : goal.overflow_sub-later
 overflow_sub-later c = let c = c in omega (arith, (accepted_settings c.args.s c.requires.s_value).others.window.least)
 

@@ -10,7 +10,6 @@ use Rattle.limit.proofs.ByRow.{carried_most_le}
 use Rattle.rowlimit.proofs.figure.Goals as goal
 
 -- H(e + 1) is at most H(n)
-
 pub overflow_add-events : goal.overflow_add-events
 overflow_add-events c = omega (arith, (accepted_settings c.args.s c.requires.s_value).others.window.most, c.requires.events_lt_window.0)
 

@@ -9,7 +9,6 @@ use Rattle.state.proofs.count_in_range.Lts as lts
 use Rattle.state.proofs.count_in_range.Goals as goal
 
 joined : (c : lts.Joined1 reads.Pre reads.Post) → c.if1.if2 ≡ (leb 1 c.before.args.count && leb c.before.args.spillover c.before.args.count)
-
 joined c =
     ⊎_elim
     (λ w. w.1 ∙ simp (le-leb 1 c.before.args.count w.0.taken))

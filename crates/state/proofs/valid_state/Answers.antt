@@ -14,11 +14,8 @@ use Rattle.state.proofs.PositionAllowed.{position_facts}
 use Rattle.state.proofs.valid_state.Goals as goal
 
 -- the rules, position first, then each table's
-
 grouped : (s : Settings) (rows counts : List ℕ) (p : Position) → valid s (record { rows = rows; counts = counts; position = p }) ≡ (position_allowed s p && (ascending 0 s.rows (take p.tracked rows) && zeros (drop p.tracked rows)) && (zeros (drop p.tracked counts) && counts_allowed p.spillover (take p.tracked counts)))
-
 unfolding valid
-
 grouped s rows counts p =
     regroup (position_allowed s p)
     (ascending 0 s.rows (take p.tracked rows))

@@ -13,14 +13,12 @@ use Rattle.tables.proofs.Searches.{equal_place_found, equal_place_missing}
 use Rattle.summary.proofs.lookup.Goals as goal
 
 found : (xs : List ℕ) (k row p : ℕ) → k ≤ length xs → p ≡ lower_place row (take k xs) → p < k → get_or xs p 0 ≡ row → p ≡ equal_place row (take k xs)
-
 found xs k row p fits e less at =
     let all = length-take-le k xs fits in
     let here : get_or (take k xs) (lower_place row (take k xs)) 0 ≡ row = rw (← e) (get_or-take k xs p 0 less ∙ at) in
     e ∙ sym (equal_place_found row (take k xs) (omega (arith, e, all)) here)
 
 missed : (xs : List ℕ) (k row p : ℕ) → k ≤ length xs → Rising (take k xs) → p ≡ lower_place row (take k xs) → (p < k → get_or xs p 0 ≡ row → ⊥) → k ≡ equal_place row (take k xs)
-
 missed xs k row p fits rising e no_match =
     let all = length-take-le k xs fits in
     sym

@@ -10,7 +10,6 @@ use Rattle.tables.proofs.clear.Invariants.{Cleared}
 use Rattle.tables.proofs.clear.Goals as goal
 
 again : {t₀ t : List ℕ} {i : ℕ} → Cleared t₀ t i → i < length t₀ → Cleared t₀ (set t i 0) (i + 1)
-
 again {t₀} {t} {i} l h =
     record {
       same = rw l.same (fill_more i 0 t₀ h);
@@ -19,7 +18,6 @@ again {t₀} {t} {i} l h =
     }
 
 done : {t₀ t : List ℕ} {i : ℕ} → Cleared t₀ t i → i ≡ length t₀ → t ≡ replicate (length t₀) 0
-
 done {t₀} {t} {i} l h = rw (l.same, h, drop-length t₀, append-nil) refl
 
 pub loop-i-init : goal.loop-i-init

@@ -11,23 +11,19 @@ use Rattle.tables.proofs.first_equal.Invariants.{Left}
 use Rattle.tables.proofs.first_equal.Goals as goal
 
 found : {t : List ℕ} {used x i : ℕ} → Left t used x i → used ≤ length t → i < used → get_or t i 0 ≡ x → i ≡ equal_place x (take used t)
-
 found {t} {used} {x} {i} l fits h e =
     let all = length-take-le used t fits in
     let here : get_or (take used t) i 0 ≡ x = rw (get_or-take used t i 0 h) e in
     omega (arith, l.same, equal_place_here x (take used t) i (omega arith) here)
 
 again : {t : List ℕ} {used x i : ℕ} → Left t used x i → used ≤ length t → i < used → (get_or t i 0 ≡ x → ⊥) → Left t used x (i + 1)
-
 again {t} {used} {x} {i} l fits h e =
     let all = length-take-le used t fits in
     let first_from_next : get_or (take used t) i 0 ≡ x → ⊥ = rw (get_or-take used t i 0 h) e in
     record { same = omega (arith, l.same, equal_place_next x (take used t) i (omega arith) first_from_next); most = omega arith }
 
 done : {t : List ℕ} {used x i : ℕ} → Left t used x i → used ≤ length t → used ≤ i → i ≡ equal_place x (take used t)
-
 unfolding equal_place
-
 done {t} {used} {x} {i} l fits h =
     let all = length-take-le used t fits in
     let gone : drop i (take used t) ≡ [] = drop_of_length-le (take used t) {i = i} (omega arith) in

@@ -13,7 +13,6 @@ use Rattle.tables.proofs.first_highest.Invariants.{Left}
 use Rattle.tables.proofs.first_highest.Goals as goal
 
 start : (t : List ℕ) (used : ℕ) → 0 < used → used ≤ length t → Left t used 0 (get_or t 0 0) 1
-
 start t used h fits =
     let all = length-take-le used t fits in
     record {
@@ -22,23 +21,19 @@ start t used h fits =
     }
 
 higher : {t : List ℕ} {used place best i : ℕ} → Left t used place best i → used ≤ length t → i < used → best < get_or t i 0 → Left t used i (get_or t i 0) (i + 1)
-
 higher {t} {used} {place} {best} {i} l fits h e =
     let all = length-take-le used t fits in
     let on = highest_from_next (take used t) place best i (omega arith) in
     record { same = sym (rw (get_or-take used t i 0 h, lt-ltb best (get_or t i 0) e) at on) ∙ l.same; most = omega arith }
 
 not_higher : {t : List ℕ} {used place best i : ℕ} → Left t used place best i → used ≤ length t → i < used → get_or t i 0 ≤ best → Left t used place best (i + 1)
-
 not_higher {t} {used} {place} {best} {i} l fits h e =
     let all = length-take-le used t fits in
     let on = highest_from_next (take used t) place best i (omega arith) in
     record { same = sym (rw (get_or-take used t i 0 h, le-ltb best (get_or t i 0) e) at on) ∙ l.same; most = omega arith }
 
 done : {t : List ℕ} {used place best i : ℕ} → Left t used place best i → used ≤ length t → used ≤ i → place ≡ highest_place (take used t)
-
 unfolding highest_from
-
 done {t} {used} {place} {best} {i} l fits h =
     let all = length-take-le used t fits in
     let gone : drop i (take used t) ≡ [] = drop_of_length-le (take used t) {i = i} (omega arith) in

@@ -10,7 +10,6 @@ use Rattle.tables.proofs.insert_at.Invariants.{Left}
 use Rattle.tables.proofs.insert_at.Goals as goal
 
 again : {t₀ t : List ℕ} {used at x i : ℕ} → Left t₀ used at x t i → at < i → Left t₀ used at x (set t i (get_or t (i - 1) 0)) (i - 1)
-
 again {t₀} {t} {used} {at} {x} {i} l h =
     record {
       same = put_in_again t i at x h (omega arith) ∙ l.same;
@@ -20,7 +19,6 @@ again {t₀} {t} {used} {at} {x} {i} l h =
     }
 
 done : {t₀ t : List ℕ} {used at x i : ℕ} → Left t₀ used at x t i → i ≡ at → set t at x ≡ put_in t₀ used at x
-
 done {t₀} {t} {used} {at} {x} {i} l h = put_in_last t at x (omega arith) ∙ rw h at l.same
 
 pub loop-i-init : goal.loop-i-init

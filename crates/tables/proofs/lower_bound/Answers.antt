@@ -13,9 +13,7 @@ use Rattle.tables.proofs.lower_bound.Invariants.{Between}
 use Rattle.tables.proofs.lower_bound.Goals as goal
 
 -- in ascending numbers the place is behind a number below x
-
 behind : (xs : List ℕ) (x m : ℕ) → Rising xs → m < length xs → get_or xs m 0 < x → m < lower_place x xs
-
 behind xs x m r h e =
     let p = lower_place x xs in
     ⊎_elim
@@ -29,14 +27,11 @@ behind xs x m r h e =
     (le_or_lt p m)
 
 -- and not behind a number that is not
-
 not_behind : (xs : List ℕ) (x m : ℕ) → x ≤ get_or xs m 0 → lower_place x xs ≤ m
-
 not_behind xs x m e =
     ⊎_elim (λ l. l) (λ (l : m < lower_place x xs). absurd (omega (arith, lower_before x xs m l))) (le_or_lt (lower_place x xs) m)
 
 up : {t : List ℕ} {used x low high : ℕ} (m : ℕ) → Between t used x low high → used ≤ length t → Rising (take used t) → m < high → get_or t m 0 < x → Between t used x (m + 1) high
-
 up {t} {used} {x} {low} {high} m l fits r h e =
     let all = length-take-le used t fits in
     let here : get_or (take used t) m 0 < x = rw (get_or-take used t m 0 (omega arith)) e in
@@ -47,7 +42,6 @@ up {t} {used} {x} {low} {high} m l fits r h e =
     }
 
 down : {t : List ℕ} {used x low high : ℕ} (m : ℕ) → Between t used x low high → m < high → x ≤ get_or t m 0 → Between t used x low m
-
 down {t} {used} {x} {low} {high} m l h e =
     let here : x ≤ get_or (take used t) m 0 = rw (get_or-take used t m 0 (omega arith)) e in
     record {

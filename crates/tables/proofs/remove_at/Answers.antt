@@ -10,7 +10,6 @@ use Rattle.tables.proofs.remove_at.Invariants.{Left}
 use Rattle.tables.proofs.remove_at.Goals as goal
 
 again : {t₀ t : List ℕ} {used at i : ℕ} → Left t₀ used at t i → used ≤ length t₀ → i + 1 < used → Left t₀ used at (set t i (get_or t (i + 1) 0)) (i + 1)
-
 again {t₀} {t} {used} {at} {i} l fits h =
     record {
       same = taken_at_again t used i h (omega arith) ∙ l.same;
@@ -19,7 +18,6 @@ again {t₀} {t} {used} {at} {i} l fits h =
     }
 
 done : {t₀ t : List ℕ} {used at i : ℕ} → Left t₀ used at t i → used ≤ length t₀ → used ≤ i + 1 → set t i 0 ≡ taken_at t₀ used at
-
 done {t₀} {t} {used} {at} {i} l fits h = taken_at_last t used i (omega arith) (omega arith) ∙ l.same
 
 pub loop-i-init : goal.loop-i-init

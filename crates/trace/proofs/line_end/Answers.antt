@@ -10,9 +10,7 @@ use Rattle.trace.proofs.line_end.Invariants.{Left}
 use Rattle.trace.proofs.line_end.Goals as goal
 
 done : {text : List ℕ} {place i : ℕ} → Left text place i → length text ≤ i → i ≡ place + extent (drop place text)
-
 unfolding extent
-
 done {text} {place} {i} l h =
     let gone : drop i text ≡ [] = drop_of_length-le text {i = i} h in
     omega (arith, rw gone at l.same)

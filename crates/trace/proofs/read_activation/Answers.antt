@@ -17,21 +17,15 @@ use Rattle.trace.proofs.Records.{activation_form, activation_take}
 use Rattle.trace.proofs.read_activation.Goals as goal
 
 -- the line ends behind 6 columns
-
 inside : (c : tie.Else1) → 6 < length (drop c.before.before.before.args.at c.before.before.before.args.text.now)
-
 inside c = ends_after_lt 6 _ (sym c.before.ends-after.ensures ∙ c.if1.false)
 
 activation_other : (text : List ℕ) → 6 < length text → field 0 text ≡ none → activation (take 6 text) ≡ none
-
 unfolding bind
-
 activation_other text h e = activation_take text (omega arith) ∙ rw e
 
 activation_number : (text : List ℕ) (n : ℕ) → 6 < length text → field 0 text ≡ some n → activation (take 6 text) ≡ some (Activate n 1)
-
 unfolding bind
-
 activation_number text n h e = activation_take text (omega arith) ∙ rw e
 
 pub returns-then-not-ends_after : goal.returns-then-not-ends_after

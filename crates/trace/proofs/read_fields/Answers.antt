@@ -18,9 +18,7 @@ use Rattle.trace.proofs.read_fields.Invariants.{Filled}
 use Rattle.trace.proofs.read_fields.Goals as goal
 
 -- i of the numbers are read into the front of the array
-
 filled_zero : (text : List ℕ) (at count : ℕ) (values : List ℕ) → length values ≡ 16 → Filled text at count values 0
-
 filled_zero text at count values h =
     let all : count - 0 ≡ count = omega arith in
     record { same = rw (add-zero, all) (behind_none_read (fields count (drop at text))); long = h; most = omega arith }

@@ -20,9 +20,7 @@ use Rattle.tracker.proofs.Calls.Outcomes.{activation_leaves}
 use Rattle.tracker.proofs.activate_accepted.Goals as goal
 
 -- the state that an activation leaves, by a row that is the physical one
-
 made_by : (s : Settings) (e a : ℕ) (sum : Summary) (at : ℕ) (remap : List ℕ) (row hold : ℕ) {rows counts : List ℕ} {k spill : ℕ} → at ≡ physical remap row → Holds s.counters 4294967296 (repeated hold (activation s.counters (victims_in s) at) sum) rows counts k spill → given rows counts (record { events = e; activations = a; tracked = k; spillover = spill }) ≡ state_of s e a (repeated hold (activation s.counters (victims_in s) (physical remap row)) sum)
-
 made_by s e a sum at remap row hold same h = state_of_holds s e a h ∙ ap (λ x. state_of s e a (repeated hold (activation s.counters (victims_in s) x) sum)) same
 
 pub physical_row-physical-requires : goal.physical_row-physical-requires

@@ -19,27 +19,20 @@ use Rattle.tracker.proofs.Calls.Ready.{open_tables}
 use Rattle.tracker.proofs.activation_refusal.Goals as goal
 
 -- what each test says where it passed
-
 tables : (c : tie.Else1) → let a = c.before.before.before.before.args in first_failed (tables_tests a.s a.rows.now a.counts.now) ≡ 0
-
 tables c = sym c.before.tables-refusal.ensures ∙ c.if1.false
 
 inside : (c : tie.Else2) → let a = c.before.before.before.before.before.before.args in ltb a.row a.s.rows ≡ true
-
 inside c = lt-ltb _ _ c.if2.false
 
 held : (c : tie.Else3) → hold_allowed c.before.before.before.before.before.before.before.before.args.hold ≡ true
-
 held c = sym c.before.hold-allowed.ensures ∙ c.if3.false
 
 allowed : (c : tie.Else4) → remap_allowed c.before.before.before.before.before.before.before.before.before.before.args.remap ≡ true
-
 allowed c = sym c.before.remap-allowed.ensures ∙ c.if4.false
 
 sound : (c : tie.Else5) → let a = c.before.before.before.before.before.before.before.before.before.before.before.before.args in valid a.s (given a.rows.now a.counts.now a.p) ≡ true
-
 unfolding given
-
 sound c = sym c.before.valid-state.ensures ∙ c.if5.false
 
 pub returns-then-k-ne0 : goal.returns-then-k-ne0

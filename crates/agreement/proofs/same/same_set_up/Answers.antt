@@ -8,13 +8,10 @@ use Rattle.agreement.specs.Calls.{same_settings}
 use Rattle.agreement.proofs.same.same_set_up.Goals as goal
 
 -- what the test of the settings says, where it passed and where not
-
 alike : (c : tie.Then1) → let a = c.before.before.args in same_settings a.s a.s2 ≡ true
-
 alike c = sym c.before.same_settings.ensures ∙ c.if1.true
 
 other : (c : tie.Else1) → let a = c.before.before.args in same_settings a.s a.s2 ≡ false
-
 other c = sym c.before.same_settings.ensures ∙ c.if1.false
 
 pub returns-then-same_settings : goal.returns-then-same_settings

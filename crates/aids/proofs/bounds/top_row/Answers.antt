@@ -12,7 +12,6 @@ use Rattle.aids.proofs.bounds.top_row.Invariants.{Left}
 use Rattle.aids.proofs.bounds.top_row.Goals as goal
 
 left : {counts bounds bounds' : List ℕ} {row : ℕ} → Tried counts bounds bounds' row → Left counts bounds' row
-
 left t = record { capped = t.capped; range = t.range; found = t.found }
 
 pub loop-row-init : goal.loop-row-init

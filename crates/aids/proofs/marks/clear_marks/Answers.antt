@@ -10,7 +10,6 @@ use Rattle.aids.proofs.marks.clear_marks.Invariants.{Cleared}
 use Rattle.aids.proofs.marks.clear_marks.Goals as goal
 
 again : {marks₀ marks : List ℕ} {w : ℕ} → Cleared marks₀ marks w → w < length marks₀ → Cleared marks₀ (set marks w 0) (w + 1)
-
 again {marks₀} {marks} {w} l h =
     record {
       same = rw l.same (fill_more w 0 marks₀ h);
@@ -19,7 +18,6 @@ again {marks₀} {marks} {w} l h =
     }
 
 done : {marks₀ marks : List ℕ} {w : ℕ} → Cleared marks₀ marks w → w ≡ length marks₀ → marks ≡ replicate (length marks₀) 0
-
 done {marks₀} {marks} {w} l h = rw (l.same, h, drop-length marks₀, append-nil) refl
 
 pub loop-w-init : goal.loop-w-init

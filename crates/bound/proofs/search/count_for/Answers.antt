@@ -11,7 +11,6 @@ use Rattle.bound.specs.Answers.{outcome}
 use Rattle.bound.proofs.search.count_for.Goals as goal
 
 larger : (c : tie.Joined1) → c.if1.count ≡ max c.before.args.volume (c.before.args.sum * c.before.args.at / c.before.args.room)
-
 larger c = ⊎_elim (λ i. omega (arith, i.0.taken, i.1)) (λ i. omega (arith, i.0.left, i.1)) c.if1.branch
 
 pub overflow_mul-first : goal.overflow_mul-first

@@ -10,7 +10,6 @@ use Rattle.bound.proofs.search.least_below.Invariants.{Stands}
 use Rattle.bound.proofs.search.least_below.Goals as goal
 
 -- where the walk stands, with its share
-
 pub overflow_mul-sum : goal.overflow_mul-sum
 overflow_mul-sum c =
     let n : c.args.steps ≤ 16383 = omega arith in

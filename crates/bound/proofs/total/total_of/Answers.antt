@@ -13,16 +13,12 @@ use Rattle.bound.proofs.total.total_of.Invariants.{Left}
 use Rattle.bound.proofs.total.total_of.Goals as goal
 
 -- how far the total gets
-
 below : {v k a n j t at : ℕ} → Left v k a n j t at → 0 < j → a ≤ 16704 → n ≤ 16383 → t + a < 2 ^ 29
-
 below l h ha hn = omega (arith, mul-le-mul hn ha)
 
 again : {v k a n t at : ℕ} (j : ℕ) → Left v k a n j t at → 0 < j →
     Left v k a n (j - 1) ((t + a) * ((j - 1) * v + 1) / at) ((j - 1) * v + 1)
-
 again zero l h = absurd (omega arith)
-
 again {v} {k} {a} {n} {t} (suc i) l h =
     let lower = size_rising v k i (l.low i (omega arith)) in
     rw (sub-one (suc i))
@@ -36,17 +32,12 @@ again {v} {k} {a} {n} {t} (suc i) l h =
     }))
 
 done : {v k a n t at : ℕ} (j : ℕ) → Left v k a n j t at → j ≤ 0 → t ≡ total (size v k) a n 0
-
 unfolding total
-
 done zero l h = l.same
-
 done (suc j) l h = absurd (omega arith)
 
 begins : (v k a n : ℕ) → 0 < v → Left v k a n (rising v k n) ((n - rising v k n) * a) (size v k (rising v k n))
-
 unfolding rising
-
 begins v k a n positive =
     let r : ℕ = rising v k n in
     let few : r ≤ n = omega arith in
@@ -60,15 +51,12 @@ begins v k a n positive =
     }
 
 product : {x d : ℕ} → x < 2 ^ 29 → d ≤ 2049 → x * d < 2 ^ 64
-
 product {x} {d} hx hd =
     let x' : x ≤ 536870912 = omega arith in
     omega (arith, mul-le-mul x' hd)
 
 -- the lower size is small
-
 small_size : {v k a n j t at : ℕ} → Left v k a n j t at → 0 < j → (j - 1) * v ≤ k
-
 small_size {j = j} l h = l.low (j - 1) (omega arith)
 
 pub overflow_mul-t : goal.overflow_mul-t

@@ -20,9 +20,7 @@ use Rattle.listing.proofs.Chunks.Runs.{runs_none, Running, run_free, running_mor
 use Rattle.listing.proofs.run.run_activations.Goals as goal
 
 -- the interval has room for a unit more
-
 has_room : (activations interval : ℕ) → ltb activations interval ≡ true → activations < interval
-
 has_room activations interval on = omega (arith, ltb-true activations interval on)
 
 pub returns-then-not-p : goal.returns-then-not-p
