@@ -34,6 +34,6 @@ pub returns-else-p-tracked : goal.returns-else-p-tracked
 returns-else-p-tracked c =
     missed c.args.rows.now c.args.tracked c.args.row c.lower_bound-p.result c.requires.0 c.requires.1 c.lower_bound-p.ensures
     (elim c.else-p-tracked.branch [
-        else-p-tracked-via-then-p-tracked+else-rows-p w ↦ λ less at. w.if-rows-p.false at
+      | else-p-tracked-via-then-p-tracked+else-rows-p w ↦ λ less at. w.if-rows-p.false at
       | else-p-tracked-via-else-p-tracked w ↦ λ less at. omega arith
     ])

@@ -1,7 +1,7 @@
 -- `tables::first_highest` meets its contract. The invariant: the places from i on, after the best so far, give what all the places give.
 use mathlib.Core.Path.{◌≡◌, sym, ◌∙◌}
 use mathlib.Core.List.{List, []}
-use Prim.Native.Nat.{ℕ, ◌+◌, ◌-◌, ◌≤◌, ◌<◌}
+use Prim.Native.Nat.{ℕ, ◌+◌, ◌≤◌, ◌<◌}
 use native.Mathlib.Omega.{arith}
 use borrow.Author.Tests.{lt-ltb, le-ltb}
 use lib.ListN.{length, get_or, take, drop, drop_of_length-le}
@@ -46,7 +46,7 @@ pub loop-i-preserved : goal.loop-i-preserved
 loop-i-preserved c =
     let l = c.loop-i.invariant in
     elim c.if-best-t.branch [
-        then-best-t w ↦ rw (w.place-is, w.best-is) (higher l (omega arith) (omega arith) (omega arith))
+      | then-best-t w ↦ rw (w.place-is, w.best-is) (higher l (omega arith) (omega arith) (omega arith))
       | else-best-t w ↦ rw (w.place-is, w.best-is) (not_higher l (omega arith) (omega arith) (omega arith))
     ]
 
