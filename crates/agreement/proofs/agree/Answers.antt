@@ -1,12 +1,7 @@
 -- `agreement::agree` meets its contract.
 use mathlib.Core.Path.{◌≡◌, sym, ◌∙◌}
-use mathlib.Core.Bool.{true, ◌&&◌}
-use borrow.Author.Rules.{rules}
-use borrow.Author.Tests.{not-true, not-false}
-use Rattle.laws.specs.Same.{same}
-use Rattle.device.specs.Refusal.{first_failed}
 use Rattle.state.specs.State.{given}
-use Rattle.agreement.specs.Calls.{same_settings, same_position, same_tracked, agreement_tests}
+use Rattle.agreement.specs.Calls.{same_tracked}
 use Rattle.agreement.specs.Answers.{agreement_outcome}
 use Rattle.agreement.proofs.Calls.Tests.{agreement_passed, compared, tracked_rows, tracked_counts}
 use Rattle.agreement.proofs.Calls.Outcomes.{agreement_refused, agreement_set_up_differs, agreement_position_differs, agreement_tracked}

@@ -1,13 +1,8 @@
 -- `agreement::agreement_refusal` meets its contract.
-use mathlib.Core.Path.{◌≡◌, sym, ◌∙◌}
-use mathlib.Core.Bool.{true, false}
-use borrow.Author.Rules.{rules}
-use borrow.Author.Tests.{not-true, not-false}
-use Rattle.device.specs.Refusal.{refuse, first_failed}
-use Rattle.device.specs.Remap.{remap_allowed}
+use mathlib.Core.Path.{sym, ◌∙◌}
+use Rattle.device.specs.Refusal.{refuse}
 use Rattle.device.proofs.Refusal.{or_later_first, or_later_zero}
 use Rattle.state.specs.State.{given}
-use Rattle.agreement.specs.InnerContracts.{both_tables_tests}
 use Rattle.agreement.proofs.Calls.Tests.{agreement_tested, tables_passed}
 use Rattle.agreement.proofs.agreement_refusal.Goals as goal
 

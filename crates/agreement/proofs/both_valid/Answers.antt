@@ -1,9 +1,8 @@
 -- `agreement::both_valid` meets its contract.
 use mathlib.Core.Path.{◌≡◌, sym, ◌∙◌, ap}
 use mathlib.Core.Bool.{Bool, true, ◌&&◌}
-use borrow.Author.Rules.{rules}
 use Rattle.laws.proofs.Cases.{and_both}
-use Rattle.state.specs.State.{valid, tables_long, given}
+use Rattle.state.specs.State.{tables_long}
 use Rattle.agreement.proofs.both_valid.Goals as goal
 
 -- tables that are long enough leave the rules to decide

@@ -1,12 +1,7 @@
 -- `agreement::tables_refusal` meets its contract.
-use mathlib.Core.Path.{◌≡◌, sym, ◌∙◌}
-use mathlib.Core.Bool.{true}
-use borrow.Author.Rules.{rules}
-use borrow.Author.Tests.{not-true, not-false}
-use Rattle.device.specs.Refusal.{refuse, first_failed}
-use Rattle.device.specs.Acceptance.{settings_tests}
+use mathlib.Core.Path.{sym, ◌∙◌}
+use Rattle.device.specs.Refusal.{refuse}
 use Rattle.device.proofs.Refusal.{or_later_first, or_later_zero}
-use Rattle.state.specs.State.{tables_long}
 use Rattle.agreement.proofs.Calls.Tests.{both_tables_tested}
 use Rattle.agreement.proofs.tables_refusal.Goals as goal
 

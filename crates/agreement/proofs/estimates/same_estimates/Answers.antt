@@ -1,9 +1,8 @@
 -- `estimates::same_estimates` meets its contract. The invariant: both walks have passed every row below low, and each of these has the same
 -- estimate in both summaries.
 use mathlib.Core.Path.{◌≡◌, ◌∙◌, sym}
-use Prim.Native.Nat.{◌-◌}
 use native.Mathlib.Omega.{arith}
-use Rattle.agreement.proofs.InnerContracts.TwoWalks.{TwoWalks, walks_begin, lower_in_bank, gap_differs, walks_past_gap, row_differs, walks_past_row}
+use Rattle.agreement.proofs.InnerContracts.TwoWalks.{walks_begin, lower_in_bank, gap_differs, walks_past_gap, row_differs, walks_past_row}
 use Rattle.agreement.proofs.estimates.same_estimates.Goals.{then-low-row+else-t-t2, else-low-row}
 use Rattle.agreement.proofs.estimates.same_estimates.Goals as goal
 

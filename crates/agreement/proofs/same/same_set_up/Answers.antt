@@ -1,10 +1,7 @@
 -- `same::same_set_up` meets its contract.
-use mathlib.Core.Path.{◌≡◌, sym, ◌∙◌}
-use mathlib.Core.Bool.{true, false}
+use mathlib.Core.Path.{sym, ◌∙◌}
 use native.Mathlib.Omega.{arith}
-use borrow.Author.Rules.{rules}
 use lib.Seq.{take_all}
-use Rattle.agreement.specs.Calls.{same_settings}
 use Rattle.agreement.proofs.same.same_set_up.Goals as goal
 
 pub returns-then-same_settings : goal.returns-then-same_settings
