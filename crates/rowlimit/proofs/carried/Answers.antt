@@ -2,7 +2,6 @@
 use Prim.Native.Nat.{ℕ, ◌*◌, ◌^◌, ◌≤◌, ◌<◌}
 use native.Mathlib.Nat.{mul-le-mul}
 use native.Mathlib.Omega.{arith}
-use borrow.Author.Rules.{rules}
 use Rattle.device.proofs.Acceptance.{accepted_settings}
 use Rattle.bound.specs.Totals.{bound_of}
 use Rattle.bound.proofs.Totals.Bound.{disturbers_le}

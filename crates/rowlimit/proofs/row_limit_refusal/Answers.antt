@@ -1,6 +1,5 @@
 -- `rowlimit::row_limit_refusal` meets its contract.
 use mathlib.Core.Path.{sym, ◌∙◌}
-use borrow.Author.Rules.{rules}
 use Rattle.device.proofs.Refusal.{or_later_first, or_later_zero}
 use Rattle.rowlimit.proofs.Tests.{row_limit_tested}
 use Rattle.rowlimit.proofs.row_limit_refusal.Goals as goal
