@@ -10,7 +10,7 @@ use borrow.Author.Tests.{ltb-false, lt-ltb, le-ltb, leb-true, leb-false}
 use Rattle.laws.proofs.Cases.{split, le_or_lt}
 use Rattle.laws.proofs.Division.{below_rounded_up, below_product}
 use Rattle.device.specs.Refusal.{accepted, refused}
-use Rattle.bound.specs.Totals.{size, total}
+use Rattle.bound.specs.Totals.{size}
 use Rattle.bound.specs.Least.{or_else, first_from}
 use Rattle.bound.specs.InnerContracts.{ends_below}
 use Rattle.bound.proofs.Totals.Size.{size_grows}

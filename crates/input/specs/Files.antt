@@ -1,6 +1,8 @@
 -- Files by the numbers that the system gives them.
 use Rattle.std.specs.Prelude.{Bool, true, false, ℤ, pos, negsuc}
+use Rattle.std.specs.declared.io.Stdin.{Stdin}
 use Rattle.input.specs.declared.File.{File}
+use Rattle.input.specs.declared.Source.TheVariants.{Standard, Nothing}
 
 -- a number that stands for an open file: one that is not below 0
 unfoldable pub is_descriptor : ℤ → Bool
@@ -9,8 +11,8 @@ is_descriptor (negsuc k) = false
 
 -- no file: number -1, not open
 unfoldable pub no_file : File
-no_file = record { descriptor = negsuc 0; opened = false }
+no_file = record { source = Nothing; descriptor = negsuc 0; opened = false; reason = pos 0 }
 
 -- standard input: number 0, open from the start
-unfoldable pub standard_input : File
-standard_input = record { descriptor = pos 0; opened = true }
+unfoldable pub standard_input : Stdin → File
+standard_input input = record { source = Standard input; descriptor = pos 0; opened = true; reason = pos 0 }

@@ -5,13 +5,26 @@ ghost use Rattle.std.specs.Prelude.{◌≡◌, ◌&&◌, ◌+◌, ◌≤◌, ltb
 ghost use Rattle.input.specs.AtHand.{input_of, Came};
 ghost use Rattle.input.specs.Files.{is_descriptor, no_file, standard_input};
 
-use libc::STDIN_FILENO;
+use std::fs;
+use std::io::{Read, Stdin};
+use std::os::fd::AsRawFd;
+
+// Where the bytes of a file come from.
+#[derive(Drop)]
+enum Source {
+    Named(fs::File),
+    Standard(Stdin),
+    Nothing,
+}
 
 // A file, and whether it is open for reading. No other crate can make one of a number.
 #[derive(Drop)]
 pub struct File {
+    source: Source,
     descriptor: i32,
     opened: bool,
+    // The system's number of what went wrong when it was last opened or read; 0 while nothing did.
+    reason: i32,
 }
 
 // What a read came to: so many bytes at hand, the input's end, or a failure.
@@ -22,20 +35,40 @@ pub enum Input {
     Failed,
 }
 
-// Opens the file of a name for reading.
-pub fn open(name: &[u8]) -> File
+// The number of a name that is not UTF-8, of which the library opens no file.
+const NOT_TEXT: i32 = 84;
+
+// A file with a number of the system's, and why there is none where it is below 0.
+fn with_number(source: Source, descriptor: i32, reason: i32) -> File
     ensures { result.opened ≡ is_descriptor result.descriptor }
 {
-    let descriptor = os::open_read(name);
     File {
+        source,
         descriptor,
         opened: descriptor >= 0,
+        reason,
+    }
+}
+
+// Opens the file of a name for reading.
+pub fn open(rt: &HostRuntime, name: &[u8]) -> File
+    ensures { result.opened ≡ is_descriptor result.descriptor }
+{
+    let Ok(name) = str::from_utf8(name) else {
+        return with_number(Source::Nothing, -1, NOT_TEXT);
+    };
+    match fs::File::open(rt, name) {
+        Ok(named) => {
+            let descriptor = named.as_raw_fd();
+            with_number(Source::Named(named), descriptor, 0)
+        }
+        Err(error) => with_number(Source::Nothing, -1, error.raw_os_error().unwrap_or(0)),
     }
 }
 
 // Whether it is open.
-pub fn is_open(file: File) -> bool
-    ensures { result ≡ file.opened }
+pub fn is_open(file: &File) -> bool
+    ensures { result ≡ file.now.opened }
 {
     file.opened
 }
@@ -45,18 +78,40 @@ pub fn unopened() -> File
     ensures { result ≡ no_file }
 {
     File {
+        source: Source::Nothing,
         descriptor: -1,
         opened: false,
+        reason: 0,
     }
 }
 
 // Standard input, which is open from the start.
-pub fn standard_input() -> File
-    ensures { result ≡ standard_input }
+pub fn standard_input(input: Stdin) -> File
+    ensures { result ≡ standard_input input }
 {
     File {
-        descriptor: STDIN_FILENO,
+        source: Source::Standard(input),
+        descriptor: 0,
         opened: true,
+        reason: 0,
+    }
+}
+
+// Reads a file; how many bytes came, or -1 where it failed.
+fn read(file: &mut File, part: &mut [u8]) -> isize
+    ensures { length part.new ≡ length part.old }
+{
+    let got = match &mut file.source {
+        Source::Named(named) => named.read(part),
+        Source::Standard(input) => input.read(part),
+        Source::Nothing => return -1,
+    };
+    match got {
+        Ok(count) => count as isize,
+        Err(error) => {
+            file.reason = error.raw_os_error().unwrap_or(0);
+            -1
+        }
     }
 }
 
@@ -76,13 +131,20 @@ fn input_from(got: isize, kept: usize, part: &[u8]) -> Input
 }
 
 // Reads a file behind the bytes that are kept at the front; how many bytes are at hand then.
-pub fn read_from(file: File, text: &mut [u8], kept: usize) -> Input
+pub fn read_from(file: &mut File, text: &mut [u8], kept: usize) -> Input
     requires { kept ≤ length text.old }
     ensures { Came result kept text.old text.new }
 {
     let part = &mut text[kept..];
-    let got = libc::read(file.descriptor, part);
+    let got = read(file, part);
     input_from(got, kept, part)
+}
+
+// Why the file could not be opened or read, as the system's number.
+pub fn reason(file: &File) -> i32
+    ensures { result ≡ file.now.reason }
+{
+    file.reason
 }
 
 // Whether a program reads again: there is more to read, and reads are left.

@@ -85,7 +85,7 @@ pub fn first_turn() -> Turn
 // A read of a trace, and what lies behind it.
 pub fn next_turn(
     from: Turn,
-    file: File,
+    file: &mut File,
     counts: &mut [u32],
     marks: &mut [u64],
     bounds: &mut [u32],

@@ -1,6 +1,6 @@
 -- Totals: only added to between equal sizes, monotone, longer for longer windows, smaller with more counters, and no more than what is added.
 use mathlib.Core.Path.{◌≡◌, refl}
-use Prim.Native.Nat.{ℕ, zero, suc, ◌+◌, ◌-◌, ◌*◌, ◌/◌, ◌≤◌, ◌<◌}
+use Prim.Native.Nat.{ℕ, zero, suc, ◌+◌, ◌*◌, ◌/◌, ◌≤◌, ◌<◌}
 use native.Mathlib.Nat.{add-zero, add-suc, zero-mul, mul-div_cancel, le_dest, le_trans, le_refl, mul-le-mul, mul-le-mul_left, mul-le-mul_right, mul_comm, mul_assoc, div-le_of_le-mul}
 use native.Mathlib.Omega.{arith}
 use Rattle.laws.proofs.Division.{div_mono, div_le_div}

@@ -1,7 +1,6 @@
 -- `bound::added_of` meets its contract: the settings' ranges keep the product small.
 use mathlib.Core.Path.{refl}
 use native.Mathlib.Omega.{arith}
-use borrow.Author.Rules.{rules}
 use Rattle.device.proofs.Acceptance.{accepted_but_counters}
 use Rattle.bound.proofs.Totals.Bound.{added_le}
 use Rattle.bound.proofs.added_of.Goals as goal

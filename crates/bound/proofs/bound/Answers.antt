@@ -1,7 +1,6 @@
 -- `bound::bound` meets its contract.
 use mathlib.Core.Path.{◌≡◌, ◌∙◌, sym}
 use native.Mathlib.Omega.{arith}
-use borrow.Author.Rules.{rules}
 use Rattle.device.specs.Refusal.{first_failed, accepted as accepted_with}
 use Rattle.device.specs.Acceptance.{settings_tests}
 use Rattle.device.proofs.Acceptance.{accepted_settings}

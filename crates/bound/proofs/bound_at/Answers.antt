@@ -1,7 +1,6 @@
 -- `bound::bound_at` meets its contract: the settings' ranges keep the sum small.
 use mathlib.Core.Path.{refl}
 use native.Mathlib.Omega.{arith}
-use borrow.Author.Rules.{rules}
 use Rattle.device.proofs.Acceptance.{accepted_settings, accepted_skipping}
 use Rattle.bound.specs.Totals.{bound_at}
 use Rattle.bound.proofs.Totals.Bound.{added_le, bound_at_lt}

@@ -1,6 +1,5 @@
 -- `bound::disturbers_of` meets its contract.
 use native.Mathlib.Omega.{arith}
-use borrow.Author.Rules.{rules}
 use Rattle.bound.specs.Totals.{disturbers}
 use Rattle.bound.proofs.disturbers_of.Goals as goal
 

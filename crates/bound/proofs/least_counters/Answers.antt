@@ -1,6 +1,5 @@
 -- `bound::least_counters` meets its contract.
 use mathlib.Core.Path.{◌≡◌, ◌∙◌, sym}
-use borrow.Author.Rules.{rules}
 use Rattle.device.specs.Refusal.{first_failed}
 use Rattle.device.specs.Acceptance.{settings_tests_but_counters}
 use Rattle.device.proofs.Refusal.{tested_passed, tested_failed}

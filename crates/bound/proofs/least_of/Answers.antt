@@ -3,7 +3,6 @@ use mathlib.Core.Path.{◌≡◌, ◌∙◌}
 use Prim.Native.Nat.{ℕ, ◌+◌, ◌-◌, ◌*◌, ◌/◌}
 use native.Mathlib.Omega.{arith}
 use lib.Dec.{ltb}
-use borrow.Author.Rules.{rules}
 use Rattle.laws.proofs.Cases.{tests_same}
 use Rattle.device.specs.declared.Settings.{Settings}
 use Rattle.device.proofs.Acceptance.{accepted_but_counters}

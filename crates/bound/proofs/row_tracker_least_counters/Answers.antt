@@ -2,7 +2,6 @@
 use mathlib.Core.Path.{◌∙◌, ap}
 use mir.Syntax.{w64}
 use mir.ValLaws.{to_z-of_z}
-use borrow.Author.Rules.{rules}
 use Rattle.bound.specs.Answers.{signed, settings_of}
 use Rattle.bound.proofs.Answers.{small_least_answer}
 use Rattle.bound.proofs.row_tracker_least_counters.Goals as goal

@@ -1,15 +1,14 @@
 -- `dense::disturb_around` meets its contract, by the laws of rows that are still to be disturbed.
 use mathlib.Core.Path.{◌≡◌, sym, ap, ◌∙◌}
-use mathlib.Core.Logic.{⊎_elim}
 use mathlib.Core.List.{◌∷◌, ◌++◌}
 use Prim.Native.Nat.{ℕ, ◌+◌, ◌-◌, ◌≤◌, ◌<◌}
 use native.Mathlib.Omega.{arith}
-use borrow.Author.Tests.{not-true, not-false}
 use Rattle.device.specs.Victims.{rows_between}
 use Rattle.device.proofs.Victims.{between_step, between_none}
 use Rattle.summary.specs.Steps.{disturb_each}
 use Rattle.dense.specs.Dense.{dense}
 use Rattle.dense.proofs.InnerContracts.Turned.{Disturbing, disturbing_start, disturbing_anew, disturbing_after, try_ready, raised_done, other_ready, other_done}
+use Rattle.dense.proofs.disturb_around.Goals.{then-not-raise, else-not-raise, then-not-raise-2, else-not-raise-2}
 use Rattle.dense.proofs.disturb_around.Goals as goal
 
 -- what is left while rows below the middle one are, and when none is
@@ -52,10 +51,10 @@ loop-row-preserved c =
     let next = next_below c.loop-row.row a.args.middle a.args.high less in
     let l = c.loop-row.invariant in
     let tried = c.raise.ensures in
-    ⊎_elim
-    (λ w. rw (w.11, w.12, w.13, w.14) (other_done l next inside tried (not-true _ w.0.taken) w.4.ensures))
-    (λ w. rw (w.1, w.2, w.3, w.4) (raised_done l next inside tried (not-false _ w.0.left)))
-    c.if-not-raise.branch
+    elim c.if-not-raise.branch [
+        then-not-raise w ↦ rw (w.counts-is, w.marks-is, w.bounds-is, w.left-is) (other_done l next inside tried w.if-not-raise.true w.disturb_other-left.ensures)
+        | else-not-raise w ↦ rw (w.counts-is, w.marks-is, w.bounds-is, w.left-is) (raised_done l next inside tried w.if-not-raise.false)
+    ]
 
 pub overflow_add-above : goal.overflow_add-above
 overflow_add-above c = omega (arith, c.requires.2, c.ranges.high)
@@ -95,10 +94,10 @@ loop-above-preserved c =
     let next = between_step c.loop-above.above a.args.high less in
     let l = c.loop-above.invariant in
     let tried = c.raise-in-loop-above.ensures in
-    ⊎_elim
-    (λ w. rw (w.11, w.12, w.13, w.14) (other_done l next inside tried (not-true _ w.0.taken) w.4.ensures))
-    (λ w. rw (w.1, w.2, w.3, w.4) (raised_done l next inside tried (not-false _ w.0.left)))
-    c.if-not-raise-2.branch
+    elim c.if-not-raise-2.branch [
+        then-not-raise-2 w ↦ rw (w.counts-is, w.marks-is, w.bounds-is, w.left-is) (other_done l next inside tried w.if-not-raise-2.true w.disturb_other-left-then-not-raise-2.ensures)
+        | else-not-raise-2 w ↦ rw (w.counts-is, w.marks-is, w.bounds-is, w.left-is) (raised_done l next inside tried w.if-not-raise-2.false)
+    ]
 
 pub shape_of-counts : goal.shape_of-counts
 shape_of-counts c = c.loop-above.invariant.bank.kept.marked.counts_long ∙ sym c.requires.0.kept.marked.counts_long

@@ -47,4 +47,4 @@ returns c =
     let remove = c.remove in
     let enter = c.enter in
     let r = found_row p.0 p.1 p.2 p.3 p.4 found.result pos found.ensures if2.false in
-    exchange p.0 p.1 p.2 p.3 p.4 found.result pos found.ensures r.0 remove.ensures.0 remove.ensures.1 enter.ensures.0 enter.ensures.1
+    exchange p.0 p.1 p.2 p.3 p.4 found.result pos found.ensures r.0 remove.ensures.counts_after remove.ensures.marked enter.ensures.counts_after enter.ensures.marked

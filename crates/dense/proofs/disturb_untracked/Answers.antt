@@ -9,7 +9,7 @@ pub returns-then-t-counters : goal.returns-then-t-counters
 returns-then-t-counters c =
     let c = c in let p = c.requires in
     let enter = c.enter in
-    enter_free p.0 p.1 p.2 p.3 p.4 c.args.counters (omega (arith, c.if-t-counters.true)) enter.ensures.0 enter.ensures.1
+    enter_free p.0 p.1 p.2 p.3 p.4 c.args.counters (omega (arith, c.if-t-counters.true)) enter.ensures.counts_after enter.ensures.marked
 
 pub returns : goal.returns
 returns c =

@@ -16,4 +16,4 @@ pub returns : goal.returns
 returns c =
     let c = c in let if1 = c.if-counts-row-eq0 in
     let remove = c.remove in
-    drop_some c.requires.0 c.args.row c.requires.1 (omega (arith, if1.false)) remove.ensures.0 remove.ensures.1
+    drop_some c.requires.0 c.args.row c.requires.1 (omega (arith, if1.false)) remove.ensures.counts_after remove.ensures.marked

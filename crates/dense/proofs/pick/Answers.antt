@@ -4,7 +4,6 @@ use mathlib.Core.List.{[]}
 use Prim.Native.Nat.{◌-◌}
 use native.Mathlib.Nat.{sub-zero}
 use native.Mathlib.Omega.{arith}
-use borrow.Author.Tests.{ltb-true, ltb-false}
 use Rattle.dense.specs.Dense.{dense}
 use Rattle.dense.proofs.InnerContracts.Left.{fewer_same}
 use Rattle.dense.proofs.InnerContracts.Picking.{Picking, picking_long, picking_again, picking_full, picking_empty}
@@ -27,7 +26,7 @@ loop-i-init c =
 pub take_top-taken-requires : goal.take_top-taken-requires
 take_top-taken-requires c =
     let loop = c.loop-i in
-    (loop.invariant.kept, loop.invariant.capped, ltb-true 0 loop.left.tracked c.if-left-gt0.true)
+    (loop.invariant.kept, loop.invariant.capped, c.if-left-gt0.true)
 
 pub overflow_cast-list : goal.overflow_cast-list
 overflow_cast-list c = omega (arith, c.take_top-taken.ensures.leaves.2)
@@ -35,7 +34,7 @@ overflow_cast-list c = omega (arith, c.take_top-taken.ensures.leaves.2)
 pub offset_bounds-list-i : goal.offset_bounds-list-i
 offset_bounds-list-i c =
     let loop_test = c.loop-i-test in
-    let c = c in omega (arith, loop_test.true, c.requires.2, c.well-formed)
+    let c = c in omega (arith, loop_test.true, c.requires.2, c.well_formed)
 
 pub bounds-list-i : goal.bounds-list-i
 bounds-list-i c =
@@ -57,7 +56,7 @@ loop-i-preserved c =
     let loop_test = c.loop-i-test in
     let c = c in let if1 = c.if-left-gt0 in
     let top = c.take_top-taken.ensures in
-    picking_again loop.invariant loop_test.true c.requires.2 (ltb-true 0 loop.left.tracked if1.true) top.0 top.1.0 top.1.1
+    picking_again loop.invariant loop_test.true c.requires.2 if1.true top.row_value top.leaves.0 top.leaves.1
 
 pub shape_of-counts-else-left-gt0 : goal.shape_of-counts-else-left-gt0
 shape_of-counts-else-left-gt0 c = c.loop-i.invariant.kept.marked.counts_long ∙ sym c.requires.0.marked.counts_long
@@ -72,7 +71,7 @@ pub shape_of-list-else-left-gt0 : goal.shape_of-list-else-left-gt0
 shape_of-list-else-left-gt0 c = let l = c.loop-i.invariant in picking_long l (omega (arith, l.most, c.requires.2))
 
 pub returns-else-left-gt0 : goal.returns-else-left-gt0
-returns-else-left-gt0 c = let loop = c.loop-i in let all = picking_empty loop.invariant (ltb-false 0 loop.left.tracked c.if-left-gt0.false) in record { names = all.0; leaves = all.1 }
+returns-else-left-gt0 c = let loop = c.loop-i in let all = picking_empty loop.invariant c.if-left-gt0.false in record { names = all.0; leaves = all.1 }
 
 pub shape_of-counts-after-loop-i : goal.shape_of-counts-after-loop-i
 shape_of-counts-after-loop-i c = c.loop-i.invariant.kept.marked.counts_long ∙ sym c.requires.0.marked.counts_long

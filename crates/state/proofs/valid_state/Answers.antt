@@ -29,28 +29,23 @@ grouped s rows counts p =
 
 pub returns-then-not-position_in_range : goal.returns-then-not-position_in_range
 returns-then-not-position_in_range c =
-    let c = c in let a = c.args in
-    rw (grouped a.s a.rows.now a.counts.now a.p, ← c.position_in_range.ensures, c.if-not-position_in_range.true)
+    rw (grouped c.args.s c.args.rows.now c.args.counts.now c.args.p, ← c.position_in_range.ensures, c.if-not-position_in_range.true)
 
 pub rows_laid-requires : goal.rows_laid-requires
 rows_laid-requires c =
-    let c = c in let start = c in
-    let passed = c.if-not-position_in_range.false in
-    omega (arith, (position_facts start.args.s start.args.p (rw c.position_in_range.ensures c passed)).fits, start.requires.0)
+    let passed : position_allowed c.args.s c.args.p ≡ true = cc in
+    omega (arith, (position_facts c.args.s c.args.p passed).fits)
 
 pub counts_laid-requires : goal.counts_laid-requires
 counts_laid-requires c =
-    let c = c in let start = c in
-    let passed = c.if-not-position_in_range.false in
-    omega (arith, (position_facts start.args.s start.args.p (rw c.position_in_range.ensures c passed)).fits, start.requires.1)
+    let passed : position_allowed c.args.s c.args.p ≡ true = cc in
+    omega (arith, (position_facts c.args.s c.args.p passed).fits)
 
 pub returns-then-rows_laid : goal.returns-then-rows_laid
 returns-then-rows_laid c =
-    let c = c in let at = c in
-    let a = at.before.before.before.args in
     rw (
-      grouped a.s a.rows.now a.counts.now a.p,
-      ← at.position-in-range.ensures,
+      grouped c.args.s c.args.rows.now c.args.counts.now c.args.p,
+      ← c.position_in_range.ensures,
       c.if-not-position_in_range.false,
       ← c.rows_laid.ensures,
       c.if-rows_laid.true,
@@ -59,11 +54,9 @@ returns-then-rows_laid c =
 
 pub returns-else-rows_laid : goal.returns-else-rows_laid
 returns-else-rows_laid c =
-    let c = c in let at = c in
-    let a = at.before.before.before.args in
     rw (
-      grouped a.s a.rows.now a.counts.now a.p,
-      ← at.position-in-range.ensures,
+      grouped c.args.s c.args.rows.now c.args.counts.now c.args.p,
+      ← c.position_in_range.ensures,
       c.if-not-position_in_range.false,
       ← c.rows_laid.ensures,
       c.if-rows_laid.false,

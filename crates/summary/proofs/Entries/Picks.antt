@@ -9,7 +9,7 @@ use native.Mathlib.Omega.{arith}
 use borrow.Author.Tests.{ltb-true, ltb-false}
 use lib.Dec.{ltb}
 use lib.ListN.{length}
-use Rattle.laws.proofs.Cases.{split, clash}
+use Rattle.laws.proofs.Cases.{split}
 use Rattle.device.proofs.Occurrences.{times, hit_other}
 use Rattle.summary.specs.Entries.{Entry, without, top, picks, has}
 use Rattle.summary.specs.Rules.{Ceiling, bare, under, Ordered, Below, below_none, below_more}

@@ -6,7 +6,7 @@ use native.Mathlib.Omega.{arith}
 use lib.ListN.{length, replicate, get_or, take, set}
 use Rattle.tables.specs.InnerContracts.{Rising, put_in, taken_at}
 use Rattle.summary.specs.Entries.{rows_of, counts_of}
-use Rattle.summary.specs.Steps.{Summary, spill}
+use Rattle.summary.specs.Steps.{Summary}
 use Rattle.summary.specs.Tables.{table, read}
 use Rattle.summary.specs.InnerContracts.{Holds, Held}
 use Rattle.summary.specs.Rules.{Sound}

@@ -34,5 +34,5 @@ room_disturb {most} counters row s r =
 
 pub room_each : {most : ℕ} (counters : ℕ) (rows : List ℕ) (s : Summary) → Room most s → Room (most + length rows) (disturb_each counters rows s)
 unfolding disturb_each
-room_each counters [] s r = room_more r (omega arith)
-room_each counters (row ∷ rows) s r = room_more (room_each counters rows (disturb counters row s) (room_disturb counters row s r)) (omega arith)
+room_each {most = most} counters [] s r = room_more r (omega arith)
+room_each {most = most} counters (row ∷ rows) s r = room_more (room_each {most = most + 1} counters rows (disturb counters row s) (room_disturb counters row s r)) (omega arith)

@@ -1,5 +1,5 @@
 -- Estimates: a disturbance raises the disturbed row's by at least 1 and lowers none; a drop leaves the other rows' as they are.
-use mathlib.Core.Path.{◌≡◌, refl, ◌∙◌, sym}
+use mathlib.Core.Path.{◌≡◌, refl, ◌∙◌, sym, subst}
 use mathlib.Core.Bool.{true, false}
 use mathlib.Core.List.{List, [], ◌∷◌}
 use Prim.Native.Nat.{ℕ, ◌+◌, ◌≤◌}
@@ -52,7 +52,7 @@ module _ (other row : ℕ) where
       split (eqb v row)
       (λ on.
       let same = eqb-true v row on in
-      rw (front, on) (omega (arith, count_untracked (x ∷ xs) (rw same at e))))
+      rw (front, on) (omega (arith, count_untracked (x ∷ xs) (subst (λ (q : ℕ). has q (x ∷ xs) ≡ false) same e))))
       (λ off. rw (front, off) (omega arith)))
       (λ behind.
       split (eqb x.row row)

@@ -65,9 +65,9 @@ module _ {high counters reach : ℕ} {victims_of : ℕ → List ℕ} where
   level_spread : {size most : ℕ} → Reach high reach victims_of → {rows : List ℕ} → Below high rows → {s : Summary} → Sound high counters s → size ≤ counters + 1 → Level size most s → Level size (most + reach * length rows) (spread counters victims_of rows s)
   unfolding spread
   level_spread w below_none k few l = level_more l (omega arith)
-  level_spread {size} {most} w (below_more row {rows} b h) {s} k few l =
+  level_spread {size = size} {most = most} w (below_more row {rows} b h) {s} k few l =
       let one : most + length (victims_of row) ≤ most + reach = omega (arith, w.few row) in
-      level_more (level_spread w b (sound_each (w.inside row h) k) few (level_more (level_each (w.inside row h) k few l) one)) (omega arith)
+      level_more (level_spread {size = size} {most = most + reach} w b (sound_each (w.inside row h) k) few (level_more (level_each (w.inside row h) k few l) one)) (omega arith)
 
   estimate_spread : (v : ℕ) → Reach high reach victims_of → {rows : List ℕ} → Below high rows → {s : Summary} → Sound high counters s → estimate s v + reached victims_of v rows ≤ estimate (spread counters victims_of rows s) v
   unfolding spread reached

@@ -1,9 +1,7 @@
 -- `summary::disturb_full` meets its contract: the exchange, or a higher spillover.
 use native.Mathlib.Omega.{arith}
-use borrow.Author.Rules.{rules}
 use lib.ListN.{length}
 use Rattle.summary.specs.Tables.{read}
-use Rattle.summary.specs.InnerContracts.{Holds}
 use Rattle.summary.proofs.InnerContracts.Holds.{tracked_le, long_counts}
 use Rattle.summary.proofs.InnerContracts.Changes.{count_missed, exchange_ready, exchange_done, holds_spill}
 use Rattle.summary.proofs.Steps.Disturb.{disturb_spill}

@@ -1,6 +1,5 @@
 -- `summary::disturb_row` meets its contract, by its four cases.
 use native.Mathlib.Omega.{arith}
-use borrow.Author.Rules.{rules}
 use lib.ListN.{length}
 use Rattle.summary.specs.Tables.{read}
 use Rattle.summary.proofs.Rules.Ceiling.{count_le}

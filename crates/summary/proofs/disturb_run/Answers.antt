@@ -1,12 +1,10 @@
 -- `summary::disturb_run` meets its contract, by the loop's laws.
 use mathlib.Core.Path.{refl, sym, ◌∙◌}
-use Prim.Native.Nat.{◌-◌}
 use native.Mathlib.Omega.{arith}
-use lib.ListN.{length}
 use Rattle.summary.specs.Tables.{read}
 use Rattle.summary.proofs.Rules.Room.{room_more}
 use Rattle.summary.proofs.InnerContracts.Holds.{long_rows, long_counts}
-use Rattle.summary.proofs.InnerContracts.Runs.{Disturbing, disturbing_ready, disturbing_again, disturbing_done}
+use Rattle.summary.proofs.InnerContracts.Runs.{disturbing_ready, disturbing_again, disturbing_done}
 use Rattle.summary.proofs.disturb_run.Goals as goal
 
 pub loop-row-init : goal.loop-row-init

@@ -1,12 +1,8 @@
 -- `summary::disturb_run` meets its contract, by the loop's laws.
-use mathlib.Core.Path.{refl, sym, ◌∙◌}
 use Prim.Native.Nat.{◌-◌}
-use native.Mathlib.Omega.{arith}
 use lib.ListN.{length}
 use Rattle.summary.specs.Tables.{read}
-use Rattle.summary.proofs.Rules.Room.{room_more}
-use Rattle.summary.proofs.InnerContracts.Holds.{long_rows, long_counts}
-use Rattle.summary.proofs.InnerContracts.Runs.{Disturbing, disturbing_ready, disturbing_again, disturbing_done}
+use Rattle.summary.proofs.InnerContracts.Runs.{Disturbing}
 use Rattle.summary.proofs.disturb_run.Given as goal
 
 abbrev pub invariant-loop-row : goal.invariant-loop-row

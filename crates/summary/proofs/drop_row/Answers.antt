@@ -1,6 +1,5 @@
 -- `summary::drop_row` meets its contract.
 use native.Mathlib.Omega.{arith}
-use borrow.Author.Rules.{rules}
 use Rattle.summary.proofs.InnerContracts.Holds.{tracked_le, long_counts, used_rising}
 use Rattle.summary.proofs.InnerContracts.Changes.{holds_drop, holds_drop_untracked}
 use Rattle.summary.proofs.drop_row.Goals as goal

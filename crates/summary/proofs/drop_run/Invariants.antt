@@ -1,11 +1,8 @@
 -- `summary::drop_run` meets its contract, by the loop's laws.
-use mathlib.Core.Path.{refl, sym, ◌∙◌}
 use Prim.Native.Nat.{◌-◌}
-use native.Mathlib.Omega.{arith}
 use lib.ListN.{length}
 use Rattle.summary.specs.Tables.{read}
-use Rattle.summary.proofs.InnerContracts.Holds.{long_rows, long_counts}
-use Rattle.summary.proofs.InnerContracts.Runs.{Dropping, dropping_ready, dropping_again, dropping_done}
+use Rattle.summary.proofs.InnerContracts.Runs.{Dropping}
 use Rattle.summary.proofs.drop_run.Given as goal
 
 abbrev pub invariant-loop-row : goal.invariant-loop-row

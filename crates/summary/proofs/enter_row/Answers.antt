@@ -1,6 +1,5 @@
 -- `summary::enter_row` meets its contract: the row goes where it belongs, its count beside it.
 use native.Mathlib.Omega.{arith}
-use borrow.Author.Rules.{rules}
 use Rattle.summary.proofs.InnerContracts.Holds.{tracked_le, long_counts, used_rising}
 use Rattle.summary.proofs.InnerContracts.Changes.{place_le, holds_enter}
 use Rattle.summary.proofs.enter_row.Goals as goal

@@ -1,5 +1,4 @@
 -- `summary::is_listed` meets its contract: a row is in a list where its first place is among the used ones.
-use borrow.Author.Rules.{rules}
 use lib.ListN.{take}
 use lib.Seq.{length-take-le}
 use Rattle.summary.proofs.Entries.Columns.{in_rows_place}

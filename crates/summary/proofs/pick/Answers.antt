@@ -1,14 +1,11 @@
 -- `summary::pick` meets its contract, by the loop's laws.
 use mathlib.Core.Path.{refl, sym, ◌∙◌}
 use mathlib.Core.List.{[]}
-use Prim.Native.Nat.{◌-◌}
 use native.Mathlib.Nat.{sub-zero}
 use native.Mathlib.Omega.{arith}
-use borrow.Author.Tests.{ltb-true, ltb-false}
-use lib.ListN.{length}
 use Rattle.summary.specs.Tables.{read}
 use Rattle.summary.proofs.InnerContracts.Holds.{long_rows, long_counts, held_again}
-use Rattle.summary.proofs.InnerContracts.Picking.{Picking, picking_long, picking_again, picking_full, picking_empty}
+use Rattle.summary.proofs.InnerContracts.Picking.{picking_long, picking_again, picking_full, picking_empty}
 use Rattle.summary.proofs.pick.Goals as goal
 
 pub loop-i-init : goal.loop-i-init
@@ -25,12 +22,12 @@ loop-i-init c =
     }
 
 pub take_top-taken-requires : goal.take_top-taken-requires
-take_top-taken-requires c = let loop = c.loop-i in record { tracks = held_again loop.invariant.holds; tracked_nonzero = ltb-true 0 loop.left.tracked c.if-left-gt0.true }
+take_top-taken-requires c = let loop = c.loop-i in record { tracks = held_again loop.invariant.holds; tracked_nonzero = c.if-left-gt0.true }
 
 pub offset_bounds-list-i : goal.offset_bounds-list-i
 offset_bounds-list-i c =
     let loop_test = c.loop-i-test in
-    let c = c in let good = c.well-formed in
+    let good = c.well_formed in
     omega (arith, loop_test.true, c.requires.volume_in_bounds, good)
 
 pub bounds-list-i : goal.bounds-list-i
@@ -55,7 +52,7 @@ loop-i-preserved c =
     let loop_test = c.loop-i-test in
     let c = c in let if1 = c.if-left-gt0 in
     let t = c.take_top-taken in
-    picking_again loop.invariant loop_test.true c.requires.volume_in_bounds (ltb-true 0 loop.left.tracked if1.true) t.ensures.0 t.ensures.1
+    picking_again loop.invariant loop_test.true c.requires.volume_in_bounds if1.true t.ensures.row_value t.ensures.turns
 
 pub shape_of-rows-else-left-gt0 : goal.shape_of-rows-else-left-gt0
 shape_of-rows-else-left-gt0 c = long_rows c.loop-i.invariant.holds
@@ -67,7 +64,7 @@ pub shape_of-list-else-left-gt0 : goal.shape_of-list-else-left-gt0
 shape_of-list-else-left-gt0 c = let c = c in picking_long c.loop-i.invariant (omega (arith, c.loop-i.invariant.most, c.requires.volume_in_bounds))
 
 pub returns-else-left-gt0 : goal.returns-else-left-gt0
-returns-else-left-gt0 c = let all = picking_empty c.loop-i.invariant (ltb-false 0 c.loop-i.left.tracked c.if-left-gt0.false) in record { names = all.0; turns = all.1 }
+returns-else-left-gt0 c = let all = picking_empty c.loop-i.invariant c.if-left-gt0.false in record { names = all.0; turns = all.1 }
 
 pub shape_of-rows-after-loop-i : goal.shape_of-rows-after-loop-i
 shape_of-rows-after-loop-i c = long_rows c.loop-i.invariant.holds

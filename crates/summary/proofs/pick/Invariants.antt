@@ -1,14 +1,8 @@
 -- `summary::pick` meets its contract, by the loop's laws.
-use mathlib.Core.Path.{refl, sym, ◌∙◌}
-use mathlib.Core.List.{[]}
 use Prim.Native.Nat.{◌-◌}
-use native.Mathlib.Nat.{sub-zero}
-use native.Mathlib.Omega.{arith}
-use borrow.Author.Tests.{ltb-true, ltb-false}
 use lib.ListN.{length}
 use Rattle.summary.specs.Tables.{read}
-use Rattle.summary.proofs.InnerContracts.Holds.{long_rows, long_counts, held_again}
-use Rattle.summary.proofs.InnerContracts.Picking.{Picking, picking_long, picking_again, picking_full, picking_empty}
+use Rattle.summary.proofs.InnerContracts.Picking.{Picking}
 use Rattle.summary.proofs.pick.Given as goal
 
 abbrev pub invariant-loop-i : goal.invariant-loop-i

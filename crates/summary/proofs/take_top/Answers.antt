@@ -1,6 +1,5 @@
 -- `summary::take_top` meets its contract: the first place of the highest count is the picked entry's.
 use native.Mathlib.Omega.{arith}
-use borrow.Author.Rules.{rules}
 use Rattle.summary.proofs.InnerContracts.Holds.{tracked_le, long_counts}
 use Rattle.summary.proofs.InnerContracts.Changes.{holds_drop}
 use Rattle.summary.proofs.InnerContracts.Picking.{top_inside, top_named, top_place}

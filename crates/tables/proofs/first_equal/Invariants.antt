@@ -1,12 +1,9 @@
 -- `tables::first_equal` meets its contract. The invariant: i, and what the places from i on give, is what all the places give.
 use mathlib.Core.Path.{◌≡◌}
-use mathlib.Core.List.{List, []}
-use Prim.Native.Nat.{ℕ, ◌+◌, ◌-◌, ◌≤◌, ◌<◌}
-use native.Mathlib.Omega.{arith}
-use lib.ListN.{length, get_or, take, drop, drop_of_length-le}
-use lib.Seq.{get_or-take, length-take-le}
+use mathlib.Core.List.{List}
+use Prim.Native.Nat.{ℕ, ◌+◌, ◌-◌, ◌≤◌}
+use lib.ListN.{take, drop}
 use Rattle.tables.specs.InnerContracts.{equal_place}
-use Rattle.tables.proofs.Searches.{equal_place_here, equal_place_next}
 use Rattle.tables.proofs.first_equal.Given as goal
 
 pub record Left (t : List ℕ) (used x i : ℕ) : Type 0 where

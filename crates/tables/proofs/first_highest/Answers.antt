@@ -1,8 +1,7 @@
 -- `tables::first_highest` meets its contract. The invariant: the places from i on, after the best so far, give what all the places give.
 use mathlib.Core.Path.{◌≡◌, sym, ◌∙◌}
-use mathlib.Core.Logic.{⊎_elim}
 use mathlib.Core.List.{List, []}
-use Prim.Native.Nat.{ℕ, ◌+◌, ◌-◌, ◌≤◌, ◌<◌}
+use Prim.Native.Nat.{ℕ, ◌+◌, ◌≤◌, ◌<◌}
 use native.Mathlib.Omega.{arith}
 use borrow.Author.Tests.{lt-ltb, le-ltb}
 use lib.ListN.{length, get_or, take, drop, drop_of_length-le}
@@ -10,6 +9,7 @@ use lib.Seq.{get_or-take, length-take-le}
 use Rattle.tables.specs.InnerContracts.{highest_from, highest_place}
 use Rattle.tables.proofs.Searches.{highest_place_start, highest_from_next}
 use Rattle.tables.proofs.first_highest.Invariants.{Left}
+use Rattle.tables.proofs.first_highest.Goals.{then-best-t, else-best-t}
 use Rattle.tables.proofs.first_highest.Goals as goal
 
 start : (t : List ℕ) (used : ℕ) → 0 < used → used ≤ length t → Left t used 0 (get_or t 0 0) 1
@@ -45,10 +45,10 @@ loop-i-init c = start c.args.t.now c.args.used c.requires.0 c.requires.1
 pub loop-i-preserved : goal.loop-i-preserved
 loop-i-preserved c =
     let l = c.loop-i.invariant in
-    ⊎_elim
-    (λ w. rw (w.2, w.3) (higher l (omega arith) (omega arith) (omega arith)))
-    (λ w. rw (w.1, w.2) (not_higher l (omega arith) (omega arith) (omega arith)))
-    c.if-best-t.branch
+    elim c.if-best-t.branch [
+      | then-best-t w ↦ rw (w.place-is, w.best-is) (higher l (omega arith) (omega arith) (omega arith))
+      | else-best-t w ↦ rw (w.place-is, w.best-is) (not_higher l (omega arith) (omega arith) (omega arith))
+    ]
 
 pub returns : goal.returns
 returns c = done c.loop-i.invariant (omega arith) (omega arith)

@@ -1,14 +1,9 @@
 -- `tables::first_highest` meets its contract. The invariant: the places from i on, after the best so far, give what all the places give.
-use mathlib.Core.Path.{◌≡◌, sym, ◌∙◌}
-use mathlib.Core.Logic.{⊎_elim}
-use mathlib.Core.List.{List, []}
-use Prim.Native.Nat.{ℕ, ◌+◌, ◌-◌, ◌≤◌, ◌<◌}
-use native.Mathlib.Omega.{arith}
-use borrow.Author.Tests.{lt-ltb, le-ltb}
-use lib.ListN.{length, get_or, take, drop, drop_of_length-le}
-use lib.Seq.{get_or-take, length-take-le}
+use mathlib.Core.Path.{◌≡◌}
+use mathlib.Core.List.{List}
+use Prim.Native.Nat.{ℕ, ◌-◌, ◌≤◌}
+use lib.ListN.{take, drop}
 use Rattle.tables.specs.InnerContracts.{highest_from, highest_place}
-use Rattle.tables.proofs.Searches.{highest_place_start, highest_from_next}
 use Rattle.tables.proofs.first_highest.Given as goal
 
 pub record Left (t : List ℕ) (used place best i : ℕ) : Type 0 where

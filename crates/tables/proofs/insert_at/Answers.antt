@@ -1,9 +1,9 @@
 -- `tables::insert_at` meets its contract. The invariant: putting x in with i places used gives what was to be given.
 use mathlib.Core.Path.{◌≡◌, refl, ◌∙◌}
 use mathlib.Core.List.{List}
-use Prim.Native.Nat.{ℕ, ◌-◌, ◌≤◌, ◌<◌}
+use Prim.Native.Nat.{ℕ, ◌-◌, ◌<◌}
 use native.Mathlib.Omega.{arith}
-use lib.ListN.{length, get_or, set, length-set}
+use lib.ListN.{get_or, set, length-set}
 use Rattle.tables.specs.InnerContracts.{put_in}
 use Rattle.tables.proofs.Shifts.{put_in_last, put_in_again}
 use Rattle.tables.proofs.insert_at.Invariants.{Left}

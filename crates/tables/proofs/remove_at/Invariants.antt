@@ -1,11 +1,9 @@
 -- `tables::remove_at` meets its contract. The invariant: taking place i out gives what was to be given.
-use mathlib.Core.Path.{◌≡◌, refl, ◌∙◌}
+use mathlib.Core.Path.{◌≡◌}
 use mathlib.Core.List.{List}
-use Prim.Native.Nat.{ℕ, ◌+◌, ◌-◌, ◌≤◌, ◌<◌}
-use native.Mathlib.Omega.{arith}
-use lib.ListN.{length, get_or, set, length-set}
+use Prim.Native.Nat.{ℕ, ◌-◌, ◌<◌}
+use lib.ListN.{length}
 use Rattle.tables.specs.InnerContracts.{taken_at}
-use Rattle.tables.proofs.Shifts.{taken_at_last, taken_at_again}
 use Rattle.tables.proofs.remove_at.Given as goal
 
 pub record Left (t₀ : List ℕ) (used at : ℕ) (t : List ℕ) (i : ℕ) : Type 0 where

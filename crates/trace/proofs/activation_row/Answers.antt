@@ -1,7 +1,6 @@
 -- `trace::activation_row` meets its contract: test by test.
 use mathlib.Core.Path.{refl}
 use native.Mathlib.Omega.{arith}
-use borrow.Author.Rules.{rules}
 use Rattle.trace.proofs.Reading.Activations.{short_untold, letter_untold, end_untold, field_told}
 use Rattle.trace.proofs.activation_row.Goals as goal
 

@@ -1,6 +1,5 @@
 -- `trace::as_settings` meets its contract.
 use mathlib.Core.Path.{refl}
-use borrow.Author.Rules.{rules}
 use Rattle.trace.specs.Records.{as_settings}
 use Rattle.trace.proofs.as_settings.Goals as goal
 

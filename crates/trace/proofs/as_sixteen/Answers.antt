@@ -1,6 +1,5 @@
 -- `trace::as_sixteen` meets its contract.
 use mathlib.Core.Path.{refl}
-use borrow.Author.Rules.{rules}
 use Rattle.trace.specs.Records.{as_sixteen}
 use Rattle.trace.proofs.as_sixteen.Goals as goal
 

@@ -1,5 +1,4 @@
 -- `trace::ends_after` meets its contract.
-use borrow.Author.Rules.{rules}
 use borrow.Author.Tests.{lt-ltb, le-ltb}
 use lib.ListN.{length-drop}
 use lib.Seq.{get_or-drop}

@@ -1,11 +1,10 @@
 -- `trace::keep` meets its contract. The invariant: so many bytes are copied.
 use mathlib.Core.Path.{◌≡◌, refl, sym, ◌∙◌, ap}
 use mathlib.Core.List.{List, ◌++◌}
-use Prim.Native.Nat.{ℕ, ◌-◌, ◌≤◌}
+use Prim.Native.Nat.{ℕ}
 use native.Mathlib.Omega.{arith}
-use borrow.Author.Rules.{rules}
 use lib.ListN.{length, drop}
-use Rattle.trace.proofs.Texts.KeptBytes.{kept_within, kept_is, Copied, copied_long, front_long, copied_on}
+use Rattle.trace.proofs.Texts.KeptBytes.{kept_within, kept_is, copied_long, front_long, copied_on}
 use Rattle.trace.proofs.keep.Goals as goal
 
 pub loop-i-init : goal.loop-i-init
@@ -19,7 +18,9 @@ bounds-text-begin c =
     omega (arith, few, c.loop-i-test.true, copied_long c.args.text.now c.smaller-begin.result l.i (omega (arith, few, l.invariant.1)) l.invariant.0)
 
 pub bounds-text-i : goal.bounds-text-i
-bounds-text-i c = omega (arith, slice-read-text c)
+bounds-text-i c =
+    let few = kept_within c.args.text.now c.args.from c.args.to c.smaller-end.ensures c.smaller-begin.ensures _ c.smaller-kept.ensures in
+    omega (arith, few, c.loop-i-test.true)
 
 pub loop-i-preserved : goal.loop-i-preserved
 loop-i-preserved c =

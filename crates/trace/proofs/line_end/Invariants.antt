@@ -1,11 +1,9 @@
 -- `trace::line_end` meets its contract. The invariant: the line's end, looked for from i on, is where it is from the place on.
-use mathlib.Core.Path.{◌≡◌, refl}
-use mathlib.Core.List.{List, []}
+use mathlib.Core.Path.{◌≡◌}
+use mathlib.Core.List.{List}
 use Prim.Native.Nat.{ℕ, ◌+◌, ◌-◌, ◌≤◌}
-use native.Mathlib.Omega.{arith}
-use lib.ListN.{length, drop, drop_of_length-le}
+use lib.ListN.{length, drop}
 use Rattle.trace.specs.Lines.{extent}
-use Rattle.trace.proofs.Lines.{extent_end, extent_other}
 use Rattle.trace.proofs.line_end.Given as goal
 
 pub record Left (text : List ℕ) (place i : ℕ) : Type 0 where

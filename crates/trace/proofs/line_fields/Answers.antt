@@ -1,7 +1,6 @@
 -- `trace::line_fields` meets its contract.
 use mathlib.Core.Path.{◌∙◌, sym}
 use native.Mathlib.Omega.{arith}
-use borrow.Author.Rules.{rules}
 use lib.ListN.{length-drop}
 use Rattle.trace.specs.Answers.{found_all}
 use Rattle.trace.specs.InnerContracts.{line_fields}

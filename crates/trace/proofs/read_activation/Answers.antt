@@ -4,8 +4,6 @@ use mathlib.Core.List.{List}
 use mathlib.Core.Option.{none, some, bind}
 use Prim.Native.Nat.{ℕ, ◌+◌, ◌<◌}
 use native.Mathlib.Omega.{arith}
-use borrow.Author.Rules.{rules}
-use borrow.Author.Tests.{not-true, not-false}
 use lib.ListN.{length, take, drop, length-drop}
 use Rattle.trace.specs.declared.Record.TheVariants.{Activate}
 use Rattle.columns.specs.Numbers.{field}
@@ -15,10 +13,6 @@ use Rattle.trace.proofs.InnerContracts.{ends_after_lt}
 use Rattle.trace.proofs.Reading.OneForm.{reading_by_accepted, reading_by_other_width, reading_by_other_bytes}
 use Rattle.trace.proofs.Records.{activation_form, activation_take}
 use Rattle.trace.proofs.read_activation.Goals as goal
-
--- the line ends behind 6 columns
-inside : (c : tie.Else1) → 6 < length (drop c.before.before.before.args.at c.before.before.before.args.text.now)
-inside c = ends_after_lt 6 _ (sym c.before.ends-after.ensures ∙ c.if1.false)
 
 activation_other : (text : List ℕ) → 6 < length text → field 0 text ≡ none → activation (take 6 text) ≡ none
 unfolding bind
@@ -35,22 +29,24 @@ returns-then-not-ends_after c =
     (sym c.ends_after.ensures ∙ c.if-not-ends_after.true)
 
 pub read_field-requires : goal.read_field-requires
-read_field-requires c = omega (arith, rw length-drop at (inside c))
+read_field-requires c =
+    let a = c.args in
+    let inside = ends_after_lt 6 (drop a.at a.text.now) (sym c.ends_after.ensures ∙ c.if-not-ends_after.false) in
+    omega (arith, rw length-drop at inside)
 
 pub returns-in_default : goal.returns-in_default
 returns-in_default c =
-    let c = c in let else₁ = c in
-    let a = else₁.before.before.before.args in
+    let a = c.args in
     let text = drop a.at a.text.now in
-    let none_there = field_found_other a.text.now a.at _ c.read_field.ensures c.enum_told-1.given.1 in
-    reading_by_other_bytes activation_form text a.at _ c.line_end-in_default.ensures (activation_other text (inside else₁) none_there)
+    let inside = ends_after_lt 6 text (sym c.ends_after.ensures ∙ c.if-not-ends_after.false) in
+    let none_there = field_found_other a.text.now a.at _ c.read_field.ensures c.in_default.is in
+    reading_by_other_bytes activation_form text a.at _ c.line_end-in_default.ensures (activation_other text inside none_there)
 
 pub returns : goal.returns
 returns c =
-    let c = c in let else₁ = c in
-    let a = else₁.before.before.before.args in
+    let a = c.args in
     let text = drop a.at a.text.now in
-    let there = field_found_number a.text.now a.at _ _ c.read_field.ensures c.row-1.given.1 in
-    reading_by_accepted activation_form text a.at _ (a.at + 7) (omega arith)
-    (sym else₁.before.ends-after.ensures ∙ else₁.if1.false)
-    (activation_number text _ (inside else₁) there)
+    let ends = sym c.ends_after.ensures ∙ c.if-not-ends_after.false in
+    let inside = ends_after_lt 6 text ends in
+    let there = field_found_number a.text.now a.at _ _ c.read_field.ensures c.in-Number.is in
+    reading_by_accepted activation_form text a.at _ (a.at + 7) (omega arith) ends (activation_number text _ inside there)

@@ -7,7 +7,6 @@ use Prim.Native.Nat.{ℕ, ◌+◌, ◌-◌, ◌*◌, ◌≤◌, ◌<◌}
 use native.Mathlib.Nat.{add-zero}
 use native.Mathlib.Numerals.{add-one}
 use native.Mathlib.Omega.{arith}
-use borrow.Author.Rules.{rules}
 use lib.ListN.{length, take, drop, set, length-set}
 use lib.Seq.{drop-drop, take-suc-set}
 use Rattle.trace.specs.Answers.{found_all}
@@ -59,14 +58,14 @@ pub returns-in_default : goal.returns-in_default
 returns-in_default c =
     let c = c in let l = c.loop-i in
     let a = c.args in
-    let is_other = field_found_other a.text.now (a.at + 6 * l.i) _ c.read_field.ensures c.enum_told-1.given.1 in
+    let is_other = field_found_other a.text.now (a.at + 6 * l.i) _ c.read_field.ensures c.in_default.is in
     filled_other l.invariant (omega arith) is_other
 
 pub loop-i-preserved : goal.loop-i-preserved
 loop-i-preserved c =
     let c = c in let l = c.loop-i in
     let a = c.args in
-    let is_number = field_found_number a.text.now (a.at + 6 * l.i) _ _ c.read_field.ensures c.n-1.given.1 in
+    let is_number = field_found_number a.text.now (a.at + 6 * l.i) _ _ c.read_field.ensures c.in-Number.is in
     filled_number _ l.invariant (omega arith) (omega arith) is_number
 
 pub returns : goal.returns

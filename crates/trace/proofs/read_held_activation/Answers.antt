@@ -1,6 +1,5 @@
 -- `trace::read_held_activation` meets its contract.
 use native.Mathlib.Omega.{arith}
-use borrow.Author.Rules.{rules}
 use borrow.Author.Tests.{not-true, not-false}
 use lib.ListN.{drop}
 use lib.Seq.{get_or-take}
@@ -13,7 +12,7 @@ unfolding held_activation
 returns-then-not-found c =
     let a = c.args in
     let f = c.line_fields-found in
-    reading_no_numbers 2 as_activation (drop a.at a.text.now) a.at f.result f.ensures _ c.if-not-found.true c.line_end.ensures
+    reading_no_numbers 2 as_activation (drop a.at a.text.now) a.at f.result f.ensures _ (not-true _ c.if-not-found.true) c.line_end.ensures
 
 pub returns : goal.returns
 unfolding held_activation as_activation
@@ -22,4 +21,4 @@ returns c =
     let f = c.line_fields-found in
     let values = f.result.values in
     rw (← get_or-take 2 values 0 0 (omega arith), ← get_or-take 2 values 1 0 (omega arith))
-    (reading_numbers 2 as_activation (drop a.at a.text.now) a.at f.result f.ensures _ c.if-not-found.false (omega arith))
+    (reading_numbers 2 as_activation (drop a.at a.text.now) a.at f.result f.ensures _ (not-false _ c.if-not-found.false) (omega arith))

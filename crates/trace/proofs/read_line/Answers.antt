@@ -1,7 +1,6 @@
 -- `trace::read_line` meets its contract: by the line's first byte.
 use mathlib.Core.Path.{sym, ◌∙◌}
 use native.Mathlib.Omega.{arith}
-use borrow.Author.Rules.{rules}
 use Rattle.trace.proofs.Reading.ByLetter.{reading_behind_end, reading_blank, reading_activation, reading_refresh, reading_held, reading_settings, reading_remap, reading_other}
 use Rattle.trace.proofs.read_line.Goals as goal
 

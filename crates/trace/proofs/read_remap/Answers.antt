@@ -1,6 +1,5 @@
 -- `trace::read_remap` meets its contract.
 use native.Mathlib.Omega.{arith}
-use borrow.Author.Rules.{rules}
 use borrow.Author.Tests.{not-true, not-false}
 use lib.ListN.{drop}
 use Rattle.trace.specs.declared.Record.TheVariants.{Remap}
@@ -14,7 +13,7 @@ unfolding remap
 returns-then-not-found c =
     let a = c.args in
     let f = c.line_fields-found in
-    reading_no_numbers 16 (λ numbers. Remap (as_sixteen numbers)) (drop a.at a.text.now) a.at f.result f.ensures _ c.if-not-found.true c.line_end.ensures
+    reading_no_numbers 16 (λ numbers. Remap (as_sixteen numbers)) (drop a.at a.text.now) a.at f.result f.ensures _ (not-true _ c.if-not-found.true) c.line_end.ensures
 
 pub returns : goal.returns
 unfolding remap
@@ -22,4 +21,4 @@ returns c =
     let a = c.args in
     let f = c.line_fields-found in
     rw (c.as_sixteen.ensures, ← as_sixteen_take f.result.values)
-    (reading_numbers 16 (λ numbers. Remap (as_sixteen numbers)) (drop a.at a.text.now) a.at f.result f.ensures _ c.if-not-found.false (omega arith))
+    (reading_numbers 16 (λ numbers. Remap (as_sixteen numbers)) (drop a.at a.text.now) a.at f.result f.ensures _ (not-false _ c.if-not-found.false) (omega arith))

@@ -1,5 +1,4 @@
 -- `trace::text_behind` meets its contract: the text from the place behind the line on.
-use borrow.Author.Rules.{rules}
 use Rattle.trace.proofs.text_behind.Goals as goal
 
 pub returns : goal.returns

@@ -18,23 +18,6 @@ use Rattle.tracker.proofs.Calls.Tests.{activation_tested}
 use Rattle.tracker.proofs.Calls.Ready.{open_tables}
 use Rattle.tracker.proofs.activation_refusal.Goals as goal
 
--- what each test says where it passed
-tables : (c : tie.Else1) → let a = c.before.before.before.before.args in first_failed (tables_tests a.s a.rows.now a.counts.now) ≡ 0
-tables c = sym c.before.tables-refusal.ensures ∙ c.if1.false
-
-inside : (c : tie.Else2) → let a = c.before.before.before.before.before.before.args in ltb a.row a.s.rows ≡ true
-inside c = lt-ltb _ _ c.if2.false
-
-held : (c : tie.Else3) → hold_allowed c.before.before.before.before.before.before.before.before.args.hold ≡ true
-held c = sym c.before.hold-allowed.ensures ∙ c.if3.false
-
-allowed : (c : tie.Else4) → remap_allowed c.before.before.before.before.before.before.before.before.before.before.args.remap ≡ true
-allowed c = sym c.before.remap-allowed.ensures ∙ c.if4.false
-
-sound : (c : tie.Else5) → let a = c.before.before.before.before.before.before.before.before.before.before.before.before.args in valid a.s (given a.rows.now a.counts.now a.p) ≡ true
-unfolding given
-sound c = sym c.before.valid-state.ensures ∙ c.if5.false
-
 pub returns-then-k-ne0 : goal.returns-then-k-ne0
 unfolding given
 returns-then-k-ne0 c =
@@ -44,55 +27,43 @@ returns-then-k-ne0 c =
 pub returns-then-s-row : goal.returns-then-s-row
 unfolding given refuse
 returns-then-s-row c =
-    let c = c in let a = c.args in
-    rw (activation_tested a.s a.remap (given a.rows.now a.counts.now a.p) a.row a.hold, or_later_zero _ _ (tables c), le-ltb a.row a.s.rows c.if-s-row.true)
+    let a = c.args in
+    rw (activation_tested a.s a.remap (given a.rows.now a.counts.now a.p) a.row a.hold, or_later_zero _ _ (sym c.tables_refusal-k.ensures ∙ c.if-k-ne0.false), le-ltb a.row a.s.rows c.if-s-row.true)
 
 pub returns-then-not-hold_allowed : goal.returns-then-not-hold_allowed
 unfolding given refuse
 returns-then-not-hold_allowed c =
-    let c = c in let c1 = c in
-    let a = c1.before.before.before.before.args in
-    rw (activation_tested a.s a.remap (given a.rows.now a.counts.now a.p) a.row a.hold, or_later_zero _ _ (tables c1), inside c, sym c.hold_allowed.ensures ∙ c.if-not-hold_allowed.true)
+    let a = c.args in
+    rw (activation_tested a.s a.remap (given a.rows.now a.counts.now a.p) a.row a.hold, or_later_zero _ _ (sym c.tables_refusal-k.ensures ∙ c.if-k-ne0.false), lt-ltb _ _ c.if-s-row.false, sym c.hold_allowed.ensures ∙ c.if-not-hold_allowed.true)
 
 pub returns-then-not-remap_allowed : goal.returns-then-not-remap_allowed
 unfolding given refuse
 returns-then-not-remap_allowed c =
-    let c = c in let c2 = c in
-    let c1 = c2.before.before in
-    let a = c1.before.before.before.before.args in
-    rw (activation_tested a.s a.remap (given a.rows.now a.counts.now a.p) a.row a.hold, or_later_zero _ _ (tables c1), inside c2, held c, sym c.remap_allowed.ensures ∙ c.if-not-remap_allowed.true)
+    let a = c.args in
+    rw (activation_tested a.s a.remap (given a.rows.now a.counts.now a.p) a.row a.hold, or_later_zero _ _ (sym c.tables_refusal-k.ensures ∙ c.if-k-ne0.false), lt-ltb _ _ c.if-s-row.false, sym c.hold_allowed.ensures ∙ c.if-not-hold_allowed.false, sym c.remap_allowed.ensures ∙ c.if-not-remap_allowed.true)
 
 pub valid_state-requires : goal.valid_state-requires
 valid_state-requires c =
-    let c = c in let a = c.args in
-    let o = open_tables a.s a.rows.now a.counts.now (tables c) in
+    let a = c.args in
+    let o = open_tables a.s a.rows.now a.counts.now (sym c.tables_refusal-k.ensures ∙ c.if-k-ne0.false) in
     (o.rows_long, o.counts_long)
 
 pub returns-then-not-valid_state : goal.returns-then-not-valid_state
 unfolding given refuse
 returns-then-not-valid_state c =
-    let c = c in let c3 = c in
-    let c2 = c3.before.before in
-    let c1 = c2.before.before in
-    let a = c1.before.before.before.before.args in
-    rw (activation_tested a.s a.remap (given a.rows.now a.counts.now a.p) a.row a.hold, or_later_zero _ _ (tables c1), inside c2, held c3, allowed c, sym c.valid_state.ensures ∙ c.if-not-valid_state.true)
+    let a = c.args in
+    rw (activation_tested a.s a.remap (given a.rows.now a.counts.now a.p) a.row a.hold, or_later_zero _ _ (sym c.tables_refusal-k.ensures ∙ c.if-k-ne0.false), lt-ltb _ _ c.if-s-row.false, sym c.hold_allowed.ensures ∙ c.if-not-hold_allowed.false, sym c.remap_allowed.ensures ∙ c.if-not-remap_allowed.false, sym c.valid_state.ensures ∙ c.if-not-valid_state.true)
 
 pub overflow_add-p : goal.overflow_add-p
 unfolding given
 overflow_add-p c =
-    let c = c in let c3 = c in
-    let c1 = c3.before.before.before.before in
-    let a = c1.before.before.before.before.args in
-    let o = open_tables a.s a.rows.now a.counts.now (tables c1) in
-    let facts = valid_facts a.s (given a.rows.now a.counts.now a.p) o.long (sound c) in
-    omega (arith, facts.within, (accepted_settings a.s o.settled).others.interval.most, (hold_between a.hold (held c3)).most)
+    let a = c.args in
+    let o = open_tables a.s a.rows.now a.counts.now (sym c.tables_refusal-k.ensures ∙ c.if-k-ne0.false) in
+    let facts = valid_facts a.s (given a.rows.now a.counts.now a.p) o.long (sym c.valid_state.ensures ∙ c.if-not-valid_state.false) in
+    omega (arith, facts.within, (accepted_settings a.s o.settled).others.interval.most, (hold_between a.hold (sym c.hold_allowed.ensures ∙ c.if-not-hold_allowed.false)).most)
 
 pub returns : goal.returns
 unfolding given refuse
 returns c =
-    let c = c in let c4 = c in
-    let c3 = c4.before.before in
-    let c2 = c3.before.before in
-    let c1 = c2.before.before in
-    let a = c1.before.before.before.before.args in
-    rw (activation_tested a.s a.remap (given a.rows.now a.counts.now a.p) a.row a.hold, or_later_zero _ _ (tables c1), inside c2, held c3, allowed c4, sound c) c.refuse_unless.ensures
+    let a = c.args in
+    rw (activation_tested a.s a.remap (given a.rows.now a.counts.now a.p) a.row a.hold, or_later_zero _ _ (sym c.tables_refusal-k.ensures ∙ c.if-k-ne0.false), lt-ltb _ _ c.if-s-row.false, sym c.hold_allowed.ensures ∙ c.if-not-hold_allowed.false, sym c.remap_allowed.ensures ∙ c.if-not-remap_allowed.false, sym c.valid_state.ensures ∙ c.if-not-valid_state.false) c.refuse_unless.ensures

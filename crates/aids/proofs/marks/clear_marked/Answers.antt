@@ -6,6 +6,7 @@ use native.Mathlib.Omega.{arith}
 use Rattle.aids.specs.Marks.{row_words, Emptied}
 use Rattle.aids.proofs.Emptied.{emptied_none, emptied_on, emptied_word, emptied_all}
 use Rattle.aids.proofs.marks.clear_marked.Invariants.{Passed}
+use Rattle.aids.proofs.marks.clear_marked.Goals.{then-marks-w-ne0, else-marks-w-ne0}
 use Rattle.aids.proofs.marks.clear_marked.Goals as goal
 
 pub loop-w-init : goal.loop-w-init
@@ -22,10 +23,10 @@ loop-w-preserved c =
     let l = c.loop-w in
     record {
       emptied =
-          ⊎_elim
-          (λ v. rw v.5 (emptied_on l.invariant.emptied v.2.ensures (omega arith) ((l.w + 1) * 64) (omega arith)))
-          (λ v. rw v.1 (emptied_word c.requires l.w l.invariant.emptied (omega (arith, v.0.left))))
-          c.if-marks-w-ne0.branch;
+          elim c.if-marks-w-ne0.branch [
+              then-marks-w-ne0 v ↦ rw v.counts-is (emptied_on l.invariant.emptied v.clear_block.ensures (omega arith) ((l.w + 1) * 64) (omega arith))
+              | else-marks-w-ne0 v ↦ rw v.counts-is (emptied_word c.requires l.w l.invariant.emptied (omega (arith, v.if-marks-w-ne0.false)))
+          ];
       most = omega arith;
     }
 

@@ -1,12 +1,11 @@
 -- `search::least_below` meets its contract, by the laws of the walk.
 use mathlib.Core.Path.{◌∙◌}
-use Prim.Native.Nat.{ℕ, ◌-◌, ◌*◌, ◌^◌, ◌≤◌, ◌<◌}
+use Prim.Native.Nat.{◌*◌, ◌^◌, ◌≤◌, ◌<◌}
 use native.Mathlib.Nat.{mul-le-mul}
 use native.Mathlib.Omega.{arith}
 use Rattle.bound.specs.Answers.{outcome}
-use Rattle.bound.proofs.Shares.{Shared, share_begins, shared_room, share_small, share_enough, share_next}
-use Rattle.bound.proofs.Walk.{Walked, all_below, walk_begins, walked_small, room_positive, walk_goes_on, walk_gives_up, walk_ends, walk_finds}
-use Rattle.bound.proofs.search.least_below.Invariants.{Stands}
+use Rattle.bound.proofs.Shares.{share_begins, shared_room, share_small, share_enough, share_next}
+use Rattle.bound.proofs.Walk.{all_below, walk_begins, walked_small, room_positive, walk_goes_on, walk_gives_up, walk_ends, walk_finds}
 use Rattle.bound.proofs.search.least_below.Goals as goal
 
 -- where the walk stands, with its share

@@ -1,11 +1,7 @@
 -- `search::least_below` meets its contract, by the laws of the walk.
-use mathlib.Core.Path.{◌∙◌}
-use Prim.Native.Nat.{ℕ, ◌-◌, ◌*◌, ◌^◌, ◌≤◌, ◌<◌}
-use native.Mathlib.Nat.{mul-le-mul}
-use native.Mathlib.Omega.{arith}
-use Rattle.bound.specs.Answers.{outcome}
-use Rattle.bound.proofs.Shares.{Shared, share_begins, shared_room, share_small, share_enough, share_next}
-use Rattle.bound.proofs.Walk.{Walked, all_below, walk_begins, walked_small, room_positive, walk_goes_on, walk_gives_up, walk_ends, walk_finds}
+use Prim.Native.Nat.{ℕ, ◌-◌}
+use Rattle.bound.proofs.Shares.{Shared}
+use Rattle.bound.proofs.Walk.{Walked}
 use Rattle.bound.proofs.search.least_below.Given as goal
 
 pub record Stands (volume added steps end sum room at quotient over : ℕ) : Type 0 where

@@ -2,7 +2,6 @@
 use Prim.Native.Nat.{◌<◌}
 use native.Mathlib.Nat.{mod-lt}
 use native.Mathlib.Omega.{arith}
-use borrow.Author.Rules.{rules}
 use Rattle.bound.proofs.Shares.{less_quotient, less_one, less_within, less_over}
 use Rattle.bound.proofs.search.share_less.Goals as goal
 

@@ -1,14 +1,8 @@
 -- `total::total_of` meets its contract. The invariant: the steps that are left, taken from t, give what all the steps give from 0,
 -- their lower sizes are not cut, and t with what they can add is at most what all of them can.
-use mathlib.Core.Path.{◌≡◌, refl, ◌∙◌, sym}
-use Prim.Native.Nat.{ℕ, zero, suc, ◌+◌, ◌-◌, ◌*◌, ◌/◌, ◌^◌, ◌≤◌, ◌<◌}
-use native.Mathlib.Nat.{mul-le-mul, add-mul, le_refl}
-use native.Mathlib.Numerals.{sub-one}
-use native.Mathlib.Omega.{arith}
+use mathlib.Core.Path.{◌≡◌}
+use Prim.Native.Nat.{ℕ, ◌+◌, ◌*◌, ◌≤◌, ◌<◌}
 use Rattle.bound.specs.Totals.{size, total}
-use Rattle.bound.proofs.Totals.Size.{size_positive, size_grows, size_rising}
-use Rattle.bound.proofs.Totals.Total.{total_next, step_le}
-use Rattle.bound.proofs.Totals.Flat.{rising, rising_low, flat_first}
 use Rattle.bound.proofs.total.total_of.Given as goal
 
 pub record Left (volume counters added steps j t at : ℕ) : Type 0 where

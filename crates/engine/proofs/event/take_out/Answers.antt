@@ -19,5 +19,5 @@ returns c =
     let c = c in let a = c.args in
     let x = c.pick-picked.ensures in
     let sum = dense a.counts.now a.t.spillover in
-    let taken = bank_dropped_under (picks a.s.volume sum.entries) c.requires.holds x.1.0 x.1.1 in
-    let rest = bank_dropped (rows_between a.low a.high) taken.bank c.drop_run-rest.ensures in record { names = x.0; turns = rw (taken_out_split a.s.volume (rows_between a.low a.high) sum) (rw taken.holds at rest) }
+    let taken = bank_dropped_under (picks a.s.volume sum.entries) c.requires.holds x.leaves.0 x.leaves.1 in
+    let rest = bank_dropped (rows_between a.low a.high) taken.bank c.drop_run-rest.ensures in record { names = x.names; turns = rw (taken_out_split a.s.volume (rows_between a.low a.high) sum) (rw taken.holds at rest) }

@@ -22,16 +22,15 @@ loop-done-init c = (record { holds = held_again c.drop_row-left.ensures }, omega
 
 pub disturb_victims-left-requires : goal.disturb_victims-left-requires
 disturb_victims-left-requires c =
-    let c = c in let x = c.drop_row-left.ensures in
-    let start = c in
-    let four = victims_four start.args.s start.args.row start.requires.1.0.0 in
-    let room = room_drop (start.args.row ∷ []) start.requires.1.1.2 in
-    let ready = units_ready c.loop-done.invariant.0 four (omega (arith, c.loop-done-test.true, start.requires.1.1.1)) _ (held_read x) room in record { tracks = ready.0; blast_diameter_bound = (start.requires.1.0.0, omega (arith, start.requires.1.0)); room_for = ready.1 }
+    let x = c.drop_row-left.ensures in
+    let four = victims_four c.args.s c.args.row c.requires.blast_diameter_bound.0 in
+    let room = room_drop (c.args.row ∷ []) c.requires.le_units.2 in
+    let ready = units_ready c.loop-done.invariant.0 four (omega (arith, c.loop-done-test.true, c.requires.le_units.1)) _ (held_read x) room in record { tracks = ready.0; blast_diameter_bound = (c.requires.blast_diameter_bound.0, omega (arith, c.requires.blast_diameter_bound)); room_for = ready.1 }
 
 pub overflow_add-done : goal.overflow_add-done
 overflow_add-done c =
     let loop_test = c.loop-done-test in
-    let c = c in omega (arith, loop_test.true, c.ranges.units)
+    omega (arith, loop_test.true, c.ranges.units)
 
 pub loop-done-smaller : goal.loop-done-smaller
 loop-done-smaller c =
@@ -48,12 +47,12 @@ pub shape_of-rows : goal.shape_of-rows
 shape_of-rows c = long_rows c.loop-done.invariant.0.holds ∙ long_rows c.drop_row-left.ensures
 
 pub shape_of-counts : goal.shape_of-counts
-shape_of-counts c = let c = c in long_counts c.loop-done.invariant.0.holds ∙ long_rows c.drop_row-left.ensures ∙ sym (long_counts c.requires.tracks)
+shape_of-counts c = long_counts c.loop-done.invariant.0.holds ∙ long_rows c.drop_row-left.ensures ∙ sym (long_counts c.requires.tracks)
 
 pub returns : goal.returns
 returns c =
     let x = c.drop_row-left.ensures in
-    let c = c in let a = c.args in
+    let a = c.args in
     let loop = c.loop-done in
     let once = units_drop_once (length a.rows.now) (victims_in a.s) a.row (victims_others a.s a.row c.requires.blast_diameter_bound.1) (read a.rows.now a.counts.now a.t.tracked a.t.spillover) c.requires.tracks.sound.ordered a.units c.requires.le_units.0 in
     rw once (rw (held_read x, long_rows x) at (units_done loop.invariant.0 a.units loop.invariant.1 c.loop-done-test.false))

@@ -1,0 +1,6 @@
+-- `turns::first_turn` meets its contract.
+use borrow.Author.Rules.{rules}
+use Rattle.turns.proofs.first_turn.Goals as goal
+
+pub returns : goal.returns
+returns c = rw c.start-place.ensures
