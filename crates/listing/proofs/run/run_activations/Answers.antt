@@ -28,7 +28,7 @@ overflow_add-row c =
     let l = c.loop-row in
     let on = not-false _ c.if-not-p.false in
     let inside = c.loop-row-test.true in
-    let less = c.if-activations-s.true in
+    let less : l.activations < c.args.p.settings.interval = omega arith in
     let free = run_free l.invariant on inside less (omega (arith, (c.requires.1.bank on).most)) in
     let facts = activation_facts (moved c.args.p c.args.p.events l.activations l.tally (numbers_on c.args.p.lines l.invariant.count)) l.counts l.invariant.runs.ready l.row 1 free in
     omega (arith, entry_below c.args.p.remap facts.allowed (l.row % 16) (mod-lt l.row (lit< tt)), inside, (c.requires.1.bank on).most)
@@ -39,7 +39,7 @@ activate-tally-requires c =
     let l = c.loop-row in
     let on = not-false _ c.if-not-p.false in
     let inside = c.loop-row-test.true in
-    let less = c.if-activations-s.true in
+    let less : l.activations < c.args.p.settings.interval = omega arith in
     let free = run_free l.invariant on inside less (omega (arith, (c.requires.1.bank on).most)) in
     let q = moved c.args.p c.args.p.events l.activations l.tally (numbers_on c.args.p.lines l.invariant.count) in record {
       holds = l.invariant.banked.bank on;
@@ -84,7 +84,7 @@ loop-row-preserved c =
     let l = c.loop-row in
     let on = not-false _ c.if-not-p.false in
     let inside = c.loop-row-test.true in
-    let less = c.if-activations-s.true in
+    let less : l.activations < c.args.p.settings.interval = omega arith in
     running_more l.invariant on inside less (omega (arith, inside, (c.requires.1.bank on).most)) c.activate-tally.ensures (activates_told c.args.text.now _ _ c.activation_row-row-in-loop-row.ensures)
 
 pub overflow_sub-at : goal.overflow_sub-at
