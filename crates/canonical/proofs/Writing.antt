@@ -5,7 +5,7 @@ use mathlib.Core.Logic.{⊎_elim}
 use mathlib.Core.List.Memᴰ
 use mathlib.Core.List.{List, [], ◌∷◌, ◌++◌}
 use mathlib.Core.Option.{Option, none, some}
-use Prim.Native.Nat.{ℕ, zero, suc, ◌+◌, ◌≤◌, ◌<◌}
+use Prim.Native.Nat.{ℕ, zero, suc, ◌≤◌, ◌<◌}
 use native.Mathlib.Omega.{arith}
 use borrow.Author.Tests.{ltb-true, leb-true, le-leb, eqb-true, eqb-false, eq-eqb}
 use lib.Dec.{eqb, leb, ltb}
@@ -120,11 +120,11 @@ answer_faultless (accepted Blank) h e = (of_blank, h)
 answer_faultless (refused k) h e = absurd (omega arith)
 
 readable_behind : {standing : Option ℕ} (os : List (Outcome Record)) → Standing standing → first_fault standing os ≡ 0 → Readables os
-readable_behind [] h e = no_answer
-readable_behind {standing} (o ∷ os) h e =
+readable_behind {standing = standing} [] h e = no_answer
+readable_behind {standing = standing} (o ∷ os) h e =
     let first = first_fault_none standing o os e in
     let answer = answer_faultless o h first.0 in
-    one_answer_more answer.0 (readable_behind os answer.1 first.1)
+    one_answer_more answer.0 (readable_behind {standing = standing_behind standing o} os answer.1 first.1)
 
 pub faultless_readable : (os : List (Outcome Record)) → first_fault none os ≡ 0 → Readables os
 faultless_readable os e = readable_behind os no_settings e

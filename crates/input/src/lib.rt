@@ -6,7 +6,7 @@ ghost use Rattle.input.specs.AtHand.{input_of, Came};
 ghost use Rattle.input.specs.Files.{is_descriptor, no_file, standard_input};
 
 use std::fs;
-use std::io::{Read, Stdin};
+use std::io::{Error, Read, Stdin, Write};
 use std::os::fd::AsRawFd;
 
 // Where the bytes of a file come from.
@@ -152,4 +152,30 @@ pub fn reads_again(more: bool, left: u64) -> bool
     ensures { result ≡ more && ltb 0 left }
 {
     more && 0 < left
+}
+
+// Words on standard error, where they can be written.
+pub fn say(rt: &HostRuntime, words: &[u8]) {
+    let _ = rt.stderr().write_all(words);
+}
+
+// What went wrong, on standard error: the words, and why, by the system's number.
+pub fn tell(rt: &HostRuntime, words: &[u8], reason: i32) {
+    say(rt, words);
+    say(rt, b": ");
+    if let Ok(text) = format!(in rt.alloc(); "{}", Error::from_raw_os_error(reason)) {
+        match text.as_str().split_once(" (os error ") {
+            Some((why, _)) => say(rt, why.as_bytes()),
+            None => say(rt, text.as_bytes()),
+        }
+    }
+    say(rt, b"\n");
+}
+
+// Writes all of the bytes to standard output, or says why not, by the system's number.
+pub fn write(rt: &HostRuntime, bytes: &[u8]) -> Result<(), i32> {
+    match rt.stdout().write_all(bytes) {
+        Ok(()) => Ok(()),
+        Err(error) => Err(error.raw_os_error().unwrap_or(0)),
+    }
 }

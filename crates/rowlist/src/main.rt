@@ -6,7 +6,6 @@ ghost use Rattle.aids.specs.Marks.{Marked};
 ghost use Rattle.aids.specs.Bounds.{all_bounds};
 ghost use Rattle.rowlist.specs.Runs.{RanIn};
 
-use libc::STDOUT_FILENO;
 use turns::Turn;
 
 // A count for every row of the largest bank, a word of marks for each 64 of them and one for each 64 of these, and as many bounds; the bytes of a read,
@@ -21,15 +20,17 @@ const TEXT: usize = 6_144;
 
 const OUT: usize = 339_968;
 
-// How a run ended: what its last step left, and whether all that was to be written was.
+// How a run ended: what its last step left, whether all that was to be written was, and why not, or why the last read failed.
 #[derive(Clone, Copy)]
 struct Ended {
     turn: Turn,
     written: bool,
+    reason: i32,
 }
 
 // Reads, lists and writes, until the input ends or a read or write fails.
 fn run(
+    rt: &HostRuntime,
     counts: &mut [u32],
     marks: &mut [u64],
     bounds: &mut [u32],
@@ -39,43 +40,55 @@ fn run(
     requires { Marked counts.old marks.old × (length bounds.old ≡ all_bounds) × (length text.old ≡ 6144) × (length out.old ≡ 339968) }
     ensures { RanIn result counts text out }
 {
-    let file = input::standard_input();
+    let mut file = input::standard_input(rt.stdin());
     let mut turn = turns::first_turn();
     let mut left = u64::MAX;
     while input::reads_again(turn.more, left) {
-        turn = turns::next_turn(turn, file, counts, marks, bounds, text, out);
+        turn = turns::next_turn(turn, &mut file, counts, marks, bounds, text, out);
         left -= 1;
         let end = turn.end;
-        if !io::write_all(STDOUT_FILENO, &out[..end]) {
+        if let Err(reason) = input::write(rt, &out[..end]) {
             return Ended {
                 turn,
                 written: false,
+                reason,
             };
         }
     }
     Ended {
         turn,
         written: true,
+        reason: input::reason(&file),
     }
 }
 
 // What went wrong, on standard error.
-fn tell(ended: Ended) {
+fn tell(rt: &HostRuntime, ended: Ended) {
     if !ended.written {
-        os::fail(b"rowlist: cannot write the listing");
+        input::tell(rt, b"rowlist: cannot write the listing", ended.reason);
         return;
     }
     let turn = ended.turn;
     if turn.failed {
-        os::fail(b"rowlist: cannot read the trace");
+        input::tell(rt, b"rowlist: cannot read the trace", ended.reason);
     }
 }
 
-fn main() {
+fn main(rt: HostRuntime) {
     let mut counts = [0u32; ROWS];
     let mut marks = [0u64; MARKS];
     let mut bounds = [0u32; BOUNDS];
     let mut text = [0u8; TEXT];
     let mut out = [0u8; OUT];
-    tell(run(&mut counts, &mut marks, &mut bounds, &mut text, &mut out));
+    tell(
+        &rt,
+        run(
+            &rt,
+            &mut counts,
+            &mut marks,
+            &mut bounds,
+            &mut text,
+            &mut out,
+        ),
+    );
 }

@@ -316,8 +316,7 @@ fn text_behind(text: &[u8], answer: Read) -> &[u8]
     rest(text, place_behind(answer))
 }
 
-// The line at a place of the text, with the text behind it as a part of the caller's. The struct that is made holds a reference:
-// the proof is a walk by hand, over covered functions.
+// The line at a place of the text, with the text behind it as a part of the caller's.
 pub fn next_line<'a>(text: &'a [u8], place: usize) -> Parsed<'a>
     ensures { (said result.answer ≡ reading text.now place) × HandedOn text.entry (reading text.now place).place result.rest }
 {

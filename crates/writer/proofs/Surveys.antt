@@ -5,12 +5,14 @@ use Prim.Native.Nat.{ℕ, zero, suc, ◌<◌}
 use native.Mathlib.Nat.{le_of_suc-le-suc, not-suc-le-zero}
 use lib.ListN.{length, get_or}
 use Rattle.trace.specs.declared.Read.{Read}
-use Rattle.trace.specs.declared.Read.TheVariants.{Refused}
+use Rattle.trace.specs.declared.Read.TheVariants.{Line}
+use Rattle.trace.specs.declared.Record.TheVariants.{Set}
 use Rattle.writer.specs.declared.Survey.{Survey}
 use Rattle.writer.specs.InnerContracts.{surveyed, surveys}
 
+-- answer k; behind the last one, the value that the code's index gives there
 abbrev pub answer_at : List Read → ℕ → Read
-answer_at ys k = get_or ys k (Refused 0)
+answer_at ys k = get_or ys k (Line (Set record { rows = 0; blast_diameter = 0; volume = 0; counters = 0; interval = 0; window = 0; block = 0 }) 0)
 
 -- over the first k answers
 pub first_surveyed : ℕ → List Read → Survey → Survey

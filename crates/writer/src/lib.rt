@@ -83,7 +83,7 @@ fn survey_start(room: usize) -> Survey
     }
 }
 
-// The first pass: it tests the answers and adds up their bytes. A slice of enums: the proof is a walk by hand.
+// The first pass: it tests the answers and adds up their bytes.
 fn survey_all(answers: &[Read], room: usize) -> Survey
     ensures { result ≡ surveys (survey_start room) answers.now }
 {
@@ -120,7 +120,7 @@ fn concluded(v: Survey, room: usize) -> Written
     Written::Bytes(room - v.left)
 }
 
-// The second pass: it writes the first answers. A slice of enums: the proof is a walk by hand.
+// The second pass: it writes the first answers.
 fn print_first(answers: &[Read], count: usize, text: &mut [u8])
     requires { (count ≤ length answers.now) × (length (spelling (outcomes_of (take count answers.now))) ≤ length text.old) }
     ensures { text.new ≡ written text.old 0 (spelling (outcomes_of (take count answers.now))) }
@@ -133,7 +133,7 @@ fn print_first(answers: &[Read], count: usize, text: &mut [u8])
     }
 }
 
-// Writes the one spelling of the reader's answers to the front of a lent text. A slice of enums: the proof is a walk by hand.
+// Writes the one spelling of the reader's answers to the front of a lent text.
 pub fn write(answers: &[Read], text: &mut [u8]) -> Written
     ensures { write_left result text ≡ writing (outcomes_of answers.now) text.old }
 {

@@ -1,27 +1,12 @@
 -- `agreement::agree` meets its contract.
 use mathlib.Core.Path.{◌≡◌, sym, ◌∙◌}
-use mathlib.Core.Bool.{true, ◌&&◌}
-use borrow.Author.Rules.{rules}
-use borrow.Author.Tests.{not-true, not-false}
-use Rattle.laws.specs.Same.{same}
-use Rattle.device.specs.Refusal.{first_failed}
 use Rattle.state.specs.State.{given}
-use Rattle.agreement.specs.Calls.{same_settings, same_position, same_tracked, agreement_tests}
+use Rattle.agreement.specs.Calls.{same_tracked}
 use Rattle.agreement.specs.Answers.{agreement_outcome}
 use Rattle.agreement.proofs.Calls.Tests.{agreement_passed, compared, tracked_rows, tracked_counts}
 use Rattle.agreement.proofs.Calls.Outcomes.{agreement_refused, agreement_set_up_differs, agreement_position_differs, agreement_tracked}
 use Rattle.agreement.proofs.Alike.{same_position_alike}
 use Rattle.agreement.proofs.agree.Goals as goal
-
--- what is known where a test passed
-accepts : (c : tie.Else1) → let a = c.before.before.before.before.before.before.args in first_failed (agreement_tests a.s a.remap (given a.rows.now a.counts.now a.p) a.s2 a.remap2 (given a.rows2.now a.counts2.now a.p2)) ≡ 0
-accepts c = sym c.before.agreement-refusal.ensures ∙ c.if1.false
-
-alike : (c : tie.Else2) → let a = c.before.before.before.before.before.before.before.before.args in (same_settings a.s a.s2 && same a.remap a.remap2) ≡ true
-alike c = sym c.before.same_set_up.ensures ∙ c.if2.false
-
-placed : (c : tie.Else3) → let a = c.before.before.before.before.before.before.before.before.before.before.args in same_position a.p a.p2 ≡ true
-placed c = sym c.before.same-position.ensures ∙ c.if3.false
 
 pub returns-then-k-ne0 : goal.returns-then-k-ne0
 unfolding agreement_outcome
@@ -34,13 +19,13 @@ pub returns-then-not-same_set_up : goal.returns-then-not-same_set_up
 unfolding agreement_outcome
 returns-then-not-same_set_up c =
     let a = c.args in
-    agreement_set_up_differs a.s a.remap (given a.rows.now a.counts.now a.p) a.s2 a.remap2 (given a.rows2.now a.counts2.now a.p2) (accepts c) (sym c.same_set_up.ensures ∙ c.if-not-same_set_up.true)
+    agreement_set_up_differs a.s a.remap (given a.rows.now a.counts.now a.p) a.s2 a.remap2 (given a.rows2.now a.counts2.now a.p2) (sym c.agreement_refusal-k.ensures ∙ c.if-k-ne0.false) (sym c.same_set_up.ensures ∙ c.if-not-same_set_up.true)
 
 pub returns-then-not-same_position : goal.returns-then-not-same_position
 unfolding agreement_outcome given
 returns-then-not-same_position c =
     let a = c.args in
-    agreement_position_differs a.s a.remap (given a.rows.now a.counts.now a.p) a.s2 a.remap2 (given a.rows2.now a.counts2.now a.p2) (accepts c) (alike c) (sym c.same_position.ensures ∙ c.if-not-same_position.true)
+    agreement_position_differs a.s a.remap (given a.rows.now a.counts.now a.p) a.s2 a.remap2 (given a.rows2.now a.counts2.now a.p2) (sym c.agreement_refusal-k.ensures ∙ c.if-k-ne0.false) (sym c.same_set_up.ensures ∙ c.if-not-same_set_up.false) (sym c.same_position.ensures ∙ c.if-not-same_position.true)
 
 pub same_tracked-requires : goal.same_tracked-requires
 unfolding given
@@ -48,13 +33,13 @@ same_tracked-requires c =
     let a = c.args in
     let st = given a.rows.now a.counts.now a.p in
     let st' = given a.rows2.now a.counts2.now a.p2 in
-    let same : a.p.tracked ≡ a.p2.tracked = (λ i. (same_position_alike a.p a.p2 (placed c) i).tracked) in
-    let both = compared a.s st a.s2 st' (agreement_passed a.s st a.s2 st' a.remap a.remap2 (accepts c)) in
+    let same : a.p.tracked ≡ a.p2.tracked = (λ i. (same_position_alike a.p a.p2 (sym c.same_position.ensures ∙ c.if-not-same_position.false) i).tracked) in
+    let both = compared a.s st a.s2 st' (agreement_passed a.s st a.s2 st' a.remap a.remap2 (sym c.agreement_refusal-k.ensures ∙ c.if-k-ne0.false)) in
     (tracked_rows both.first, tracked_counts both.first, rw same (tracked_rows both.second), rw same (tracked_counts both.second))
 
 pub returns : goal.returns
 unfolding agreement_outcome given same_tracked
 returns c =
     let a = c.args in
-    let same : a.p.tracked ≡ a.p2.tracked = (λ i. (same_position_alike a.p a.p2 (placed c) i).tracked) in
-    agreement_tracked a.s a.remap (given a.rows.now a.counts.now a.p) a.s2 a.remap2 (given a.rows2.now a.counts2.now a.p2) (accepts c) (alike c) (placed c) (rw (← same) c.same_tracked.ensures)
+    let same : a.p.tracked ≡ a.p2.tracked = (λ i. (same_position_alike a.p a.p2 (sym c.same_position.ensures ∙ c.if-not-same_position.false) i).tracked) in
+    agreement_tracked a.s a.remap (given a.rows.now a.counts.now a.p) a.s2 a.remap2 (given a.rows2.now a.counts2.now a.p2) (sym c.agreement_refusal-k.ensures ∙ c.if-k-ne0.false) (sym c.same_set_up.ensures ∙ c.if-not-same_set_up.false) (sym c.same_position.ensures ∙ c.if-not-same_position.false) (rw (← same) c.same_tracked.ensures)

@@ -1,29 +1,10 @@
 -- `agreement::agreement_refusal` meets its contract.
-use mathlib.Core.Path.{◌≡◌, sym, ◌∙◌}
-use mathlib.Core.Bool.{true, false}
-use borrow.Author.Rules.{rules}
-use borrow.Author.Tests.{not-true, not-false}
-use Rattle.device.specs.Refusal.{refuse, first_failed}
-use Rattle.device.specs.Remap.{remap_allowed}
+use mathlib.Core.Path.{sym, ◌∙◌}
+use Rattle.device.specs.Refusal.{refuse}
 use Rattle.device.proofs.Refusal.{or_later_first, or_later_zero}
 use Rattle.state.specs.State.{given}
-use Rattle.agreement.specs.InnerContracts.{both_tables_tests}
 use Rattle.agreement.proofs.Calls.Tests.{agreement_tested, tables_passed}
 use Rattle.agreement.proofs.agreement_refusal.Goals as goal
-
--- what each test says where it passed
-tables : (c : tie.Else1) → let a = c.before.before.before.before.before.before.args in first_failed (both_tables_tests a.s a.rows.now a.counts.now a.s2 a.rows2.now a.counts2.now) ≡ 0
-tables c = sym c.before.tables-refusal.ensures ∙ c.if1.false
-
-allowed : (c : tie.Else2) → remap_allowed c.before.before.before.before.before.before.before.before.args.remap ≡ true
-allowed c = sym c.before.remap-allowed.ensures ∙ c.if2.false
-
-allowed-2 : (c : tie.Else3) → remap_allowed c.before.before.before.before.before.before.before.before.before.before.args.remap2 ≡ true
-allowed-2 c = sym c.before.remap-allowed2.ensures ∙ c.if3.false
-
--- and where it refused
-refused-2 : (c : tie.Then3) → remap_allowed c.before.before.before.before.before.before.before.before.before.before.args.remap2 ≡ false
-refused-2 c = sym c.before.remap-allowed2.ensures ∙ c.if3.true
 
 pub returns-then-k-ne0 : goal.returns-then-k-ne0
 unfolding given
@@ -36,22 +17,22 @@ pub returns-then-not-remap_allowed : goal.returns-then-not-remap_allowed
 unfolding given refuse
 returns-then-not-remap_allowed c =
     let a = c.args in
-    rw (agreement_tested a.s (given a.rows.now a.counts.now a.p) a.s2 (given a.rows2.now a.counts2.now a.p2) a.remap a.remap2, or_later_zero _ _ (tables c), sym c.remap_allowed.ensures ∙ c.if-not-remap_allowed.true)
+    rw (agreement_tested a.s (given a.rows.now a.counts.now a.p) a.s2 (given a.rows2.now a.counts2.now a.p2) a.remap a.remap2, or_later_zero _ _ (sym c.tables_refusal-k.ensures ∙ c.if-k-ne0.false), sym c.remap_allowed.ensures ∙ c.if-not-remap_allowed.true)
 
 pub returns-then-not-remap_allowed-2 : goal.returns-then-not-remap_allowed-2
 unfolding given refuse
 returns-then-not-remap_allowed-2 c =
     let a = c.args in
-    rw (agreement_tested a.s (given a.rows.now a.counts.now a.p) a.s2 (given a.rows2.now a.counts2.now a.p2) a.remap a.remap2, or_later_zero _ _ (tables c), allowed c, refused-2 c)
+    rw (agreement_tested a.s (given a.rows.now a.counts.now a.p) a.s2 (given a.rows2.now a.counts2.now a.p2) a.remap a.remap2, or_later_zero _ _ (sym c.tables_refusal-k.ensures ∙ c.if-k-ne0.false), sym c.remap_allowed.ensures ∙ c.if-not-remap_allowed.false, sym c.remap_allowed-2.ensures ∙ c.if-not-remap_allowed-2.true)
 
 pub both_valid-requires : goal.both_valid-requires
 both_valid-requires c =
     let a = c.args in
-    tables_passed a.s a.rows.now a.counts.now a.s2 a.rows2.now a.counts2.now (tables c)
+    tables_passed a.s a.rows.now a.counts.now a.s2 a.rows2.now a.counts2.now (sym c.tables_refusal-k.ensures ∙ c.if-k-ne0.false)
 
 pub returns : goal.returns
 unfolding given refuse
 returns c =
     let a = c.args in
-    rw (agreement_tested a.s (given a.rows.now a.counts.now a.p) a.s2 (given a.rows2.now a.counts2.now a.p2) a.remap a.remap2, or_later_zero _ _ (tables c), allowed c, allowed-2 c, ← c.both_valid.ensures)
+    rw (agreement_tested a.s (given a.rows.now a.counts.now a.p) a.s2 (given a.rows2.now a.counts2.now a.p2) a.remap a.remap2, or_later_zero _ _ (sym c.tables_refusal-k.ensures ∙ c.if-k-ne0.false), sym c.remap_allowed.ensures ∙ c.if-not-remap_allowed.false, sym c.remap_allowed-2.ensures ∙ c.if-not-remap_allowed-2.false, ← c.both_valid.ensures)
     c.refuse_unless.ensures

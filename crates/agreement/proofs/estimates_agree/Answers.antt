@@ -1,6 +1,5 @@
 -- `agreement::estimates_agree` meets its contract.
 use mathlib.Core.Path.{◌≡◌, sym, ◌∙◌}
-use borrow.Author.Rules.{rules}
 use Rattle.state.specs.State.{summary_of, given}
 use Rattle.agreement.specs.Answers.{agreement_outcome}
 use Rattle.agreement.proofs.Calls.Tests.{estimates_passed, compared, holds_own_length}

@@ -13,10 +13,10 @@ zeros_alike e same = e ∙ ap (λ (n : ℕ). replicate n 0) same
 pub check_in-verdict-requires : goal.check_in-verdict-requires
 check_in-verdict-requires c =
     let w = c.wipe in
-    (zeros_marked _ c.wipe-arg-1.given.0.1 w.ensures.0 (zeros_alike w.ensures.1.0 c.wipe-arg-2-1.given.0.1), w.auto.1.1.0 ∙ c.wipe-arg-3-1.given.0.1)
+    (zeros_marked _ c.told-counts w.ensures.counts_after (zeros_alike w.ensures.marks_after c.told-marks), w.auto.bounds ∙ c.told-bounds)
 
 pub returns : goal.returns
 returns c =
     let w = c.wipe.auto in
     let k = c.check_in-verdict.auto in
-    let z = c.wipe-2.ensures in record { result_value = c.check_in-verdict.ensures; counts_after = zeros_alike z.0 (k.1.1.0 ∙ w.0); marks_after = zeros_alike z.1.0 (k.1.1.1.0 ∙ w.1.0); bounds_after = zeros_alike z.1.1 (k.1.1.1.1.0 ∙ w.1.1.0) }
+    let z = c.wipe-2.ensures in record { result_value = c.check_in-verdict.ensures; counts_after = zeros_alike z.counts_after (k.counts ∙ w.counts); marks_after = zeros_alike z.marks_after (k.marks ∙ w.marks); bounds_after = zeros_alike z.bounds_after (k.bounds ∙ w.bounds) }

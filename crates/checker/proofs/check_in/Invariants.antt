@@ -23,7 +23,7 @@ pub record Stands (trace given counts marks bounds : List ℕ) (k : Checking) : 
   pub goes : k.more ≡ true → k.same ≡ true
   pub last : k.more ≡ false → k.same ≡ true → ended (drop k.taken trace) ≡ false
 
-left : List ℕ → Checking → ℕ
+abbrev pub left : List ℕ → Checking → ℕ
 left trace k = cond k.more (suc (length trace - k.taken)) 0
 
 abbrev pub invariant-loop-k : goal.invariant-loop-k

@@ -9,27 +9,27 @@ use Rattle.checker.proofs.check_rest.Goals as goal
 
 pub overflow_add-line : goal.overflow_add-line
 overflow_add-line c =
-    let c = c in let e = rw (sub-zero c.list_end-end.result) at c.compare-found.ensures in
-    record { fits = omega (arith, last_most c.args.k.lines c.list_end-end.ensures c.args.given.now c.args.k.passed e c.requires.2 c.requires.1, c.well-formed.1.1.0.1) }
+    let e = rw (sub-zero c.list_end-end.result) at c.compare-found.ensures in
+    record { fits = omega (arith, last_most c.args.k.lines c.list_end-end.ensures c.args.given.now c.args.k.passed e c.requires.2 c.requires.1, c.well_formed) }
 
 pub returns-then-not-found : goal.returns-then-not-found
 unfolding verdict_of
 returns-then-not-found c =
-    let c = c in let p = rw (rest_all c.args.trace.now c.args.k.taken) at c.list_end-end.ensures in
+    let p = rw (rest_all c.args.trace.now c.args.k.taken) at c.list_end-end.ensures in
     let e = rw (sub-zero c.list_end-end.result) at c.compare-found.ensures in
-    last_off c.args.k.lines p c.args.given.now c.args.k.passed e _ c.if-not-found.true (omega arith)
+    last_off c.args.k.lines p c.args.given.now c.args.k.passed e _ (not-true _ c.if-not-found.true) (omega arith)
 
 pub returns-then-end-given : goal.returns-then-end-given
 unfolding verdict_of
 returns-then-end-given c =
-    let c = c in let p = rw (rest_all c.args.trace.now c.args.k.taken) at c.list_end-end.ensures in
+    let p = rw (rest_all c.args.trace.now c.args.k.taken) at c.list_end-end.ensures in
     let e = rw (sub-zero c.list_end-end.result) at c.compare-found.ensures in
-    last_surplus c.args.k.lines p c.args.given.now c.args.k.passed e _ c.if-not-found.false (λ same. omega (arith, same, c.if-end-given.true)) (omega arith)
+    last_surplus c.args.k.lines p c.args.given.now c.args.k.passed e _ (not-false _ c.if-not-found.false) (λ same. omega (arith, same, c.if-end-given.true)) (omega arith)
 
 pub returns : goal.returns
 unfolding verdict_of
 returns c =
-    let c = c in let p = rw (rest_all c.args.trace.now c.args.k.taken) at c.list_end-end.ensures in
+    let p = rw (rest_all c.args.trace.now c.args.k.taken) at c.list_end-end.ensures in
     let e = rw (sub-zero c.list_end-end.result) at c.compare-found.ensures in
-    let all = c.if-not-found.false in
+    let all = (not-false _ c.if-not-found.false) in
     last_passes c.args.k.lines p c.args.given.now c.args.k.passed e all (omega (arith, c.if-end-given.false, last_fits c.args.k.lines p c.args.given.now c.args.k.passed e all))

@@ -8,7 +8,7 @@ use Rattle.checker.proofs.compare.Goals as goal
 
 pub lines_ended-requires : goal.lines_ended-requires
 lines_ended-requires c =
-    let c = c in let s = c.stands_at.ensures c.if-stands_at.true in
+    let s = c.stands_at.ensures c.if-stands_at.true in
     (s.few, omega (arith, s.enough, length-drop c.args.from c.args.given.now, c.requires.1, c.requires.0))
 
 pub returns-then-stands_at : goal.returns-then-stands_at

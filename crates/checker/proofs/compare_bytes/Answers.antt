@@ -80,7 +80,7 @@ pub overflow_add-at : goal.overflow_add-at
 overflow_add-at c =
     let l = c.loop-i.invariant in
     let h = c.loop-i-test.true in
-    record { fits = omega (arith, before_end l h c.if-at-given.false, c.well-formed.1.0.0) }
+    record { fits = omega (arith, before_end l h c.if-at-given.false, c.well_formed) }
 
 pub loop-i-preserved : goal.loop-i-preserved
 loop-i-preserved c =

@@ -44,9 +44,6 @@ returns-then-given-from c = λ on. clash (sym on)
 pub loop-i-init : goal.loop-i-init
 loop-i-init c = record { within = omega arith; same = λ on. refl }
 
-pub overflow_add-alike : goal.overflow_add-alike
-overflow_add-alike c = record { fits = omega (arith, c.loop-i-test.true, c.if-given-from.false, c.requires, c.well-formed.1.0.0) }
-
 pub bounds-given-from : goal.bounds-given-from
 bounds-given-from c = omega (arith, c.loop-i-test.true, c.if-given-from.false, c.requires)
 

@@ -1,7 +1,6 @@
 -- `dense::clear` meets its contract.
 use mathlib.Core.Path.{ap, ◌∙◌}
 use Prim.Native.Nat.{ℕ}
-use borrow.Author.Rules.{rules}
 use lib.ListN.{replicate}
 use Rattle.dense.proofs.InnerContracts.Turned.{turned_empty}
 use Rattle.dense.proofs.clear.Goals as goal

@@ -1,13 +1,11 @@
 -- `dense::disturb_around` meets its contract, by the laws of rows that are still to be disturbed.
 use mathlib.Core.Path.{◌≡◌, sym, ap, ◌∙◌}
 use mathlib.Core.List.{◌∷◌, ◌++◌}
-use Prim.Native.Nat.{ℕ, ◌+◌, ◌-◌, ◌≤◌, ◌<◌}
+use Prim.Native.Nat.{ℕ, ◌+◌, ◌≤◌, ◌<◌}
 use native.Mathlib.Omega.{arith}
 use Rattle.device.specs.Victims.{rows_between}
 use Rattle.device.proofs.Victims.{between_step, between_none}
-use Rattle.summary.specs.Steps.{disturb_each}
-use Rattle.dense.specs.Dense.{dense}
-use Rattle.dense.proofs.InnerContracts.Turned.{Disturbing, disturbing_start, disturbing_anew, disturbing_after, try_ready, raised_done, other_ready, other_done}
+use Rattle.dense.proofs.InnerContracts.Turned.{disturbing_start, disturbing_anew, disturbing_after, try_ready, raised_done, other_ready, other_done}
 use Rattle.dense.proofs.disturb_around.Goals.{then-not-raise, else-not-raise, then-not-raise-2, else-not-raise-2}
 use Rattle.dense.proofs.disturb_around.Goals as goal
 
@@ -52,8 +50,8 @@ loop-row-preserved c =
     let l = c.loop-row.invariant in
     let tried = c.raise.ensures in
     elim c.if-not-raise.branch [
-        then-not-raise w ↦ rw (w.counts-is, w.marks-is, w.bounds-is, w.left-is) (other_done l next inside tried w.if-not-raise.true w.disturb_other-left.ensures)
-        | else-not-raise w ↦ rw (w.counts-is, w.marks-is, w.bounds-is, w.left-is) (raised_done l next inside tried w.if-not-raise.false)
+      | then-not-raise w ↦ rw (w.counts-is, w.marks-is, w.bounds-is, w.left-is) (other_done l next inside tried w.if-not-raise.true w.disturb_other-left.ensures)
+      | else-not-raise w ↦ rw (w.counts-is, w.marks-is, w.bounds-is, w.left-is) (raised_done l next inside tried w.if-not-raise.false)
     ]
 
 pub overflow_add-above : goal.overflow_add-above
@@ -95,8 +93,8 @@ loop-above-preserved c =
     let l = c.loop-above.invariant in
     let tried = c.raise-in-loop-above.ensures in
     elim c.if-not-raise-2.branch [
-        then-not-raise-2 w ↦ rw (w.counts-is, w.marks-is, w.bounds-is, w.left-is) (other_done l next inside tried w.if-not-raise-2.true w.disturb_other-left-then-not-raise-2.ensures)
-        | else-not-raise-2 w ↦ rw (w.counts-is, w.marks-is, w.bounds-is, w.left-is) (raised_done l next inside tried w.if-not-raise-2.false)
+      | then-not-raise-2 w ↦ rw (w.counts-is, w.marks-is, w.bounds-is, w.left-is) (other_done l next inside tried w.if-not-raise-2.true w.disturb_other-left-then-not-raise-2.ensures)
+      | else-not-raise-2 w ↦ rw (w.counts-is, w.marks-is, w.bounds-is, w.left-is) (raised_done l next inside tried w.if-not-raise-2.false)
     ]
 
 pub shape_of-counts : goal.shape_of-counts

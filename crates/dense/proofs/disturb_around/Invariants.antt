@@ -1,15 +1,10 @@
 -- `dense::disturb_around` meets its contract, by the laws of rows that are still to be disturbed.
-use mathlib.Core.Path.{◌≡◌, sym, ap, ◌∙◌}
-use mathlib.Core.Logic.{⊎_elim}
-use mathlib.Core.List.{◌∷◌, ◌++◌}
-use Prim.Native.Nat.{ℕ, ◌+◌, ◌-◌, ◌≤◌, ◌<◌}
-use native.Mathlib.Omega.{arith}
-use borrow.Author.Tests.{not-true, not-false}
+use mathlib.Core.List.{◌++◌}
+use Prim.Native.Nat.{◌+◌, ◌-◌}
 use Rattle.device.specs.Victims.{rows_between}
-use Rattle.device.proofs.Victims.{between_step, between_none}
 use Rattle.summary.specs.Steps.{disturb_each}
 use Rattle.dense.specs.Dense.{dense}
-use Rattle.dense.proofs.InnerContracts.Turned.{Disturbing, disturbing_start, disturbing_anew, disturbing_after, try_ready, raised_done, other_ready, other_done}
+use Rattle.dense.proofs.InnerContracts.Turned.{Disturbing}
 use Rattle.dense.proofs.disturb_around.Given as goal
 
 abbrev pub invariant-loop-row : goal.invariant-loop-row

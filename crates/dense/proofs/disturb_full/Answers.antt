@@ -2,7 +2,6 @@
 use mathlib.Core.Path.{sym, ◌∙◌}
 use Prim.Native.Nat.{◌<◌}
 use native.Mathlib.Omega.{arith}
-use borrow.Author.Rules.{rules}
 use Rattle.dense.proofs.InnerContracts.DisturbedIn.{spill_zero, spill_nowhere, found_row, exchange}
 use Rattle.dense.proofs.disturb_full.Goals as goal
 

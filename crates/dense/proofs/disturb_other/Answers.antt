@@ -1,5 +1,4 @@
 -- `dense::disturb_other` meets its contract.
-use borrow.Author.Rules.{rules}
 use Rattle.dense.proofs.InnerContracts.Turned.{turned_disturbed}
 use Rattle.dense.proofs.disturb_other.Goals as goal
 

@@ -1,7 +1,6 @@
 -- `dense::disturb_untracked` meets its contract.
 use mathlib.Core.Path.{◌≡◌}
 use native.Mathlib.Omega.{arith}
-use borrow.Author.Rules.{rules}
 use Rattle.dense.proofs.InnerContracts.DisturbedIn.{enter_free}
 use Rattle.dense.proofs.disturb_untracked.Goals as goal
 

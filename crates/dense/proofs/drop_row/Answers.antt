@@ -1,6 +1,5 @@
 -- `dense::drop_row` meets its contract.
 use native.Mathlib.Omega.{arith}
-use borrow.Author.Rules.{rules}
 use Rattle.dense.proofs.InnerContracts.Left.{drop_none, drop_count, drop_some}
 use Rattle.dense.proofs.drop_row.Goals as goal
 

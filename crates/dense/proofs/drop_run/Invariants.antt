@@ -1,9 +1,7 @@
 -- `dense::drop_run` meets its contract, by the loop's laws.
-use mathlib.Core.Path.{refl, sym, ◌∙◌}
 use Prim.Native.Nat.{◌-◌}
-use native.Mathlib.Omega.{arith}
 use Rattle.dense.specs.Dense.{dense}
-use Rattle.dense.proofs.InnerContracts.Left.{fewer_same, Dropping, dropping_again, dropping_done}
+use Rattle.dense.proofs.InnerContracts.Left.{Dropping}
 use Rattle.dense.proofs.drop_run.Given as goal
 
 abbrev pub invariant-loop-row : goal.invariant-loop-row

@@ -1,13 +1,7 @@
 -- `dense::pick` meets its contract, by the loop's laws.
-use mathlib.Core.Path.{refl, sym, ◌∙◌}
-use mathlib.Core.List.{[]}
 use Prim.Native.Nat.{◌-◌}
-use native.Mathlib.Nat.{sub-zero}
-use native.Mathlib.Omega.{arith}
-use borrow.Author.Tests.{ltb-true, ltb-false}
 use Rattle.dense.specs.Dense.{dense}
-use Rattle.dense.proofs.InnerContracts.Left.{fewer_same}
-use Rattle.dense.proofs.InnerContracts.Picking.{Picking, picking_long, picking_again, picking_full, picking_empty}
+use Rattle.dense.proofs.InnerContracts.Picking.{Picking}
 use Rattle.dense.proofs.pick.Given as goal
 
 abbrev pub invariant-loop-i : goal.invariant-loop-i

@@ -1,7 +1,6 @@
 -- `dense::raise` meets its contract.
 use mathlib.Core.Path.{refl, sym}
 use native.Mathlib.Omega.{arith}
-use borrow.Author.Rules.{rules}
 use Rattle.laws.proofs.Cases.{clash}
 use Rattle.dense.proofs.raise.Goals as goal
 

@@ -1,7 +1,6 @@
 -- `dense::take_top` meets its contract.
 use mathlib.Core.Path.{refl}
 use native.Mathlib.Omega.{arith}
-use borrow.Author.Rules.{rules}
 use Rattle.aids.proofs.BoundsCapped.{capped_fewer}
 use Rattle.dense.specs.Dense.{entries_from, dense}
 use Rattle.dense.proofs.Dense.EntriesFrom.{picked_one}

@@ -12,4 +12,4 @@ pub returns : goal.returns
 returns c =
     let a = c.args in
     let l = c.list_part-part in
-    let k = c.keep-kept in record { out_value = chunk_parts (memory a.p a.counts.now) a.text.now a.len a.out.now (rw (sub-zero a.len) at l.ensures.0) k.ensures.0 k.ensures.1; banked_in = l.ensures.1 }
+    let k = c.keep-kept in record { out_value = chunk_parts (memory a.p a.counts.now) a.text.now a.len a.out.now (rw (sub-zero a.len) at l.ensures.out_value) k.ensures.0 k.ensures.1; banked_in = l.ensures.banked_in }

@@ -2,7 +2,6 @@
 use Prim.Native.Nat.{ℕ, ◌*◌, ◌^◌, ◌≤◌, ◌<◌}
 use native.Mathlib.Nat.{mul-le-mul}
 use native.Mathlib.Omega.{arith}
-use borrow.Author.Rules.{rules}
 use Rattle.device.proofs.Acceptance.{accepted_settings}
 use Rattle.bound.specs.Totals.{bound_of}
 use Rattle.bound.proofs.Totals.Bound.{disturbers_le}
@@ -15,18 +14,18 @@ product_lt ht hk = omega (arith, mul-le-mul ht hk)
 
 -- less can have gathered than H
 pub overflow_sub-later : goal.overflow_sub-later
-overflow_sub-later c = let c = c in omega (arith, (accepted_settings c.args.s c.requires.s_value).others.window.least)
+overflow_sub-later c = omega (arith, (accepted_settings c.args.s c.requires.s_value).others.window.least)
 
 pub nonzero_div-later : goal.nonzero_div-later
-nonzero_div-later c = let c = c in (accepted_settings c.args.s c.requires.s_value).others.block.least
+nonzero_div-later c = (accepted_settings c.args.s c.requires.s_value).others.block.least
 
 pub overflow_sub-later-2 : goal.overflow_sub-later-2
 unfolding own_event
-overflow_sub-later-2 c = let c = c in omega (arith, own_early c.args.s (accepted_settings c.args.s c.requires.s_value) c.args.row c.requires.row_lt_rows.0)
+overflow_sub-later-2 c = omega (arith, own_early c.args.s (accepted_settings c.args.s c.requires.s_value) c.args.row c.requires.row_lt_rows.0)
 
 pub overflow_mul-gathered : goal.overflow_mul-gathered
 overflow_mul-gathered c =
-    let c = c in let ok = (accepted_settings c.args.s c.requires.s_value).others in
+    let ok = (accepted_settings c.args.s c.requires.s_value).others in
     rw c.disturbers_of.ensures (record { fits = product_lt (disturbers_le c.args.s ok) (omega (arith, ok.window.most)) })
 
 pub returns-then-gathered-least : goal.returns-then-gathered-least
@@ -37,7 +36,7 @@ returns-then-gathered-least c =
     rw told (omega (arith, rw told at c.if-gathered-least.true, least))
 
 pub bound_at-requires : goal.bound_at-requires
-bound_at-requires c = let c = c in let n = (accepted_settings c.args.s c.requires.s_value).others.window in record { s_value = c.requires.s_value; events_nonzero = (omega (arith, n.least), omega (arith, n.most)) }
+bound_at-requires c = let n = (accepted_settings c.args.s c.requires.s_value).others.window in record { s_value = c.requires.s_value; events_nonzero = (omega (arith, n.least), omega (arith, n.most)) }
 
 pub returns : goal.returns
 unfolding carried_most own_event bound_of

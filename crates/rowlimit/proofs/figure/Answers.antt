@@ -17,15 +17,15 @@ pub bound_at-first-requires : goal.bound_at-first-requires
 bound_at-first-requires c = let n = (accepted_settings c.args.s c.requires.s_value).others.window in record { s_value = c.requires.s_value; events_nonzero = (omega arith, omega (arith, n.most, c.requires.events_lt_window.0)) }
 
 pub nonzero_div-row : goal.nonzero_div-row
-nonzero_div-row c = let c = c in (accepted_settings c.args.s c.requires.s_value).others.block.least
+nonzero_div-row c = (accepted_settings c.args.s c.requires.s_value).others.block.least
 
 pub carried-requires : goal.carried-requires
 unfolding bound_of
-carried-requires c = let c = c in record { s_value = c.requires.s_value; row_lt_rows = (c.requires.events_lt_window.1, rw c.bound_at-first.ensures (bound_grows c.args.s (omega (arith, c.requires.events_lt_window.0)))) }
+carried-requires c = record { s_value = c.requires.s_value; row_lt_rows = (c.requires.events_lt_window.1, rw c.bound_at-first.ensures (bound_grows c.args.s (omega (arith, c.requires.events_lt_window.0)))) }
 
 pub overflow_add-result : goal.overflow_add-result
 overflow_add-result c =
-    let c = c in let s = c.args.s in
+    let s = c.args.s in
     let first = c.bound_at-first in
     let ok = (accepted_settings s c.requires.s_value).others in
     let one : first.result < 2 ^ 29 = rw first.ensures (bound_at_lt s _ ok (omega (arith, ok.window.most, c.requires.events_lt_window.0))) in

@@ -1,7 +1,6 @@
 -- `rowlimit::row_limit` meets its contract.
 use mathlib.Core.Path.{◌≡◌, sym, ◌∙◌, ap}
 use native.Mathlib.Omega.{arith}
-use borrow.Author.Rules.{rules}
 use Rattle.device.specs.Refusal.{first_failed, accepted as accepted_with, refused}
 use Rattle.device.specs.Remap.{physical}
 use Rattle.device.proofs.Acceptance.{accepted_settings}

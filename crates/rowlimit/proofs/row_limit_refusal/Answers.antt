@@ -1,6 +1,5 @@
 -- `rowlimit::row_limit_refusal` meets its contract.
 use mathlib.Core.Path.{sym, ◌∙◌}
-use borrow.Author.Rules.{rules}
 use Rattle.device.proofs.Refusal.{or_later_first, or_later_zero}
 use Rattle.rowlimit.proofs.Tests.{row_limit_tested}
 use Rattle.rowlimit.proofs.row_limit_refusal.Goals as goal
@@ -13,7 +12,7 @@ returns-then-k-ne0 c =
 
 pub returns : goal.returns
 returns c =
-    let c = c in let a = c.args in
+    let a = c.args in
     rw (row_limit_tested a.s a.remap a.row a.p, or_later_zero _ _ (sym c.settings_refusal-k.ensures ∙ c.if-k-ne0.false))
     (rw (
       c.refuse_unless-2.ensures,
@@ -21,4 +20,4 @@ returns c =
       c.position_in_range.ensures,
       c.remap_allowed.ensures,
     )
-    c c.refuse_unless-3.ensures)
+    at c.refuse_unless-3.ensures)

@@ -2,7 +2,6 @@
 use mathlib.Core.Path.{◌∙◌, ap}
 use mir.Syntax.{w64}
 use mir.ValLaws.{to_z-of_z}
-use borrow.Author.Rules.{rules}
 use Rattle.bound.specs.Answers.{signed, settings_of}
 use Rattle.rowlimit.specs.Answers.{position_of}
 use Rattle.rowlimit.proofs.Answers.{small_row_limit_answer}

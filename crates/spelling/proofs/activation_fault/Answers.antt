@@ -1,7 +1,6 @@
 -- `spelling::activation_fault` meets its contract.
 use mathlib.Core.Path.{ap, ◌∙◌}
 use mathlib.Core.Bool.{Bool, not}
-use borrow.Author.Rules.{rules}
 use Rattle.device.specs.Refusal.{unless, refuse, first_failed}
 use Rattle.canonical.specs.Writing.{activation_fault}
 use Rattle.spelling.specs.Answers.{standing_of}

@@ -1,6 +1,5 @@
 -- `spelling::print_activation` meets its contract: by the hold.
 use native.Mathlib.Omega.{arith}
-use borrow.Author.Rules.{rules}
 use borrow.Author.Tests.{eq-eqb, ne_eqb}
 use Rattle.canonical.specs.Spelling.{activation_spelling}
 use Rattle.canonical.proofs.Spelling.Lengths.{length_activation_line}

@@ -1,5 +1,4 @@
 -- `spelling::print_event` meets its contract: a letter and a byte 10.
-use borrow.Author.Rules.{rules}
 use Rattle.canonical.specs.Spelling.{spelled_line}
 use Rattle.columns.specs.Output.{number_columns}
 use Rattle.columns.proofs.Output.{prints_then}

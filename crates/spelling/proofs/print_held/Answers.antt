@@ -1,5 +1,4 @@
 -- `spelling::print_held` meets its contract.
-use borrow.Author.Rules.{rules}
 use Rattle.spelling.proofs.print_held.Goals as goal
 
 pub returns : goal.returns

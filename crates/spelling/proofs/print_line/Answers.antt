@@ -1,6 +1,5 @@
 -- `spelling::print_line` meets its contract: a letter, numbers and a byte 10.
 use native.Mathlib.Omega.{arith}
-use borrow.Author.Rules.{rules}
 use lib.ListN.{take}
 use lib.Seq.{length-take-le}
 use Rattle.canonical.specs.Spelling.{spelled_line}

@@ -1,6 +1,5 @@
 -- `spelling::print_one_unit` meets its contract: a letter, a number and a byte 10.
 use native.Mathlib.Omega.{arith}
-use borrow.Author.Rules.{rules}
 use mathlib.Core.List.{append-nil}
 use Rattle.canonical.specs.Spelling.{spelled_line}
 use Rattle.columns.specs.Numbers.{printed}

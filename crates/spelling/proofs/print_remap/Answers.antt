@@ -1,5 +1,4 @@
 -- `spelling::print_remap` meets its contract.
-use borrow.Author.Rules.{rules}
 use Rattle.trace.specs.Records.{sixteen_of}
 use Rattle.spelling.proofs.print_remap.Goals as goal
 

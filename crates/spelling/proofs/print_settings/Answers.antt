@@ -1,5 +1,4 @@
 -- `spelling::print_settings` meets its contract.
-use borrow.Author.Rules.{rules}
 use Rattle.canonical.specs.Spelling.{settings_numbers}
 use Rattle.spelling.proofs.print_settings.Goals as goal
 

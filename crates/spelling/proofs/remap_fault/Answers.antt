@@ -1,5 +1,4 @@
 -- `spelling::remap_fault` meets its contract.
-use borrow.Author.Rules.{rules}
 use Rattle.device.specs.Refusal.{unless, first_failed}
 use Rattle.spelling.proofs.remap_fault.Goals as goal
 

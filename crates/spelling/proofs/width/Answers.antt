@@ -1,5 +1,4 @@
 -- `spelling::width` meets its contract: by the answer and its record.
-use borrow.Author.Rules.{rules}
 use mathlib.Core.Path.{sym, ◌∙◌}
 use Rattle.trace.specs.Reading.{said}
 use Rattle.canonical.specs.Spelling.{record_spelling, answer_spelling}
@@ -8,24 +7,24 @@ use Rattle.spelling.proofs.width.Goals as goal
 
 pub returns-in-Set : goal.returns-in-Set
 unfolding answer_spelling record_spelling said
-returns-in-Set c = rw (c.answer-1.given.1, c.enum_told-1.given.1) (sym (length_settings_line _))
+returns-in-Set c = rw (c.in-Line.is, c.in-Set.is) (sym (length_settings_line _))
 
 pub returns-in-Remap : goal.returns-in-Remap
 unfolding answer_spelling record_spelling said
-returns-in-Remap c = rw (c.answer-1.given.1, c.enum_told-in-Remap-1.given.1) (sym (length_remap_line _))
+returns-in-Remap c = rw (c.in-Line.is, c.in-Remap.is) (sym (length_remap_line _))
 
 pub returns-in-Activate : goal.returns-in-Activate
 unfolding answer_spelling record_spelling said
-returns-in-Activate c = let c = c in rw (c.answer-1.given.1, c.«record».given.1) (c.activation_width.ensures ∙ sym (length_activation_line _ _))
+returns-in-Activate c = let c = c in rw (c.in-Line.is, c.in-Activate.is) (c.activation_width.ensures ∙ sym (length_activation_line _ _))
 
 pub returns-in-Refresh : goal.returns-in-Refresh
 unfolding answer_spelling record_spelling said
-returns-in-Refresh c = rw (c.answer-1.given.1, c.enum_told-in-Refresh-1.given.1) (sym length_event_line)
+returns-in-Refresh c = rw (c.in-Line.is, c.in-Refresh.is) (sym length_event_line)
 
 pub returns-in-Blank : goal.returns-in-Blank
 unfolding answer_spelling record_spelling said
-returns-in-Blank c = rw (c.answer-1.given.1, c.enum_told-in-Blank-1.given.1)
+returns-in-Blank c = rw (c.in-Line.is, c.in-Blank.is)
 
 pub returns-in-Refused : goal.returns-in-Refused
 unfolding answer_spelling said
-returns-in-Refused c = rw c.enum_told-in-Refused-1.given.1
+returns-in-Refused c = rw c.in-Refused.is

@@ -1,16 +1,9 @@
 -- `state::counts_in_range` meets its contract. The invariant: the test of the counts from i on says what the whole test says.
-use mathlib.Core.Path.{◌≡◌, refl, ◌∙◌, sym}
-use mathlib.Core.Bool.{true, ◌&&◌}
+use mathlib.Core.Path.{◌≡◌}
 use mathlib.Core.List.{List}
-use Prim.Native.Nat.{ℕ, ◌+◌, ◌-◌, ◌≤◌, ◌<◌}
-use native.Mathlib.Numerals.{add-one}
-use native.Mathlib.Omega.{arith}
-use borrow.Author.Rules.{rules}
-use borrow.Author.Tests.{not-true, not-false}
-use lib.Dec.{leb}
-use lib.ListN.{length, take, drop, get_or}
-use Rattle.state.specs.State.{counts_allowed, most_count}
-use Rattle.tables.proofs.Scans.{used_step, left_none}
+use Prim.Native.Nat.{ℕ, ◌-◌}
+use lib.ListN.{take, drop}
+use Rattle.state.specs.State.{counts_allowed}
 use Rattle.state.proofs.counts_in_range.Given as goal
 
 pub record Left (t : List ℕ) (used spillover i : ℕ) : Type 0 where

@@ -1,5 +1,4 @@
 -- `state::counts_laid` meets its contract.
-use borrow.Author.Rules.{rules}
 use Rattle.state.proofs.counts_laid.Goals as goal
 
 pub returns-then-zeros_behind : goal.returns-then-zeros_behind

@@ -1,5 +1,4 @@
 -- `state::rows_laid` meets its contract.
-use borrow.Author.Rules.{rules}
 use Rattle.state.proofs.rows_laid.Goals as goal
 
 pub returns-then-ascending_rows : goal.returns-then-ascending_rows

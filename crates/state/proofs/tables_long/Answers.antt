@@ -1,6 +1,5 @@
 -- `state::tables_long` meets its contract.
 use borrow.Author.Tests.{eq-eqb, ne_eqb}
-use borrow.Author.Rules.{rules}
 use Rattle.state.specs.State.{tables_long}
 use Rattle.state.proofs.tables_long.Goals as goal
 

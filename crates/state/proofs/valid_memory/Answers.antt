@@ -1,7 +1,6 @@
 -- `state::valid_memory` meets its contract.
 use mathlib.Core.Path.{sym, ◌∙◌}
 use native.Mathlib.Omega.{arith}
-use borrow.Author.Rules.{rules}
 use Rattle.state.specs.State.{given}
 use Rattle.state.proofs.Valid.{tables_long_fit}
 use Rattle.state.proofs.valid_memory.Goals as goal

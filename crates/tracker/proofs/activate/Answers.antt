@@ -1,6 +1,5 @@
 -- `tracker::activate` meets its contract.
 use mathlib.Core.Path.{sym, ◌∙◌}
-use borrow.Author.Rules.{rules}
 use Rattle.state.specs.State.{given}
 use Rattle.tracker.specs.Answers.{activation_call, activation_accepts, activation_refusal, activation_position}
 use Rattle.tracker.proofs.Calls.Outcomes.{activation_refused, activation_done}

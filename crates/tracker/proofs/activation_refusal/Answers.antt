@@ -1,19 +1,13 @@
 -- `tracker::activation_refusal` meets its contract.
-use mathlib.Core.Path.{◌≡◌, sym, ◌∙◌}
-use mathlib.Core.Bool.{true}
+use mathlib.Core.Path.{sym, ◌∙◌}
 use native.Mathlib.Omega.{arith}
-use borrow.Author.Rules.{rules}
-use borrow.Author.Tests.{lt-ltb, le-ltb, not-true, not-false}
-use lib.Dec.{ltb}
-use Rattle.device.specs.Refusal.{refuse, first_failed}
-use Rattle.device.specs.Remap.{remap_allowed}
-use Rattle.device.specs.Hold.{hold_allowed}
+use borrow.Author.Tests.{lt-ltb, le-ltb}
+use Rattle.device.specs.Refusal.{refuse}
 use Rattle.device.proofs.Acceptance.{accepted_settings}
 use Rattle.device.proofs.Hold.{hold_between}
 use Rattle.device.proofs.Refusal.{or_later_first, or_later_zero}
-use Rattle.state.specs.State.{valid, given}
+use Rattle.state.specs.State.{given}
 use Rattle.state.proofs.Valid.{valid_facts}
-use Rattle.tracker.specs.InnerContracts.{tables_tests}
 use Rattle.tracker.proofs.Calls.Tests.{activation_tested}
 use Rattle.tracker.proofs.Calls.Ready.{open_tables}
 use Rattle.tracker.proofs.activation_refusal.Goals as goal

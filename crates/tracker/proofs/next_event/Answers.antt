@@ -1,7 +1,6 @@
 -- `tracker::next_event` meets its contract.
 use native.Mathlib.Omega.{arith}
 use borrow.Author.Tests.{eq-eqb, ne_eqb}
-use borrow.Author.Rules.{rules}
 use Rattle.tracker.specs.Calls.{next_event, ends_window}
 use Rattle.tracker.proofs.next_event.Goals as goal
 

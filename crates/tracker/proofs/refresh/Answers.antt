@@ -1,6 +1,5 @@
 -- `tracker::refresh` meets its contract.
 use mathlib.Core.Path.{sym, ◌∙◌}
-use borrow.Author.Rules.{rules}
 use Rattle.state.specs.State.{given}
 use Rattle.tracker.specs.Answers.{refresh_call, refresh_accepts, refresh_refusal, refresh_count, refresh_position}
 use Rattle.tracker.proofs.Calls.Outcomes.{refresh_refused}

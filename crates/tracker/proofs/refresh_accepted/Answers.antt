@@ -1,6 +1,5 @@
 -- `tracker::refresh_accepted` meets its contract.
 use native.Mathlib.Omega.{arith}
-use borrow.Author.Rules.{rules}
 use Rattle.summary.proofs.Rules.Room.{room_more}
 use Rattle.summary.proofs.InnerContracts.Holds.{tracked_le}
 use Rattle.state.specs.State.{summary_of, given}

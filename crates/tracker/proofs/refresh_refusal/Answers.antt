@@ -1,6 +1,5 @@
 -- `tracker::refresh_refusal` meets its contract.
 use mathlib.Core.Path.{sym, ◌∙◌}
-use borrow.Author.Rules.{rules}
 use borrow.Author.Tests.{le-leb, lt-leb}
 use lib.ListN.{length}
 use Rattle.device.specs.Refusal.{refuse}

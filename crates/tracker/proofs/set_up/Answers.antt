@@ -1,6 +1,5 @@
 -- `tracker::set_up` meets its contract.
 use mathlib.Core.Path.{sym, ◌∙◌}
-use borrow.Author.Rules.{rules}
 use Rattle.tracker.specs.Answers.{set_up_call, set_up_outcome}
 use Rattle.tracker.proofs.Calls.Outcomes.{set_up_refused, set_up_done}
 use Rattle.tracker.proofs.set_up.Goals as goal

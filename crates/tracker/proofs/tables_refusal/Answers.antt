@@ -1,6 +1,5 @@
 -- `tracker::tables_refusal` meets its contract.
 use mathlib.Core.Path.{sym, ◌∙◌}
-use borrow.Author.Rules.{rules}
 use Rattle.device.proofs.Refusal.{or_later_first, or_later_zero}
 use Rattle.tracker.proofs.Calls.Tests.{tables_tested}
 use Rattle.tracker.proofs.tables_refusal.Goals as goal

@@ -2,7 +2,6 @@
 use mathlib.Core.Path.{ap}
 use Prim.Native.Nat.{ℕ}
 use native.Mathlib.Omega.{arith}
-use borrow.Author.Rules.{rules}
 use Rattle.writer.specs.declared.Written.TheVariants.{Bytes}
 use Rattle.writer.specs.InnerContracts.{concluded_by, concluded}
 use Rattle.writer.proofs.FirstPass.{concluded_fault}

@@ -1,6 +1,5 @@
 -- `writer::surveyed` meets its contract: by the tests that it makes.
 use mathlib.Core.Path.{sym, ◌∙◌}
-use borrow.Author.Rules.{rules}
 use borrow.Author.Tests.{ne_eqb}
 use Rattle.writer.specs.InnerContracts.{surveyed}
 use Rattle.writer.proofs.FirstPass.{surveyed_fault, surveyed_room, surveyed_short}

@@ -1,5 +1,4 @@
 -- `estimates::at_row` meets its contract.
-use borrow.Author.Rules.{rules}
 use borrow.Author.Tests.{lt-ltb, le-ltb}
 use Rattle.agreement.specs.InnerContracts.{at_row}
 use Rattle.agreement.proofs.estimates.at_row.Goals as goal

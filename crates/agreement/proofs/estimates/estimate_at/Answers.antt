@@ -1,7 +1,6 @@
 -- `estimates::estimate_at` meets its contract.
 use mathlib.Core.Path.{◌∙◌, sym}
 use native.Mathlib.Omega.{arith}
-use borrow.Author.Rules.{rules}
 use Rattle.agreement.specs.InnerContracts.{estimate_at}
 use Rattle.agreement.proofs.InnerContracts.Walk.{at_row_tracked}
 use Rattle.agreement.proofs.estimates.estimate_at.Goals as goal

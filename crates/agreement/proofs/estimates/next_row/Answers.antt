@@ -1,5 +1,4 @@
 -- `estimates::next_row` meets its contract.
-use borrow.Author.Rules.{rules}
 use borrow.Author.Tests.{lt-ltb, le-ltb}
 use Rattle.agreement.specs.InnerContracts.{next_row}
 use Rattle.agreement.proofs.estimates.next_row.Goals as goal

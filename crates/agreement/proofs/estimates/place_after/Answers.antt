@@ -1,7 +1,6 @@
 -- `estimates::place_after` meets its contract.
 use mathlib.Core.Path.{◌∙◌, sym}
 use native.Mathlib.Omega.{arith}
-use borrow.Author.Rules.{rules}
 use Rattle.agreement.specs.InnerContracts.{place_after}
 use Rattle.agreement.proofs.InnerContracts.Walk.{at_row_tracked}
 use Rattle.agreement.proofs.estimates.place_after.Goals as goal

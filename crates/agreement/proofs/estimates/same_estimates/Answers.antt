@@ -1,10 +1,9 @@
 -- `estimates::same_estimates` meets its contract. The invariant: both walks have passed every row below low, and each of these has the same
 -- estimate in both summaries.
 use mathlib.Core.Path.{◌≡◌, ◌∙◌, sym}
-use mathlib.Core.Logic.{⊎_elim}
-use Prim.Native.Nat.{◌-◌}
 use native.Mathlib.Omega.{arith}
-use Rattle.agreement.proofs.InnerContracts.TwoWalks.{TwoWalks, walks_begin, lower_in_bank, gap_differs, walks_past_gap, row_differs, walks_past_row}
+use Rattle.agreement.proofs.InnerContracts.TwoWalks.{walks_begin, lower_in_bank, gap_differs, walks_past_gap, row_differs, walks_past_row}
+use Rattle.agreement.proofs.estimates.same_estimates.Goals.{then-low-row+else-t-t2, else-low-row}
 use Rattle.agreement.proofs.estimates.same_estimates.Goals as goal
 
 pub loop-low-init : goal.loop-low-init
@@ -14,13 +13,13 @@ pub lower_row-row-requires : goal.lower_row-row-requires
 lower_row-row-requires c = record { tracked_in_bounds = c.loop-low.invariant.first.rows_long; tracked_in_bounds_2 = c.loop-low.invariant.second.rows_long }
 
 pub returns-then-t-t2 : goal.returns-then-t-t2
-returns-then-t-t2 c = let c = c in sym (gap_differs c.lower_row-row.result c.loop-low.invariant c.lower_row-row.ensures c.if-low-row.true c.if-t-t2.true)
+returns-then-t-t2 c = sym (gap_differs c.lower_row-row.result c.loop-low.invariant c.lower_row-row.ensures c.if-low-row.true c.if-t-t2.true)
 
 pub returns-then-row-high : goal.returns-then-row-high
 returns-then-row-high c =
     let come =
     walks_past_gap c.lower_row-row.result c.loop-low.invariant c.lower_row-row.ensures
-    (λ h. ⊎_elim (λ w. w.3.left) (λ w. absurd (omega arith)) c.if-low-row.branch) in
+    (λ h. elim c.if-low-row.branch [ then-low-row+else-t-t2 w ↦ w.if-t-t2.false | else-low-row w ↦ absurd (omega arith) ]) in
     sym (rw c.if-row-high.true at come.same)
 
 pub estimate_at-x-requires : goal.estimate_at-x-requires
@@ -35,7 +34,7 @@ returns-then-x-estimate_at c =
     let lower_row = c.lower_row-row in
     let come =
     walks_past_gap lower_row.result turn.invariant lower_row.ensures
-    (λ h. ⊎_elim (λ w. w.3.left) (λ w. absurd (omega arith)) c.if-low-row.branch) in
+    (λ h. elim c.if-low-row.branch [ then-low-row+else-t-t2 w ↦ w.if-t-t2.false | else-low-row w ↦ absurd (omega arith) ]) in
     sym (row_differs come (omega (arith, come.within)) (λ e. c.if-x-estimate_at.true (c.estimate_at-x.ensures ∙ e ∙ sym c.estimate_at.ensures)))
 
 pub place_after-i-requires : goal.place_after-i-requires
@@ -64,14 +63,13 @@ pub loop-low-preserved : goal.loop-low-preserved
 loop-low-preserved c =
     let turn = c.loop-low in
     let lower_row = c.lower_row-row in
-    let if1 = c.if-low-row in
     let come =
     walks_past_gap lower_row.result turn.invariant lower_row.ensures
-    (λ h. ⊎_elim (λ w. w.3.left) (λ w. absurd (omega arith)) if1.branch) in
+    (λ h. elim c.if-low-row.branch [ then-low-row+else-t-t2 w ↦ w.if-t-t2.false | else-low-row w ↦ absurd (omega arith) ]) in
     rw (c.place_after-j.ensures, c.place_after-i.ensures)
     (walks_past_row come (omega (arith, come.within)) (sym c.estimate_at-x.ensures ∙ c.if-x-estimate_at.false ∙ c.estimate_at.ensures))
 
 pub returns : goal.returns
 returns c =
-    let c = c in let end : c.loop-low.low ≡ c.args.high = omega (arith, c.loop-low.invariant.within) in
+    let end : c.loop-low.low ≡ c.args.high = omega (arith, c.loop-low.invariant.within) in
     sym (rw end at c.loop-low.invariant.same)

@@ -1,10 +1,7 @@
 -- `estimates::same_estimates` meets its contract. The invariant: both walks have passed every row below low, and each of these has the same
 -- estimate in both summaries.
-use mathlib.Core.Path.{◌≡◌, ◌∙◌, sym}
-use mathlib.Core.Logic.{⊎_elim}
 use Prim.Native.Nat.{◌-◌}
-use native.Mathlib.Omega.{arith}
-use Rattle.agreement.proofs.InnerContracts.TwoWalks.{TwoWalks, walks_begin, lower_in_bank, gap_differs, walks_past_gap, row_differs, walks_past_row}
+use Rattle.agreement.proofs.InnerContracts.TwoWalks.{TwoWalks}
 use Rattle.agreement.proofs.estimates.same_estimates.Given as goal
 
 abbrev pub invariant-loop-low : goal.invariant-loop-low

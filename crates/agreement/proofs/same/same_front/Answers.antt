@@ -2,7 +2,7 @@
 use mathlib.Core.Path.{◌≡◌, refl, ◌∙◌, sym}
 use mathlib.Core.Bool.{true, ◌&&◌}
 use mathlib.Core.List.{List}
-use Prim.Native.Nat.{ℕ, ◌+◌, ◌-◌, ◌≤◌, ◌<◌}
+use Prim.Native.Nat.{ℕ, ◌+◌, ◌≤◌, ◌<◌}
 use native.Mathlib.Numerals.{add-one}
 use native.Mathlib.Omega.{arith}
 use borrow.Author.Tests.{eq-eqb, ne_eqb}
@@ -30,17 +30,15 @@ loop-i-init c = record { says = refl }
 
 pub returns-then-a-i : goal.returns-then-a-i
 returns-then-a-i c =
-    let c = c in let come = c in
     rw (
-      here c.loop-i.invariant come.requires.0 come.requires.1 c.loop-i-test.true,
-      ne_eqb (get_or come.args.a.now c.loop-i.i 0) (get_or come.args.b.now c.loop-i.i 0) c.if-a-i.true,
+      here c.loop-i.invariant c.requires.used_in_bounds c.requires.used_in_bounds_2 c.loop-i-test.true,
+      ne_eqb (get_or c.args.a.now c.loop-i.i 0) (get_or c.args.b.now c.loop-i.i 0) c.if-a-i.true,
     )
 
 pub loop-i-preserved : goal.loop-i-preserved
 loop-i-preserved c =
-    let c = c in let come = c in
-    next c.loop-i.invariant come.requires.0 come.requires.1 c.loop-i-test.true
-    (eq-eqb (get_or come.args.a.now c.loop-i.i 0) (get_or come.args.b.now c.loop-i.i 0) c.if-a-i.false)
+    next c.loop-i.invariant c.requires.used_in_bounds c.requires.used_in_bounds_2 c.loop-i-test.true
+    (eq-eqb (get_or c.args.a.now c.loop-i.i 0) (get_or c.args.b.now c.loop-i.i 0) c.if-a-i.false)
     (omega arith)
 
 pub returns : goal.returns

@@ -1,6 +1,5 @@
 -- `aids::bounds::cover` meets its contract. A block's place is before the groups', so that the two stores are at different places.
 use native.Mathlib.Omega.{arith}
-use borrow.Author.Rules.{rules}
 use lib.ListN.{length-set}
 use Rattle.aids.proofs.BoundsCapped.{covers_stored}
 use Rattle.aids.proofs.bounds.cover.Goals as goal

@@ -1,7 +1,6 @@
 -- `aids::bounds::first_highest` meets its contract. The invariant: the highest number stands at none of the places passed.
 use Prim.Native.Nat.{◌-◌}
-use borrow.Author.Rules.{rules}
-use Rattle.aids.proofs.BoundsTop.{Passed, passed_start, passed_next, passed_top}
+use Rattle.aids.proofs.BoundsTop.{Passed}
 use Rattle.aids.proofs.bounds.first_highest.Given as goal
 
 abbrev pub invariant-loop-i : goal.invariant-loop-i

@@ -1,9 +1,7 @@
 -- `aids::bounds::highest` meets its contract. The invariant: the best is the highest of the places passed.
-use Prim.Native.Nat.{◌-◌, ◌≤◌}
 use mathlib.Core.Path.{◌≡◌}
 use native.Mathlib.Omega.{arith}
 use borrow.Author.Rules.{rules}
-use Rattle.aids.specs.Bounds.{Highest}
 use Rattle.aids.proofs.BoundsTop.{highest_start, highest_next}
 use Rattle.aids.proofs.bounds.highest.Goals as goal
 

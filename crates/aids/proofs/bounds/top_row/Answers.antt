@@ -1,11 +1,10 @@
 -- `aids::bounds::top_row` meets its contract. The invariant: the bounds hold, and a row that is found is the first of the highest count. The measure is
 -- all bounds together, and one more for the last turn.
 use mathlib.Core.List.{List}
-use Prim.Native.Nat.{ℕ, ◌+◌, ◌-◌, ◌≤◌, ◌<◌}
+use Prim.Native.Nat.{ℕ, ◌<◌}
 use native.Mathlib.Omega.{arith}
-use borrow.Author.Rules.{rules}
 use Rattle.device.specs.Acceptance.{most_rows}
-use Rattle.aids.specs.Bounds.{Capped, Top, total, Tried}
+use Rattle.aids.specs.Bounds.{Tried}
 use Rattle.aids.proofs.BoundsTop.{highest_is}
 use Rattle.aids.proofs.BoundsTried.{tried_less}
 use Rattle.aids.proofs.bounds.top_row.Invariants.{Left}

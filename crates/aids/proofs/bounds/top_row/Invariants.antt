@@ -2,12 +2,8 @@
 -- all bounds together, and one more for the last turn.
 use mathlib.Core.List.{List}
 use Prim.Native.Nat.{ℕ, ◌+◌, ◌-◌, ◌≤◌, ◌<◌}
-use native.Mathlib.Omega.{arith}
-use borrow.Author.Rules.{rules}
 use Rattle.device.specs.Acceptance.{most_rows}
-use Rattle.aids.specs.Bounds.{Capped, Top, total, Tried}
-use Rattle.aids.proofs.BoundsTop.{highest_is}
-use Rattle.aids.proofs.BoundsTried.{tried_less}
+use Rattle.aids.specs.Bounds.{Capped, Top, total}
 use Rattle.aids.proofs.bounds.top_row.Given as goal
 
 pub record Left (counts bounds : List ℕ) (row : ℕ) : Type 0 where

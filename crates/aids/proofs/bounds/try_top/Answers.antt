@@ -1,5 +1,4 @@
 -- `aids::bounds::try_top` meets its contract. At each of its three ends one law says what the try came to.
-use borrow.Author.Rules.{rules}
 use Rattle.aids.proofs.BoundsTried.{try_group, try_block, try_row}
 use Rattle.aids.proofs.bounds.try_top.Goals as goal
 

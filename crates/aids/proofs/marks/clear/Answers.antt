@@ -1,7 +1,6 @@
 -- `aids::marks::clear` meets its contract.
 use mathlib.Core.Path.{ap, ◌∙◌}
 use Prim.Native.Nat.{ℕ}
-use borrow.Author.Rules.{rules}
 use lib.ListN.{replicate}
 use Rattle.aids.proofs.Emptied.{unmarked}
 use Rattle.aids.proofs.marks.clear.Goals as goal

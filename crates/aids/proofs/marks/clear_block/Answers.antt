@@ -1,11 +1,8 @@
 -- `aids::marks::clear_block` meets its contract. The invariant: the places passed hold 0, and the others what they held.
 use mathlib.Core.Path.{◌≡◌}
-use mathlib.Core.List.{List}
-use Prim.Native.Nat.{ℕ, ◌+◌, ◌-◌, ◌≤◌}
+use Prim.Native.Nat.{◌+◌}
 use native.Mathlib.Omega.{arith}
-use Rattle.aids.specs.Marks.{Emptied}
 use Rattle.aids.proofs.Emptied.{emptied_none, emptied_more}
-use Rattle.aids.proofs.marks.clear_block.Invariants.{Passed}
 use Rattle.aids.proofs.marks.clear_block.Goals as goal
 
 pub loop-i-init : goal.loop-i-init

@@ -1,10 +1,7 @@
 -- `aids::marks::clear_block` meets its contract. The invariant: the places passed hold 0, and the others what they held.
-use mathlib.Core.Path.{◌≡◌}
 use mathlib.Core.List.{List}
 use Prim.Native.Nat.{ℕ, ◌+◌, ◌-◌, ◌≤◌}
-use native.Mathlib.Omega.{arith}
 use Rattle.aids.specs.Marks.{Emptied}
-use Rattle.aids.proofs.Emptied.{emptied_none, emptied_more}
 use Rattle.aids.proofs.marks.clear_block.Given as goal
 
 pub record Passed (counts₀ counts : List ℕ) (from i : ℕ) : Type 0 where

@@ -1,11 +1,7 @@
 -- `aids::marks::clear_marked` meets its contract. The invariant: the rows of the words passed have no count, and the others what they had.
-use mathlib.Core.Logic.{⊎_elim}
-use mathlib.Core.List.{List}
-use Prim.Native.Nat.{ℕ, ◌+◌, ◌*◌, ◌-◌, ◌≤◌}
+use Prim.Native.Nat.{◌+◌, ◌*◌}
 use native.Mathlib.Omega.{arith}
-use Rattle.aids.specs.Marks.{row_words, Emptied}
 use Rattle.aids.proofs.Emptied.{emptied_none, emptied_on, emptied_word, emptied_all}
-use Rattle.aids.proofs.marks.clear_marked.Invariants.{Passed}
 use Rattle.aids.proofs.marks.clear_marked.Goals.{then-marks-w-ne0, else-marks-w-ne0}
 use Rattle.aids.proofs.marks.clear_marked.Goals as goal
 
@@ -24,8 +20,8 @@ loop-w-preserved c =
     record {
       emptied =
           elim c.if-marks-w-ne0.branch [
-              then-marks-w-ne0 v ↦ rw v.counts-is (emptied_on l.invariant.emptied v.clear_block.ensures (omega arith) ((l.w + 1) * 64) (omega arith))
-              | else-marks-w-ne0 v ↦ rw v.counts-is (emptied_word c.requires l.w l.invariant.emptied (omega (arith, v.if-marks-w-ne0.false)))
+            | then-marks-w-ne0 v ↦ rw v.counts-is (emptied_on l.invariant.emptied v.clear_block.ensures (omega arith) ((l.w + 1) * 64) (omega arith))
+            | else-marks-w-ne0 v ↦ rw v.counts-is (emptied_word c.requires l.w l.invariant.emptied (omega (arith, v.if-marks-w-ne0.false)))
           ];
       most = omega arith;
     }

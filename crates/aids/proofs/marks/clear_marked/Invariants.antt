@@ -1,10 +1,7 @@
 -- `aids::marks::clear_marked` meets its contract. The invariant: the rows of the words passed have no count, and the others what they had.
-use mathlib.Core.Logic.{⊎_elim}
 use mathlib.Core.List.{List}
-use Prim.Native.Nat.{ℕ, ◌+◌, ◌*◌, ◌-◌, ◌≤◌}
-use native.Mathlib.Omega.{arith}
+use Prim.Native.Nat.{ℕ, ◌*◌, ◌-◌, ◌≤◌}
 use Rattle.aids.specs.Marks.{row_words, Emptied}
-use Rattle.aids.proofs.Emptied.{emptied_none, emptied_on, emptied_word, emptied_all}
 use Rattle.aids.proofs.marks.clear_marked.Given as goal
 
 pub record Passed (counts₀ counts : List ℕ) (w : ℕ) : Type 0 where

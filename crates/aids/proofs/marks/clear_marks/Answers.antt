@@ -1,10 +1,10 @@
 -- `aids::marks::clear_marks` meets its contract. The invariant: 0 at the places passed, and behind them what was there.
 use mathlib.Core.Path.{◌≡◌, refl}
-use mathlib.Core.List.{List, ◌++◌, append-nil}
-use Prim.Native.Nat.{ℕ, ◌+◌, ◌-◌, ◌≤◌, ◌<◌}
+use mathlib.Core.List.{List, append-nil}
+use Prim.Native.Nat.{ℕ, ◌+◌, ◌<◌}
 use native.Mathlib.Omega.{arith}
 use borrow.Author.Fill.{fill_none, fill_more}
-use lib.ListN.{length, drop, set, replicate, length-set}
+use lib.ListN.{length, set, replicate, length-set}
 use lib.Seq.{drop-length}
 use Rattle.aids.proofs.marks.clear_marks.Invariants.{Cleared}
 use Rattle.aids.proofs.marks.clear_marks.Goals as goal

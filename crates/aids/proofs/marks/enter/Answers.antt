@@ -1,6 +1,5 @@
 -- `aids::marks::enter` meets its contract.
 use mathlib.Core.Path.{refl}
-use borrow.Author.Rules.{rules}
 use Rattle.aids.proofs.Stores.{marked_entered}
 use Rattle.aids.proofs.marks.enter.Goals as goal
 

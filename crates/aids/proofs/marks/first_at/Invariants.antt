@@ -1,10 +1,7 @@
 -- `aids::marks::first_at` meets its contract. The invariant: no row before those of the next word is at the count, and no word is behind the last.
 use mathlib.Core.List.{List}
-use Prim.Native.Nat.{ℕ, ◌+◌, ◌*◌, ◌/◌, ◌-◌, ◌≤◌}
-use native.Mathlib.Omega.{arith}
+use Prim.Native.Nat.{ℕ, ◌*◌, ◌-◌, ◌≤◌}
 use Rattle.aids.specs.Marks.{row_words, Clear}
-use Rattle.aids.proofs.Shown.{rows_from, words_from}
-use Rattle.aids.proofs.Searches.{clear_less, sought_found, sought_none}
 use Rattle.aids.proofs.marks.first_at.Given as goal
 
 pub record Passed (counts : List ℕ) (count next : ℕ) : Type 0 where

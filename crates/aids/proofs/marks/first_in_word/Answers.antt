@@ -1,14 +1,11 @@
 -- `aids::marks::first_in_word` meets its contract. The invariant: no row before the one looked at is at the count, and what is left of the word shows
 -- those from it on. The measure is how many those are.
-use mathlib.Core.List.{List}
-use Prim.Native.Nat.{ℕ, ◌-◌, ◌<◌}
+use Prim.Native.Nat.{◌<◌}
 use native.Mathlib.Omega.{arith}
 use lib.Count.{count_trailing_zeros}
-use Rattle.aids.specs.Marks.{Clear, Shows, at_number}
 use Rattle.aids.proofs.Bits.{few_zeros}
 use Rattle.aids.proofs.Shown.{lowest_inside, rest, rest_less}
 use Rattle.aids.proofs.Searches.{clear_on, clear_skipped, clear_end, found_at, missed_all}
-use Rattle.aids.proofs.marks.first_in_word.Invariants.{Left}
 use Rattle.aids.proofs.marks.first_in_word.Goals as goal
 
 pub loop-left-init : goal.loop-left-init

@@ -2,12 +2,7 @@
 -- those from it on. The measure is how many those are.
 use mathlib.Core.List.{List}
 use Prim.Native.Nat.{ℕ, ◌-◌, ◌<◌}
-use native.Mathlib.Omega.{arith}
-use lib.Count.{count_trailing_zeros}
 use Rattle.aids.specs.Marks.{Clear, Shows, at_number}
-use Rattle.aids.proofs.Bits.{few_zeros}
-use Rattle.aids.proofs.Shown.{lowest_inside, rest, rest_less}
-use Rattle.aids.proofs.Searches.{clear_on, clear_skipped, clear_end, found_at, missed_all}
 use Rattle.aids.proofs.marks.first_in_word.Given as goal
 
 pub record Left (counts : List ℕ) (count left row end : ℕ) : Type 0 where

@@ -1,14 +1,11 @@
 -- `aids::marks::first_in_words` meets its contract. The invariant: no row before those of the word looked at is at the count, and what is left of the
 -- word of words shows those from it on. The measure is how many those are.
-use mathlib.Core.List.{List}
-use Prim.Native.Nat.{ℕ, ◌+◌, ◌*◌, ◌-◌, ◌<◌}
+use Prim.Native.Nat.{◌+◌, ◌*◌, ◌<◌}
 use native.Mathlib.Omega.{arith}
 use lib.Count.{count_trailing_zeros}
-use Rattle.aids.specs.Marks.{Clear, Shows, in_use}
 use Rattle.aids.proofs.Bits.{few_zeros}
 use Rattle.aids.proofs.Shown.{lowest_inside, rest, rest_less, rows_of_word}
 use Rattle.aids.proofs.Searches.{clear_less, clear_words_skipped, clear_words_end, missed_all, found_part}
-use Rattle.aids.proofs.marks.first_in_words.Invariants.{Left}
 use Rattle.aids.proofs.marks.first_in_words.Goals as goal
 
 pub loop-left-init : goal.loop-left-init
@@ -41,7 +38,7 @@ first_in_word-row-requires c =
     let c = c in let some : 0 < l.left = omega (arith, c.loop-left-test.true) in
     let w = l.w + count_trailing_zeros 64 l.left in
     let inside = lowest_inside l.invariant.shows some in
-    (c.requires.0.counts_long, omega arith, rows_of_word c.requires.0 c.requires.1 w (omega (arith, c.shared_slice_known-in-loop-left-1.given w)), clear_words_skipped c.requires.0 c.requires.1 l.invariant.shows l.invariant.clear some)
+    (c.requires.0.counts_long, omega arith, rows_of_word c.requires.0 c.requires.1 w (omega (arith, c.type_inv.marks w)), clear_words_skipped c.requires.0 c.requires.1 l.invariant.shows l.invariant.clear some)
 
 pub returns-then-row-ne-ROWS : goal.returns-then-row-ne-ROWS
 returns-then-row-ne-ROWS c = let c = c in found_part (c.args.end * 64) c.first_in_word-row.ensures c.if-row-ne-ROWS.true

@@ -1,13 +1,8 @@
 -- `aids::marks::first_in_words` meets its contract. The invariant: no row before those of the word looked at is at the count, and what is left of the
 -- word of words shows those from it on. The measure is how many those are.
 use mathlib.Core.List.{List}
-use Prim.Native.Nat.{ℕ, ◌+◌, ◌*◌, ◌-◌, ◌<◌}
-use native.Mathlib.Omega.{arith}
-use lib.Count.{count_trailing_zeros}
+use Prim.Native.Nat.{ℕ, ◌*◌, ◌-◌, ◌<◌}
 use Rattle.aids.specs.Marks.{Clear, Shows, in_use}
-use Rattle.aids.proofs.Bits.{few_zeros}
-use Rattle.aids.proofs.Shown.{lowest_inside, rest, rest_less, rows_of_word}
-use Rattle.aids.proofs.Searches.{clear_less, clear_words_skipped, clear_words_end, missed_all, found_part}
 use Rattle.aids.proofs.marks.first_in_words.Given as goal
 
 pub record Left (counts marks : List ℕ) (count left w end : ℕ) : Type 0 where

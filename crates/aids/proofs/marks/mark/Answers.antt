@@ -1,7 +1,6 @@
 -- `aids::marks::mark` meets its contract.
 use Prim.Native.Nat.{◌%◌}
 use native.Mathlib.Omega.{arith}
-use borrow.Author.Rules.{rules}
 use Rattle.aids.specs.Marks.{with_mark}
 use Rattle.aids.proofs.Bits.{one_shifted}
 use Rattle.aids.proofs.marks.mark.Goals as goal

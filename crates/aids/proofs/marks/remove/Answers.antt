@@ -1,7 +1,6 @@
 -- `aids::marks::remove` meets its contract. Where the row's word has no mark any more, the word's mark is turned too.
 use mathlib.Core.Path.{refl}
 use native.Mathlib.Omega.{arith}
-use borrow.Author.Rules.{rules}
 use Rattle.aids.proofs.Stores.{marked_emptied, marked_removed}
 use Rattle.aids.proofs.marks.remove.Goals as goal
 

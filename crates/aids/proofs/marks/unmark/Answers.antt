@@ -2,7 +2,6 @@
 use mathlib.Core.Path.{refl, sym}
 use Prim.Native.Nat.{◌/◌, ◌%◌}
 use native.Mathlib.Omega.{arith}
-use borrow.Author.Rules.{rules}
 use lib.Seq.{get_or-set_same}
 use Rattle.aids.specs.Marks.{turned}
 use Rattle.aids.proofs.Bits.{one_shifted}

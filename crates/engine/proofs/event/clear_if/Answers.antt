@@ -1,6 +1,5 @@
 -- `engine::event::clear_if` meets its contract.
 use mathlib.Core.Path.{refl}
-use borrow.Author.Rules.{rules}
 use Rattle.summary.specs.Steps.{cleared_if}
 use Rattle.engine.proofs.event.clear_if.Goals as goal
 

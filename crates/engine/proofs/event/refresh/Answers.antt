@@ -2,7 +2,6 @@
 use Prim.Native.Nat.{◌*◌}
 use native.Mathlib.Nat.{mul-le-mul}
 use native.Mathlib.Omega.{arith}
-use borrow.Author.Rules.{rules}
 use lib.ListN.{take}
 use lib.Seq.{length-take-le}
 use Rattle.device.specs.Victims.{rows_between}
@@ -52,8 +51,12 @@ spread_run-after-requires c =
     let x = taken.ensures.names in
     let long = taken.auto.picks in
     let names = take taken.result.count taken.new.picks in
-    let sum = dense a.counts.now a.t.spillover in record { holds = named.bank; blast_diameter_bound = (p.0, omega (arith, count_picked_le x, p.6, long), omega (arith, high), omega (arith, high, p.3)); room_for = room_named a.s.rows a.s.counters a.s.volume (victims_in a.s) _ (ends_window a.s a.e) sum names (take_picked x) taken.ensures.turns c.clear_if-begun.ensures named (λ row. victims_four a.s row p.0)
-            (omega (arith, length-take-le taken.result.count taken.new.picks (omega (arith, count_picked_le x, p.6, long)), count_picked_le x, p.2)) c.requires.ranges.1 }
+    let sum = dense a.counts.now a.t.spillover in record {
+      holds = named.bank;
+      blast_diameter_bound = (p.0, omega (arith, count_picked_le x, p.6, long), omega (arith, high), omega (arith, high, p.3));
+      room_for = room_named a.s.rows a.s.counters a.s.volume (victims_in a.s) _ (ends_window a.s a.e) sum names (take_picked x) taken.ensures.turns c.clear_if-begun.ensures named (λ row. victims_four a.s row p.0)
+          (omega (arith, length-take-le taken.result.count taken.new.picks (omega (arith, count_picked_le x, p.6, long)), count_picked_le x, p.2)) c.requires.ranges.1;
+    }
 
 pub shape_of-counts : goal.shape_of-counts
 shape_of-counts c = same_counts c.requires.holds c.spread_run-after.ensures.bank
@@ -76,5 +79,8 @@ returns c =
     let x = taken.ensures.names in
     let names = take taken.result.count taken.new.picks in
     let block = rows_between (a.e * a.s.block) smaller.result in
-    let sum = dense a.counts.now a.t.spillover in record { names = x; turns = rw (← smaller.ensures)
-          (turned_event a.s.rows a.s.counters a.s.volume (victims_in a.s) block (ends_window a.s a.e) sum names (take_picked x) taken.ensures.turns c.clear_if-begun.ensures c.spread_picks-named.ensures c.spread_run-after.ensures) }
+    let sum = dense a.counts.now a.t.spillover in record {
+      names = x;
+      turns = rw (← smaller.ensures)
+          (turned_event a.s.rows a.s.counters a.s.volume (victims_in a.s) block (ends_window a.s a.e) sum names (take_picked x) taken.ensures.turns c.clear_if-begun.ensures c.spread_picks-named.ensures c.spread_run-after.ensures);
+    }

@@ -1,19 +1,16 @@
 -- `engine::event::spread_picks` meets its contract. The invariant: the rows left, on the summary as it is now.
 use mathlib.Core.Path.{refl}
-use Prim.Native.Nat.{◌+◌, ◌-◌, ◌*◌, ◌≤◌}
 use native.Mathlib.Numerals.{add-one}
 use native.Mathlib.Omega.{arith}
-use lib.ListN.{get_or, take, drop}
+use lib.ListN.{get_or}
 use lib.Seq.{get_or-take, length-take-le}
-use Rattle.device.specs.Victims.{victims}
 use Rattle.device.proofs.Victims.{length_victims_le}
 use Rattle.tables.proofs.Scans.{used_step, left_none}
 use Rattle.summary.proofs.Rules.Room.{room_more}
 use Rattle.tracker.specs.Calls.{victims_in}
 use Rattle.tracker.proofs.Steps.Spread.{below_at}
-use Rattle.dense.specs.Dense.{dense}
 use Rattle.dense.proofs.Bridge.{same_counts, same_marks, same_bounds}
-use Rattle.engine.proofs.Steps.Spread.{Spreading, spreading_again, spreading_done}
+use Rattle.engine.proofs.Steps.Spread.{spreading_again, spreading_done}
 use Rattle.engine.proofs.event.spread_picks.Goals as goal
 
 pub loop-i-init : goal.loop-i-init
@@ -30,12 +27,15 @@ disturb_victims-left-requires c =
     let c = c in let a = c.args in
     let p = c.requires.blast_diameter_bound in
     let loop = c.loop-i in
-    let less = c.loop-i-test.true in record { holds = loop.invariant.0.bank; diameter_bound = (
+    let less = c.loop-i-test.true in record {
+      holds = loop.invariant.0.bank;
+      diameter_bound = (
         p.0,
         rw (get_or-take a.used a.picks.now loop.i 0 less) at
             (below_at p.3 loop.i (omega (arith, less, length-take-le a.used a.picks.now p.2))),
         room_more loop.invariant.0.room (omega (arith, less, p.1)),
-      ) }
+      );
+    }
 
 pub overflow_add-i : goal.overflow_add-i
 overflow_add-i c = omega (arith, c.loop-i-test.true, c.requires.blast_diameter_bound.1)

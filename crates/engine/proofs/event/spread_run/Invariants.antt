@@ -1,17 +1,11 @@
 -- `engine::event::spread_run` meets its contract. The invariant: the rows left, on the summary as it is now.
-use mathlib.Core.Path.{refl}
 use Prim.Native.Nat.{◌+◌, ◌-◌, ◌*◌, ◌≤◌}
-use native.Mathlib.Omega.{arith}
 use lib.ListN.{take}
 use Rattle.device.specs.Victims.{rows_between}
-use Rattle.device.proofs.Victims.{between_step, between_none}
 use Rattle.summary.specs.Steps.{besides}
-use Rattle.summary.proofs.Rules.Room.{room_more}
 use Rattle.tracker.specs.Calls.{victims_in}
-use Rattle.tracker.proofs.Calls.VictimsIn.{victims_four}
 use Rattle.dense.specs.Dense.{dense}
-use Rattle.dense.proofs.Bridge.{same_counts, same_marks, same_bounds}
-use Rattle.engine.proofs.Steps.Spread.{Spreading, spreading_beside, spreading_done}
+use Rattle.engine.proofs.Steps.Spread.{Spreading}
 use Rattle.engine.proofs.event.spread_run.Given as goal
 
 abbrev pub invariant-loop-row : goal.invariant-loop-row

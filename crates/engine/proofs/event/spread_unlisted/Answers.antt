@@ -1,6 +1,5 @@
 -- `engine::event::spread_unlisted` meets its contract.
 use mathlib.Core.Path.{refl, sym, ◌∙◌}
-use borrow.Author.Rules.{rules}
 use Rattle.summary.specs.Steps.{spread, besides}
 use Rattle.tracker.specs.Calls.{victims_in}
 use Rattle.engine.proofs.event.spread_unlisted.Goals as goal

@@ -1,6 +1,5 @@
 -- `engine::event::take_out` meets its contract: the picked rows are dropped, then the block's.
 use native.Mathlib.Omega.{arith}
-use borrow.Author.Rules.{rules}
 use Rattle.device.specs.Victims.{rows_between}
 use Rattle.summary.specs.Entries.{picks}
 use Rattle.tracker.proofs.Steps.Event.{taken_out_split}

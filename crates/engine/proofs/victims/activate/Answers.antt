@@ -1,7 +1,6 @@
 -- `engine::victims::activate` meets its contract: the row is dropped once, and the invariant counts the units done since.
 use mathlib.Core.Path.{refl}
 use mathlib.Core.List.{[], ◌∷◌}
-use Prim.Native.Nat.{◌-◌, ◌≤◌}
 use native.Mathlib.Omega.{arith}
 use Rattle.device.specs.Hold.{repeated}
 use Rattle.device.specs.Victims.{victims}
@@ -10,7 +9,7 @@ use Rattle.summary.proofs.Rules.Room.{room_drop}
 use Rattle.tracker.proofs.Steps.Units.{units_drop_once}
 use Rattle.dense.specs.Dense.{dense}
 use Rattle.dense.proofs.Bridge.{bank_sound, bank_dropped, same_counts, same_marks, same_bounds}
-use Rattle.engine.proofs.Steps.Units.{Units, units_room, units_again, units_done}
+use Rattle.engine.proofs.Steps.Units.{units_room, units_again, units_done}
 use Rattle.engine.proofs.victims.activate.Goals as goal
 
 pub drop_row-left-requires : goal.drop_row-left-requires

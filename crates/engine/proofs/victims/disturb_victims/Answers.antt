@@ -1,6 +1,5 @@
 -- `engine::victims::disturb_victims` meets its contract: its victims are the rows around it.
 use native.Mathlib.Omega.{arith}
-use borrow.Author.Rules.{rules}
 use Rattle.engine.proofs.Steps.Around.{victims_around}
 use Rattle.engine.proofs.victims.disturb_victims.Goals as goal
 

@@ -33,10 +33,10 @@ returns c =
     let f = c.physical_row-physical.ensures in record { leaves_in = rw m.ensures (activation_moves c.args.p c.args.counts.now c.requires.0 c.args.row c.args.hold c.requires.2 c.args.line f t); banked_in = rw m.ensures (banked_moved c.args.p _ _ c.args.line t) }
 
 pub shape_of-counts : goal.shape_of-counts
-shape_of-counts c = let c = c in (returns c).1.marked.counts_long ∙ sym c.requires.1.marked.counts_long
+shape_of-counts c = let c = c in (returns c).banked_in.marked.counts_long ∙ sym c.requires.1.marked.counts_long
 
 pub shape_of-marks : goal.shape_of-marks
-shape_of-marks c = let c = c in (returns c).1.marked.marks_long ∙ sym c.requires.1.marked.marks_long
+shape_of-marks c = let c = c in (returns c).banked_in.marked.marks_long ∙ sym c.requires.1.marked.marks_long
 
 pub shape_of-bounds : goal.shape_of-bounds
-shape_of-bounds c = let c = c in (returns c).1.bounds_long ∙ sym c.requires.1.bounds_long
+shape_of-bounds c = let c = c in (returns c).banked_in.bounds_long ∙ sym c.requires.1.bounds_long

@@ -24,5 +24,5 @@ returns c =
     let c = c in let free = sym c.activation_refusal-k.ensures ∙ c.if-k-ne0.false in
     let d = c.activated-place in record { lists_line = record {
         printed = rw (activation_prints c.args.p c.args.counts.now c.requires.0 c.args.row c.args.hold free c.args.line) (prints_nothing c.args.out.now c.args.at (omega (arith, c.requires.2)));
-        left = d.ensures.0;
-      }; banked_in = d.ensures.1 }
+        left = d.ensures.leaves_in;
+      }; banked_in = d.ensures.banked_in }

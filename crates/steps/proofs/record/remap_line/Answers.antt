@@ -8,8 +8,14 @@ use Rattle.steps.proofs.record.remap_line.Goals as goal
 
 pub returns-then-remap_allowed : goal.returns-then-remap_allowed
 unfolding remap_step loaded_by answered first_failed unless refuse
-returns-then-remap_allowed c = let c = c in let all = rw (← c.remap_allowed.ensures, c.if-remap_allowed.true) (c.at_line.ensures, prints_nothing c.args.out.now c.args.at (omega (arith, c.requires))) in record { place_value = all.0; prints_into = all.1 }
+returns-then-remap_allowed c = record {
+      place_value = rw (← c.remap_allowed.ensures, c.if-remap_allowed.true) c.at_line.ensures;
+      prints_into = rw (← c.remap_allowed.ensures, c.if-remap_allowed.true) (prints_nothing c.args.out.now c.args.at (omega (arith, c.requires)));
+    }
 
 pub returns : goal.returns
 unfolding remap_step loaded_by answered first_failed unless refuse
-returns c = let all = rw (← c.remap_allowed.ensures, c.if-remap_allowed.false) (c.at_line-2.ensures, c.print_refusal-end.ensures) in record { place_value = all.0; prints_into = all.1 }
+returns c = record {
+      place_value = rw (← c.remap_allowed.ensures, c.if-remap_allowed.false) c.at_line-2.ensures;
+      prints_into = rw (← c.remap_allowed.ensures, c.if-remap_allowed.false) c.print_refusal-end.ensures;
+    }

@@ -1,7 +1,6 @@
 -- `tracker::event::clear_if` meets its contract.
 use mathlib.Core.Path.{◌∙◌, ap}
 use Prim.Native.Nat.{ℕ}
-use borrow.Author.Rules.{rules}
 use lib.ListN.{length, replicate}
 use Rattle.summary.specs.Steps.{cleared_if}
 use Rattle.summary.proofs.InnerContracts.Holds.{long_counts}

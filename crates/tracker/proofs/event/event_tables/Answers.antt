@@ -3,7 +3,6 @@ use mathlib.Core.Path.{sym, ◌∙◌}
 use Prim.Native.Nat.{◌*◌}
 use native.Mathlib.Nat.{mul-le-mul}
 use native.Mathlib.Omega.{arith}
-use borrow.Author.Rules.{rules}
 use lib.ListN.{take}
 use lib.Seq.{length-take-le}
 use Rattle.device.specs.Victims.{rows_between}
@@ -62,8 +61,11 @@ returns c =
     let t = c.take_out-taken in
     let names = take t.result.count t.new.picks in
     let sum = read c.args.rows.now c.args.counts.now c.args.t.tracked c.args.t.spillover in
-    let x = t.ensures.names in record { names = x; turns = rw (← smaller.ensures)
-          (holds_event c.args.s.volume (victims_in c.args.s) (rows_between (c.args.e * c.args.s.block) smaller.result) (ends_window c.args.s c.args.e) sum names (take_picked x) t.ensures.turns clear_if.ensures spread_picks.ensures c.spread_run-after.ensures) }
+    let x = t.ensures.names in record {
+      names = x;
+      turns = rw (← smaller.ensures)
+          (holds_event c.args.s.volume (victims_in c.args.s) (rows_between (c.args.e * c.args.s.block) smaller.result) (ends_window c.args.s c.args.e) sum names (take_picked x) t.ensures.turns clear_if.ensures spread_picks.ensures c.spread_run-after.ensures);
+    }
 
 pub shape_of-rows : goal.shape_of-rows
 shape_of-rows c = long_rows (returns c).turns

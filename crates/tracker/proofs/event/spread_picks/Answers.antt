@@ -1,17 +1,15 @@
 -- `tracker::event::spread_picks` meets its contract. The invariant: the rows left, on the summary as it is now.
 use mathlib.Core.Path.{refl, sym, ◌∙◌}
-use Prim.Native.Nat.{◌+◌, ◌-◌, ◌*◌, ◌≤◌}
 use native.Mathlib.Numerals.{add-one}
 use native.Mathlib.Omega.{arith}
-use lib.ListN.{length, get_or, take, drop}
+use lib.ListN.{get_or}
 use lib.Seq.{get_or-take, length-take-le}
 use Rattle.summary.specs.Tables.{read}
 use Rattle.tables.proofs.Scans.{used_step, left_none}
 use Rattle.summary.proofs.Rules.Room.{room_more}
 use Rattle.summary.proofs.InnerContracts.Holds.{long_rows, long_counts}
-use Rattle.tracker.specs.Calls.{victims_in}
 use Rattle.tracker.proofs.Calls.VictimsIn.{victims_four}
-use Rattle.tracker.proofs.Steps.Spread.{Spreading, spreading_ready, spreading_again, spreading_done, spreading_more, below_at}
+use Rattle.tracker.proofs.Steps.Spread.{spreading_ready, spreading_again, spreading_done, spreading_more, below_at}
 use Rattle.tracker.proofs.event.spread_picks.Goals as goal
 
 pub loop-i-init : goal.loop-i-init
@@ -37,11 +35,15 @@ disturb_victims-left-requires c =
     let c = c in let p = c.requires.blast_diameter_bound in
     let i = c.loop-i.i in
     let less = c.loop-i-test.true in
-    let ready = spreading_ready c.loop-i.invariant.0 (omega (arith, less, p.1)) in record { tracks = ready.0; blast_diameter_bound = (
-          p.0,
-          rw (get_or-take c.args.used c.args.picks.now i 0 less) at
-              (below_at p.3 i (omega (arith, less, length-take-le c.args.used c.args.picks.now p.2))),
-        ); room_for = ready.1 }
+    let ready = spreading_ready c.loop-i.invariant.0 (omega (arith, less, p.1)) in record {
+      tracks = ready.0;
+      blast_diameter_bound = (
+        p.0,
+        rw (get_or-take c.args.used c.args.picks.now i 0 less) at
+            (below_at p.3 i (omega (arith, less, length-take-le c.args.used c.args.picks.now p.2))),
+      );
+      room_for = ready.1;
+    }
 
 pub overflow_add-i : goal.overflow_add-i
 overflow_add-i c =

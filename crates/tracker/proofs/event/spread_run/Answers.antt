@@ -1,17 +1,16 @@
 -- `tracker::event::spread_run` meets its contract. The invariant: the rows left, on the summary as it is now.
 use mathlib.Core.Path.{refl, sym, ◌∙◌}
-use Prim.Native.Nat.{◌+◌, ◌-◌, ◌*◌, ◌≤◌}
+use Prim.Native.Nat.{◌+◌}
 use native.Mathlib.Omega.{arith}
-use lib.ListN.{length, take}
+use lib.ListN.{take}
 use Rattle.device.specs.Victims.{rows_between}
 use Rattle.device.proofs.Victims.{between_step, between_none}
 use Rattle.summary.specs.Steps.{besides}
 use Rattle.summary.specs.Tables.{read}
 use Rattle.summary.proofs.Rules.Room.{room_more}
 use Rattle.summary.proofs.InnerContracts.Holds.{long_rows, long_counts}
-use Rattle.tracker.specs.Calls.{victims_in}
 use Rattle.tracker.proofs.Calls.VictimsIn.{victims_four}
-use Rattle.tracker.proofs.Steps.Spread.{Spreading, spreading_ready, spreading_beside, spreading_done, spreading_more}
+use Rattle.tracker.proofs.Steps.Spread.{spreading_ready, spreading_beside, spreading_done, spreading_more}
 use Rattle.tracker.proofs.event.spread_run.Goals as goal
 
 pub loop-row-init : goal.loop-row-init

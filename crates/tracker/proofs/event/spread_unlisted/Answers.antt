@@ -1,6 +1,5 @@
 -- `tracker::event::spread_unlisted` meets its contract.
 use mathlib.Core.Path.{sym, ◌∙◌}
-use borrow.Author.Rules.{rules}
 use Rattle.summary.specs.Steps.{spread, besides}
 use Rattle.tracker.proofs.event.spread_unlisted.Goals as goal
 

@@ -1,5 +1,4 @@
 -- `tracker::event::take_out` meets its contract.
-use borrow.Author.Rules.{rules}
 use Rattle.device.specs.Victims.{rows_between}
 use Rattle.summary.specs.Tables.{read}
 use Rattle.summary.proofs.InnerContracts.Holds.{held_read, long_rows, held_again}
@@ -13,5 +12,8 @@ drop_run-rest-requires c =
 
 pub returns : goal.returns
 returns c =
-    let x = c.pick-picked.ensures in record { names = x.names; turns = rw (taken_out_split c.args.s.volume (rows_between c.args.low c.args.high) (read c.args.rows.now c.args.counts.now c.args.t.tracked c.args.t.spillover))
-          (rw (held_read x.turns, long_rows x.turns) at c.drop_run-rest.ensures) }
+    let x = c.pick-picked.ensures in record {
+      names = x.names;
+      turns = rw (taken_out_split c.args.s.volume (rows_between c.args.low c.args.high) (read c.args.rows.now c.args.counts.now c.args.t.tracked c.args.t.spillover))
+          (rw (held_read x.turns, long_rows x.turns) at c.drop_run-rest.ensures);
+    }

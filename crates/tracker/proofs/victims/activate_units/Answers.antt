@@ -1,6 +1,5 @@
 -- `tracker::victims::activate_units` meets its contract, by the loop's laws.
 use mathlib.Core.List.{[], ◌∷◌}
-use Prim.Native.Nat.{◌-◌, ◌≤◌}
 use native.Mathlib.Omega.{arith}
 use lib.ListN.{length}
 use mathlib.Core.Path.{sym, ◌∙◌}
@@ -10,7 +9,7 @@ use Rattle.summary.proofs.InnerContracts.Holds.{held_read, held_again, long_rows
 use Rattle.summary.proofs.Rules.Room.{room_drop}
 use Rattle.tracker.specs.Calls.{victims_in}
 use Rattle.tracker.proofs.Calls.VictimsIn.{victims_four, victims_others}
-use Rattle.tracker.proofs.Steps.Units.{Units, units_ready, units_again, units_done, units_drop_once}
+use Rattle.tracker.proofs.Steps.Units.{units_ready, units_again, units_done, units_drop_once}
 use Rattle.tracker.proofs.victims.activate_units.Goals as goal
 
 pub drop_row-left-requires : goal.drop_row-left-requires

@@ -1,6 +1,5 @@
 -- `tracker::victims::disturb_victims` meets its contract: the rows below the row, then those above it.
 use native.Mathlib.Omega.{arith}
-use borrow.Author.Rules.{rules}
 use lib.ListN.{length}
 use Rattle.summary.specs.Tables.{read}
 use Rattle.summary.proofs.InnerContracts.Holds.{held_read, long_rows, held_again}
@@ -19,10 +18,13 @@ disturb_run-requires c =
     let lowest = c.lowest_within-low in
     let highest = c.highest_within in
     let smaller = c.smaller-high in
-    let x = c.disturb_run-below.ensures in record { tracks = held_again x; low_bound = (
+    let x = c.disturb_run-below.ensures in record {
+      tracks = held_again x;
+      low_bound = (
         omega (arith, smaller.ensures, highest.ensures, c.requires.blast_diameter_bound.0),
         rw (held_read x) (room_between (length c.args.rows.now) _ c.args.row _ c.requires.room_for (omega (arith, lowest.ensures, c.requires.blast_diameter_bound.0))),
-      ) }
+      );
+    }
 
 pub returns : goal.returns
 returns c =
