@@ -3,8 +3,10 @@
 
 use bound::Answer;
 use device::Settings;
-use libc::STDOUT_FILENO;
 use tracker::{Activation, Position, Refreshed, SetUp};
+
+// The number of standard output.
+const STDOUT_FILENO: i32 = 1;
 
 // Prints a word and a number on a line.
 fn print(word: &[u8], number: u32) {

@@ -5,8 +5,10 @@ ghost use Rattle.std.specs.Prelude.{◌≡◌, drop};
 ghost use Rattle.trace.specs.Reading.{reading};
 ghost use Rattle.lines.specs.Lines.{line_count};
 
-use libc::STDOUT_FILENO;
 use trace::{Read, Record};
+
+// The number of standard output.
+const STDOUT_FILENO: i32 = 1;
 
 // Prints a word and a number.
 fn print(word: &[u8], number: u64) {
@@ -45,7 +47,7 @@ fn told<'a>(answer: Read, rest: &'a [u8]) -> &'a [u8]
     rest
 }
 
-// Prints what the first line of a text says; the text behind it. The local holds a reference in a struct: the proof is a walk by hand.
+// Prints what the first line of a text says; the text behind it.
 fn first_line(text: &[u8]) -> &[u8]
     ensures { result.now ≡ drop (reading text.now 0).place text.now }
 {

@@ -7,8 +7,12 @@ ghost use Rattle.std.specs.Prelude.{◌≤◌};
 use agreement::Agreement;
 use bound::Answer;
 use device::Settings;
-use libc::{STDIN_FILENO, STDOUT_FILENO};
 use tracker::{Activation, Position, Refreshed, SetUp};
+
+// The numbers of standard input and output.
+const STDIN_FILENO: i32 = 0;
+
+const STDOUT_FILENO: i32 = 1;
 
 // The byte at a place, or 0 behind the end.
 fn byte(buf: &[u8], at: usize) -> u32

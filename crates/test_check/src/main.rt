@@ -4,7 +4,11 @@
 ghost use Rattle.std.specs.Prelude.{◌≤◌, length};
 
 use checker::Verdict;
-use libc::{STDIN_FILENO, STDOUT_FILENO};
+
+// The numbers of standard input and output.
+const STDIN_FILENO: i32 = 0;
+
+const STDOUT_FILENO: i32 = 1;
 
 // The place of the first byte 0, or the text's end.
 fn first_zero(text: &[u8]) -> usize

@@ -6,9 +6,13 @@ ghost use Rattle.std.specs.Prelude.{◌≡◌, ◌≤◌, length, take};
 ghost use Rattle.canonical.specs.Writing.{writing};
 ghost use Rattle.writer.specs.Answers.{outcomes_of, write_left};
 
-use libc::{STDIN_FILENO, STDOUT_FILENO};
 use trace::Read;
 use writer::Written;
+
+// The numbers of standard input and output.
+const STDIN_FILENO: i32 = 0;
+
+const STDOUT_FILENO: i32 = 1;
 
 // The byte at a place, or 0 behind the end.
 fn byte(buf: &[u8], at: usize) -> u32
@@ -86,7 +90,7 @@ fn answers_of(text: &[u8]) -> [Read; 64] {
     answers
 }
 
-// Writes the first answers to the lent text. An array of enums is lent: the proof is a walk by hand.
+// Writes the first answers to the lent text.
 fn call(answers: [Read; 64], count: usize, text: &mut [u8]) -> Written
     requires { count ≤ 64 }
     ensures { write_left result text ≡ writing (outcomes_of (take count answers)) text.old }

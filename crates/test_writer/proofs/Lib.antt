@@ -1,2 +1,0 @@
--- A law of lending a part of a local array.
-pub mod LentArray
