@@ -1,5 +1,5 @@
 -- `checker::check_in` meets its contract. The invariant: how far the check has come, with tables that are a listing's.
-use mathlib.Core.Path.{◌≡◌, sym, ◌∙◌}
+use mathlib.Core.Path.{◌≡◌, ◌∙◌}
 use mathlib.Core.Bool.{true}
 use mathlib.Core.List.{List}
 use Prim.Native.Nat.{ℕ, ◌<◌}
@@ -45,15 +45,6 @@ loop-k-preserved c =
 pub overflow_add-result : goal.overflow_add-result
 overflow_add-result c = record { fits = omega (arith, c.loop-k.invariant.reaches.most, c.well_formed) }
 
-pub shape_of-counts-then-not-k : goal.shape_of-counts-then-not-k
-shape_of-counts-then-not-k c = c.loop-k.invariant.banked.marked.counts_long ∙ sym c.requires.0.counts_long
-
-pub shape_of-marks-then-not-k : goal.shape_of-marks-then-not-k
-shape_of-marks-then-not-k c = c.loop-k.invariant.banked.marked.marks_long ∙ sym c.requires.0.marks_long
-
-pub shape_of-bounds-then-not-k : goal.shape_of-bounds-then-not-k
-shape_of-bounds-then-not-k c = c.loop-k.invariant.banked.bounds_long ∙ sym c.requires.1
-
 pub returns-then-not-k : goal.returns-then-not-k
 unfolding verdict_of
 returns-then-not-k c = reached_departs c.loop-k.invariant.reaches _ (not-true _ c.if-not-k.true) (omega arith)
@@ -62,15 +53,6 @@ pub check_rest-requires : goal.check_rest-requires
 check_rest-requires c =
     let r = c.loop-k.invariant.reaches in
     (r.taken, r.passed, r.few (not-false _ c.if-not-k.false))
-
-pub shape_of-counts : goal.shape_of-counts
-shape_of-counts c = c.loop-k.invariant.banked.marked.counts_long ∙ sym c.requires.0.counts_long
-
-pub shape_of-marks : goal.shape_of-marks
-shape_of-marks c = c.loop-k.invariant.banked.marked.marks_long ∙ sym c.requires.0.marks_long
-
-pub shape_of-bounds : goal.shape_of-bounds
-shape_of-bounds c = c.loop-k.invariant.banked.bounds_long ∙ sym c.requires.1
 
 pub returns : goal.returns
 returns c =

@@ -17,18 +17,16 @@ renumbered m n k printed is same = rw (← refusal_alike n m same k, ← is) pri
 pub returns-then-text-eq0 : goal.returns-then-text-eq0
 returns-then-text-eq0 c =
     let a = c.args in
-    rw (last_line_none (next_number a.p.lines) a.text.now (length a.out.now) (omega (arith, c.if-text-eq0.true))) (prints_nothing a.out.now 0 (omega arith))
+    rw (last_line_none (next_number a.p.lines) a.text.now (length a.out.now) (omega arith)) (prints_nothing a.out.now 0 (omega arith))
 
 pub returns-then-out-lt18 : goal.returns-then-out-lt18
 returns-then-out-lt18 c =
     let a = c.args in
-    rw (last_line_short (next_number a.p.lines) a.text.now (length a.out.now) (omega (arith, c.if-out-lt18.true))) (prints_nothing a.out.now 0 (omega arith))
+    rw (last_line_short (next_number a.p.lines) a.text.now (length a.out.now) (omega arith)) (prints_nothing a.out.now 0 (omega arith))
 
 pub returns : goal.returns
 unfolding next_number
 returns c =
-    let if1 = c.if-text-eq0 in
-    let if2 = c.if-out-lt18 in
     let a = c.args in
-    let some : 0 < length a.text.now = omega (arith, if1.false) in
-    rw (last_line_some (next_number a.p.lines) a.text.now (length a.out.now) some (omega (arith, if2.false))) (renumbered (next_number a.p.lines) _ 11 c.print_refusal.ensures refl (omega arith))
+    let some : 0 < length a.text.now = omega arith in
+    rw (last_line_some (next_number a.p.lines) a.text.now (length a.out.now) some (omega arith)) (renumbered (next_number a.p.lines) _ 11 c.print_refusal.ensures refl (omega arith))

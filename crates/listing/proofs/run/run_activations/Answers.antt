@@ -1,5 +1,5 @@
 -- `listing::run::run_activations` meets its contract. The invariant: what is left to do from `at` on is what was to be done at the start.
-use mathlib.Core.Path.{◌≡◌, sym, ◌∙◌}
+use mathlib.Core.Path.{◌≡◌}
 use Prim.Native.Nat.{◌-◌, ◌/◌, ◌<◌, ◌%◌}
 use native.Mathlib.Nat.{mod-lt}
 use native.Mathlib.Omega.{arith}
@@ -92,15 +92,6 @@ overflow_sub-at c = c.loop-row.invariant.runs.onward
 
 pub lines_behind-lines-requires : goal.lines_behind-lines-requires
 lines_behind-lines-requires c = omega (arith, c.loop-row.invariant.runs.within, c.well_formed)
-
-pub shape_of-counts : goal.shape_of-counts
-shape_of-counts c = c.loop-row.invariant.banked.marked.counts_long ∙ sym c.requires.1.marked.counts_long
-
-pub shape_of-marks : goal.shape_of-marks
-shape_of-marks c = c.loop-row.invariant.banked.marked.marks_long ∙ sym c.requires.1.marked.marks_long
-
-pub shape_of-bounds : goal.shape_of-bounds
-shape_of-bounds c = c.loop-row.invariant.banked.bounds_long ∙ sym c.requires.1.bounds_long
 
 pub returns : goal.returns
 returns c =

@@ -1,5 +1,4 @@
 -- `steps::line::activated` meets its contract.
-use mathlib.Core.Path.{sym, ◌∙◌}
 use native.Mathlib.Omega.{arith}
 use Rattle.summary.proofs.Rules.Room.{room_more}
 use Rattle.state.specs.State.{state_of}
@@ -33,12 +32,3 @@ returns c =
     let c = c in let t = c.activate-tally.ensures in
     let m = c.moved in
     let f = c.physical_row-physical.ensures in record { leaves_in = rw m.ensures (activation_moves c.args.p c.args.counts.now c.requires.0 c.args.row c.args.hold c.requires.2 c.args.line f t); banked_in = rw m.ensures (banked_moved c.args.p _ _ c.args.line t) }
-
-pub shape_of-counts : goal.shape_of-counts
-shape_of-counts c = let c = c in (returns c).banked_in.marked.counts_long ∙ sym c.requires.1.marked.counts_long
-
-pub shape_of-marks : goal.shape_of-marks
-shape_of-marks c = let c = c in (returns c).banked_in.marked.marks_long ∙ sym c.requires.1.marked.marks_long
-
-pub shape_of-bounds : goal.shape_of-bounds
-shape_of-bounds c = let c = c in (returns c).banked_in.bounds_long ∙ sym c.requires.1.bounds_long

@@ -1,5 +1,4 @@
 -- `steps::line::list_event` meets its contract.
-use mathlib.Core.Path.{sym, ◌∙◌}
 use native.Mathlib.Omega.{arith}
 use borrow.Author.Tests.{not-true, not-false}
 use Rattle.steps.specs.Steps.{refused_step, record_step_to}
@@ -38,6 +37,3 @@ returns c =
       };
       banked_in = rw m.ensures (banked_moved c.args.p _ 0 c.args.line r.ensures.turns);
     }
-
-pub shape_of-counts : goal.shape_of-counts
-shape_of-counts c = let c = c in (returns c).banked_in.marked.counts_long ∙ sym c.requires.1.marked.counts_long
