@@ -451,10 +451,10 @@ fn main(rt: HostRuntime) {
     if !input::is_open(&listing.file) {
         return;
     }
+    let trace_end = trace.length;
+    let listing_end = listing.length;
     let check = check_files(&mut trace, &mut listing);
     if !tell_answer(&rt, check) {
-        let trace_end = trace.length;
-        let listing_end = listing.length;
         tell_failure(
             &rt,
             check,

@@ -8,4 +8,4 @@ pub run-requires : goal.run-requires
 run-requires c = (zeros_marked 262144 refl refl refl, search rules, search rules, search rules, search rules)
 
 pub returns : goal.returns
-returns c = let all = c.run.ensures in record { ran_fresh = all.0; lines_le_most_lines = all.1 }
+returns c = record { ran_fresh = c.run.ensures.ran_in; lines_le_most_lines = c.run.ensures.lines_le_most_lines }

@@ -1,5 +1,4 @@
 -- `rowcheck::first_step` meets its contract.
-use borrow.Author.Rules.{rules}
 use Rattle.rowcheck.specs.Turns.{first_step}
 use Rattle.rowcheck.proofs.first_step.Goals as goal
 

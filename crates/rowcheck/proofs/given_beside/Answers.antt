@@ -1,7 +1,6 @@
 -- `rowcheck::given_beside` meets its contract: by what is required there, and by what comparing that came to.
 use mathlib.Core.Path.{◌∙◌}
 use native.Mathlib.Omega.{arith}
-use borrow.Author.Rules.{rules}
 use borrow.Author.Tests.{not-true, not-false}
 use Prim.Native.Nat.{◌-◌}
 use lib.ListN.{drop, length-take, length-drop}

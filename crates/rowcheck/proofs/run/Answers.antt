@@ -3,12 +3,11 @@
 use mathlib.Core.Path.{refl, sym, ◌∙◌}
 use mathlib.Core.List.{[]}
 use native.Mathlib.Omega.{arith}
-use borrow.Author.Rules.{rules}
 use Rattle.input.proofs.Again.{more_left, none_left}
 use Rattle.turns.proofs.Turns.{carried_first}
 use Rattle.turns.specs.Turns.{first_turned}
 use Rattle.rowcheck.specs.Turns.{open_so_far, first_step, first_state, none_yet}
-use Rattle.rowcheck.proofs.Chains.{Going, steps_on, ran}
+use Rattle.rowcheck.proofs.Chains.{steps_on, ran}
 use Rattle.rowcheck.proofs.run.Goals as goal
 
 pub loop-trace-init : goal.loop-trace-init
@@ -44,10 +43,10 @@ loop-trace-preserved c =
     let n = c.next_step-step in
     let on = more_left (open_so_far l.step.check.answer) l.left c.runs_on.ensures c.loop-trace-test.true in
     record {
-      carried = n.ensures.0.0;
-      given_long = n.auto.1.1.1.1.1.1.1.1.0 ∙ l.invariant.given_long;
-      few_lines = omega (arith, n.ensures.0.1, l.invariant.few_lines, on.1);
-      steps = steps_on l.invariant.steps on.0 on.1 n.ensures.1;
+      carried = n.ensures.carried_in.0;
+      given_long = n.auto.given ∙ l.invariant.given_long;
+      few_lines = omega (arith, n.ensures.carried_in.1, l.invariant.few_lines, on.1);
+      steps = steps_on l.invariant.steps on.0 on.1 n.ensures.stepped_in;
     }
 
 pub shape_of-counts : goal.shape_of-counts

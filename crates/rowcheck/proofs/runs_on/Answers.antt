@@ -1,6 +1,5 @@
 -- `rowcheck::runs_on` meets its contract: by whether nothing is answered yet.
 use mathlib.Core.Path.{◌∙◌}
-use borrow.Author.Rules.{rules}
 use Rattle.laws.proofs.Cases.{split}
 use Rattle.rowcheck.proofs.runs_on.Goals as goal
 

@@ -1,8 +1,6 @@
 -- `rowcheck::tell_answer` meets its contract: a line is written exactly where there is an answer.
 use mathlib.Core.Path.{sym}
 use native.Mathlib.Omega.{arith}
-use borrow.Author.Rules.{rules}
-use lib.Seq.{length-take-le}
 use Rattle.columns.proofs.Output.{prints_long}
 use Rattle.rowcheck.proofs.Lines.{line_none, line_some}
 use Rattle.rowcheck.proofs.tell_answer.Goals as goal

@@ -1,6 +1,5 @@
 -- `rowcheck::line::print_departure` meets its contract: three texts, one behind the other.
 use native.Mathlib.Omega.{arith}
-use borrow.Author.Rules.{rules}
 use Rattle.columns.proofs.Output.{prints_long}
 use Rattle.rowcheck.specs.Answers.{departs_words}
 use Rattle.rowcheck.proofs.Lines.{decimal_within, departure_printed}

@@ -1,12 +1,8 @@
 -- `rowcheck::line::print_text` meets its contract. The invariant: the text's bytes so far are printed.
 use mathlib.Core.List.{List}
 use Prim.Native.Nat.{ℕ, ◌+◌, ◌-◌, ◌≤◌}
-use native.Mathlib.Nat.{add-zero}
-use native.Mathlib.Omega.{arith}
 use lib.ListN.{length, take}
 use Rattle.columns.specs.Output.{Prints}
-use Rattle.columns.proofs.Output.{prints_nothing, prints_long}
-use Rattle.rowcheck.proofs.Lines.{prints_next, prints_all}
 use Rattle.rowcheck.proofs.line.print_text.Given as goal
 
 pub record Printing (before : List ℕ) (at : ℕ) (text out : List ℕ) (i : ℕ) : Type 0 where
