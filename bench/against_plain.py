@@ -10,6 +10,11 @@ ROOT = pathlib.Path(__file__).resolve().parents[1]
 TRACES = ROOT / "target/traces"
 
 
+def built(program):
+    """Where rt puts a program."""
+    return ROOT / "crates" / program / "out" / program
+
+
 def rounds_asked(description, default):
     parser = argparse.ArgumentParser(description=description)
     parser.add_argument("--rounds", type=int, default=default)
@@ -30,7 +35,7 @@ def run(program, trace, output):
 
 def least_times(name, trace, rounds):
     """The program's and the plain one's; what they write has to be equal."""
-    programs = ROOT / "target/bin" / name, ROOT / "target/plain/release" / f"plain_{name}"
+    programs = built(name), ROOT / "target/plain/release" / f"plain_{name}"
     outputs = TRACES / f"ours.{name}", TRACES / f"plain.{name}"
     times = [[run(program, trace, output) for program, output in zip(programs, outputs)] for _ in range(rounds)]
     if outputs[0].read_bytes() != outputs[1].read_bytes():

@@ -14,9 +14,9 @@ import time
 
 sys.dont_write_bytecode = True
 import traces
-from against_plain import ROOT, TRACES, rounds_asked, run
+from against_plain import TRACES, built, rounds_asked, run
 
-ROWLIST, ROWCHECK = ROOT / "target/bin/rowlist", ROOT / "target/bin/rowcheck"
+ROWLIST, ROWCHECK = built("rowlist"), built("rowcheck")
 
 
 def check(trace, listing):

@@ -5,7 +5,7 @@
  *
  * Without arguments: 16 2 1 2 4 4 4, threshold 61. Build, from the repository's root:
  *
- *   rt staticlib bound
+ *   tools/staticlib bound
  *   cc -std=c99 -Wall -Wextra -Iinclude examples/bound.c target/staticlib/libbound.a \
  *      -o target/bound_example
  *

@@ -7,7 +7,7 @@
  * EVENTS: the row's figure at that event, without it at each. Rows are logical rows, under the
  * tracker's own remap. Build, from the repository's root:
  *
- *   rt staticlib rowlimit
+ *   tools/staticlib rowlimit
  *   cc -std=c99 -Wall -Wextra -Iinclude examples/row_limit.c target/staticlib/librowlimit.a \
  *      -o target/row_limit_example
  *

@@ -27,6 +27,11 @@ U32 = 2**32 - 1
 U64 = 2**64 - 1
 
 
+def built(program):
+    """Where rt puts a program."""
+    return ROOT / "crates" / program / "out" / program
+
+
 def give_up(message):
     print(f"{sys.argv[0]}: {message}", file=sys.stderr)
     sys.exit(2)

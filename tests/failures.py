@@ -127,8 +127,8 @@ def of_first_part(start, trace):
         os.close(into)
 
 
-# Which of them the program can say, and does: it cannot where standard error fails, nor where the signal of a closed pipe ends it.
-UNWRITTEN = output_full, output_closed, output_fills
+# Which of them the program can say, and does: it cannot where standard error fails.
+UNWRITTEN = output_full, output_closed, reader_leaves, output_fills
 UNREAD = input_unreadable, input_closed, input_fails_later, input_fails_after_lines
 
 

@@ -11,7 +11,7 @@ import tempfile
 import termios
 import time
 
-from comparison import ROOT, give_up
+from comparison import ROOT, built, give_up
 
 RUN_LIMIT = 20  # seconds for one run of the program
 TAKEN_LIMIT = 5  # seconds in which the program has to take a piece from the pipe
@@ -23,8 +23,8 @@ Output = collections.namedtuple("Output", "text errors problem")
 def add_programs(parser, **programs):
     """An option for each of these, with the command that runs another program in its place."""
     for option, program in programs.items():
-        parser.add_argument(f"--{option}", default=shlex.quote(str(ROOT / "target/bin" / program)),
-                            help=f"command in place of target/bin/{program}")
+        parser.add_argument(f"--{option}", default=shlex.quote(str(built(program))),
+                            help=f"command in place of {built(program).relative_to(ROOT)}")
 
 
 def command_of(text):
@@ -32,7 +32,7 @@ def command_of(text):
     command = shlex.split(text)
     command[0] = os.path.abspath(command[0])
     if not os.path.exists(command[0]):
-        give_up(f"{command[0]} is missing")
+        give_up(f"{command[0]} is missing; `tools/programs NAME` writes it")
     return command
 
 

@@ -1,7 +1,7 @@
 #!/usr/bin/env python3
 """Compares the library's C interface with the plain model, answer by answer.
 
-    rt staticlib bound && rt staticlib rowlimit
+    tools/staticlib
     python3 tests/c_interface/compare.py [--seed N] [--archive FILE] [--rows-archive FILE]
 
 Builds the model, answers.c and the example programs, then compares on the figures of document 01
@@ -44,7 +44,7 @@ ROW_EXAMPLES = (f"{OUT}/row_example_c", f"{OUT}/row_example_cxx")
 def build_all(archive, rows_archive):
     for name, file in (("bound", archive), ("rowlimit", rows_archive)):
         if not os.path.exists(file):
-            give_up(f"{file} is missing; `rt staticlib {name}` writes it")
+            give_up(f"{file} is missing; `tools/staticlib {name}` writes it")
     flags = (*C_FLAGS, "-Iinclude")
     examples = ("examples/bound.c", archive, EXAMPLES), ("examples/row_limit.c", rows_archive, ROW_EXAMPLES)
     build(

@@ -1,7 +1,7 @@
 #!/usr/bin/env python3
 """Compares the library's set up, activation, refresh event, agreements and a row's figure with the model.
 
-    rt check test_calls
+    tools/programs test_calls
     python3 tests/calls/compare.py [--seed N] [--program FILE]
 
 The program of crates/test_calls makes the library's calls. Builds the model, then compares the
@@ -27,7 +27,7 @@ from agreement import AGREEMENT_KINDS, PAIRS, agreement_kinds, agreement_sweeps,
 from cases import CUT_BANKS, ORDER, case, passes_interval, random_cases, sweep_cases
 from comparison import (
     BLOCK, BUILD_MODEL, COUNTERS, DIAMETER, FIXED_SEED, INTERVAL, MODEL, ROOT, ROWS, Run, Tally,
-    TIME_LIMIT, VOLUME, WINDOW, arguments_with_seeds, build, give_up, read_figures,
+    TIME_LIMIT, VOLUME, WINDOW, arguments_with_seeds, build, built, give_up, read_figures,
 )
 from figures import FIGURE_KINDS, figure_kinds, figure_sweeps, random_figures
 from holds import LONGEST, is_accepted_hold
@@ -418,12 +418,12 @@ def compare(tally, kinds, program, cases, name):
 
 def main():
     parser = argparse.ArgumentParser(description="Compares the tracker's calls with the model.")
-    parser.add_argument("--program", default=ROOT / "target/bin/test_calls",
-                        help="in place of target/bin/test_calls")
+    parser.add_argument("--program", default=built("test_calls"),
+                        help="in place of crates/test_calls/out/test_calls")
     arguments, fresh_seed = arguments_with_seeds(parser)
     program = os.path.abspath(arguments.program)
     if not os.path.exists(program):
-        give_up(f"{program} is missing; `rt check test_calls` writes it")
+        give_up(f"{program} is missing; `tools/programs test_calls` writes it")
 
     os.chdir(ROOT)
     build(OUT, BUILD_MODEL)

@@ -1,7 +1,7 @@
 #!/usr/bin/env python3
 """Compares the check of a supplier's listing by the program `rowcheck` with the plain model's.
 
-    rt check rowcheck && rt check rowlist && rt check test_check
+    tools/programs rowcheck rowlist test_check
     python3 tests/check/compare.py [--seed N] [--program COMMAND] [--caller COMMAND] [--rowlist COMMAND]
 
 Builds the model and runs its unit tests, then compares what `rowcheck` prints: on

@@ -1,7 +1,7 @@
 #!/usr/bin/env python3
 """Compares the trace writer with the plain model: the program `tracefmt`, and the library's call.
 
-    rt check tracefmt && rt check test_writer && rt check rowlist
+    tools/programs tracefmt test_writer rowlist
     python3 tests/writer/compare.py [--seed N] [--program COMMAND] [--caller COMMAND] [--rowlist COMMAND]
 
 Builds the model, then compares what `tracefmt` writes and what it prints on standard error, and the
