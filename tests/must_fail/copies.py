@@ -1,15 +1,17 @@
-"""Copies of the repository in which one crate is edited and checked over an incremental folder (`rt dev`).
+"""Copies of the repository in which one crate is edited and checked over what an earlier check kept (`rt check`).
 
-An edit is a file as `rt must-fail` takes it: `file:` lines, and pairs of `old:` and `new:` behind them.
+An edit is a file as `rt must-fail` takes it, crates/CRATE/must-fail/NAME.edit: `file:` lines, and pairs of `old:` and `new:` behind them.
+Its twin is of the same form, tests/must_fail/twins/CRATE/NAME.twin.
 """
 
-import os
 import pathlib
 import re
 import shutil
 import subprocess
+import tempfile
 
 ROOT = pathlib.Path(__file__).resolve().parents[2]
+TWINS = ROOT / "tests/must_fail/twins"
 TIME_LIMIT = 600  # seconds for one check
 PARTS = ("src", "specs", "proofs")
 
@@ -21,8 +23,18 @@ class BadEdit(Exception):
 
 
 def crate_of(edit):
-    """The crate that an edit's file stands in."""
-    return edit.relative_to(ROOT / "crates").parts[0]
+    """The crate that an edit or a twin is of."""
+    return edit.parent.name if edit.suffix == ".twin" else edit.parent.parent.name
+
+
+def edits_of(crate):
+    """The crate's edits."""
+    return sorted((ROOT / "crates" / crate / "must-fail").glob("*.edit"))
+
+
+def twin_of(edit):
+    """An edit's twin."""
+    return TWINS / crate_of(edit) / f"{edit.stem}.twin"
 
 
 def replacements(edit):
@@ -64,17 +76,15 @@ def listed():
     for line in (ROOT / "crates.txt").read_text(encoding="utf-8").splitlines():
         name, colon, named = line.partition("#")[0].partition(":")
         if colon:
-            crates[name.strip()] = [d for d in named.split() if (ROOT / "crates" / d).is_dir()]
+            crates[name.split()[0]] = [d for d in named.split() if (ROOT / "crates" / d).is_dir()]
     return crates
 
 
-def prove_below(crate):
-    """Proves what a crate depends on, so that its copies find it proved."""
-    below = listed()[crate]
-    if below:
-        done = subprocess.run(["rt", "check", *below], cwd=ROOT, stdout=subprocess.PIPE, stderr=subprocess.STDOUT)
-        if done.returncode != 0:
-            raise BadEdit(f"what {crate} depends on is not proved: rt check {' '.join(below)}")
+def prove(crate):
+    """Proves a crate and what it depends on, so that its copies begin with what that check kept."""
+    done = subprocess.run(["rt", "check"], cwd=ROOT / "crates" / crate, stdout=subprocess.PIPE, stderr=subprocess.STDOUT)
+    if done.returncode != 0:
+        raise BadEdit(f"{crate} is not proved as it is: rt check in crates/{crate}")
 
 
 class Checked:
@@ -127,16 +137,14 @@ def root_errors(said):
 
 
 class Copy:
-    """A copy of the repository under target/must_fail/NAME; what is proved there is the repository's own."""
+    """A copy of the repository, outside it: rt ci refuses sources anywhere but in the crates. It goes when the copy is let go."""
 
-    def __init__(self, name):
-        self.folder = ROOT / "target" / "must_fail" / name
-        shutil.rmtree(self.folder, ignore_errors=True)
-        (self.folder / "target").mkdir(parents=True)
-        for part in ("rlib", "stamp"):
-            os.symlink(ROOT / "target" / part, self.folder / "target" / part)
+    def __init__(self):
+        self.room = tempfile.TemporaryDirectory(prefix="must-fail-")
+        self.folder = pathlib.Path(self.room.name)
         shutil.copy(ROOT / "crates.txt", self.folder)
-        shutil.copytree(ROOT / "crates", self.folder / "crates", ignore=shutil.ignore_patterns("must-fail"))
+        for crate in listed():
+            self.restore(crate)
 
     def restore(self, crate):
         for part in PARTS:
@@ -146,7 +154,7 @@ class Copy:
                 shutil.copytree(ROOT / "crates" / crate / part, there)
 
     def check(self, crate):
-        done = subprocess.run(["rt", "dev", crate], cwd=self.folder, stdout=subprocess.PIPE, stderr=subprocess.STDOUT,
+        done = subprocess.run(["rt", "check"], cwd=self.folder / "crates" / crate, stdout=subprocess.PIPE, stderr=subprocess.STDOUT,
                               timeout=TIME_LIMIT)
         return Checked(done.returncode, done.stdout.decode("utf-8", "replace"))
 

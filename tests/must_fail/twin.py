@@ -4,8 +4,8 @@
 The twin has the edit's form and keeps the meaning (`x / 1`, `++ []`, the same test twice). Refused at the same place with the same
 error, it says that the wrong build is refused for its form, which shows nothing.
 
-    python3 tests/must_fail/twin.py CRATE/EDIT...     EDIT.edit of crates/CRATE/must-fail, or of further/ there, and EDIT.twin beside it
-    python3 tests/must_fail/twin.py --all [CRATE...]  every edit that has a twin
+    python3 tests/must_fail/twin.py CRATE/EDIT...     crates/CRATE/must-fail/EDIT.edit and tests/must_fail/twins/CRATE/EDIT.twin
+    python3 tests/must_fail/twin.py --all [CRATE...]  every edit
 
 Exit status: 0 each twin is proved or refused elsewhere; 1 some edit is not refused, or its twin at the same place; 2 an edit does not fit.
 """
@@ -14,23 +14,23 @@ import argparse
 import sys
 from concurrent.futures import ThreadPoolExecutor
 
-from copies import NOT_TRIED, PROVED, REFUSED, ROOT, BadEdit, Copy, crate_of, prove_below
+from copies import NOT_TRIED, PROVED, REFUSED, ROOT, BadEdit, Copy, edits_of, listed, prove, twin_of
 
+LOGS = ROOT / "target/must_fail"
 SHOWN = 400  # characters of an error
 
 
 def named(words, everything):
     """The edits that the command line asks for, each with its crate."""
     if everything:
-        twins = sorted((ROOT / "crates").glob("*/must-fail/**/*.twin"))
-        return [(crate_of(t), t.with_suffix(".edit")) for t in twins if not words or crate_of(t) in words]
+        return [(crate, edit) for crate in listed() if not words or crate in words for edit in edits_of(crate)]
     edits = []
     for word in words:
         crate, _, name = word.removesuffix(".edit").partition("/")
-        found = list((ROOT / "crates" / crate / "must-fail").glob(f"**/{name}.edit"))
-        if len(found) != 1:
-            raise BadEdit(f"{word} names {len(found)} edits")
-        edits.append((crate, found[0]))
+        found = ROOT / "crates" / crate / "must-fail" / f"{name}.edit"
+        if not found.is_file():
+            raise BadEdit(f"{word} names no edit")
+        edits.append((crate, found))
     return edits
 
 
@@ -50,21 +50,22 @@ def judged(edit, twin):
 def main():
     parser = argparse.ArgumentParser(description=__doc__, formatter_class=argparse.RawDescriptionHelpFormatter)
     parser.add_argument("names", nargs="*", metavar="CRATE/EDIT")
-    parser.add_argument("--all", action="store_true", help="every edit that has a twin, of the named crates or of all")
+    parser.add_argument("--all", action="store_true", help="every edit, of the named crates or of all")
     arguments = parser.parse_args()
     edits = named(arguments.names, arguments.all)
     if not edits:
         parser.error("no edit is named")
-    copies = Copy("edit"), Copy("twin")
+    copies = Copy(), Copy()
+    LOGS.mkdir(parents=True, exist_ok=True)
     told = True
     for crate, file in edits:
         name = file.stem
-        prove_below(crate)
-        files = file, file.with_suffix(".twin")
+        prove(crate)
+        files = file, twin_of(file)
         with ThreadPoolExecutor(2) as pool:
             edit, twin = pool.map(lambda pair: pair[0].tried(pair[1]), zip(copies, files))
-        for kind, copy, checked in zip(("edit", "twin"), copies, (edit, twin)):
-            log = copy.folder / f"{crate}.{name}.log"
+        for kind, checked in (("edit", edit), ("twin", twin)):
+            log = LOGS / f"{crate}.{name}.{kind}.log"
             log.write_text(checked.said, encoding="utf-8")
             print(f"{crate}/{name}, {kind}: {checked.verdict}{checked.place() and ', first at ' + checked.place()}"
                   f"; {len(checked.errors)} errors at the root; {log.relative_to(ROOT)}")

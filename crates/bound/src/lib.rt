@@ -1,4 +1,4 @@
-// The bound on disturbance and the least counter count, for Rattle and for C.
+// The bound on disturbance and the least counter count; crate bound_c exports them to C.
 #![tactic(auto)]
 
 mod search;
@@ -91,9 +91,8 @@ pub fn signed_number(answer: Answer) -> i64
     }
 }
 
-// The bound for C: H, or refusal k as -k.
-#[unsafe(no_mangle)]
-pub extern "C" fn row_tracker_bound(
+// The bound for crate bound_c: H, or refusal k as -k.
+pub fn row_tracker_bound(
     rows: u32,
     blast_diameter: u32,
     volume: u32,
@@ -115,9 +114,8 @@ pub extern "C" fn row_tracker_bound(
     }))
 }
 
-// The least counter count for C: the count, or refusal k as -k.
-#[unsafe(no_mangle)]
-pub extern "C" fn row_tracker_least_counters(
+// The least counter count for crate bound_c: the count, or refusal k as -k.
+pub fn row_tracker_least_counters(
     rows: u32,
     blast_diameter: u32,
     volume: u32,

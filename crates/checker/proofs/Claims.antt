@@ -15,6 +15,7 @@ use Rattle.trace.specs.Texts.{lines, whole}
 use Rattle.steps.specs.Steps.{start}
 use Rattle.listing.specs.Texts.{listing}
 use Rattle.listing.proofs.Texts.{listing_whole}
+use Rattle.checker.specs.Comparison.{counted}
 use Rattle.checker.specs.Departure.{departure_from, departing, departure}
 use Rattle.checker.specs.Claims.{PassesExactly, FirstDeparting, UnendedDeparts}
 use Rattle.checker.proofs.Comparison.{cons_alike, departing_alike, departing_other, departing_missing, departing_surplus, departing_none}
@@ -28,13 +29,13 @@ none_departs n (x ∷ xs) (y ∷ ys) e =
     split (eqb x y)
     (λ on.
     let alike : x ≡ y = eqb-true x y on in
-    let rest : ys ≡ xs = none_departs _ xs ys (sym (departing_alike n x xs ys) ∙ ap (λ (z : ℕ). departing n (x ∷ xs) (z ∷ ys)) alike ∙ e) in
+    let rest : ys ≡ xs = none_departs (counted n x) xs ys (sym (departing_alike n x xs ys) ∙ ap (λ (z : ℕ). departing n (x ∷ xs) (z ∷ ys)) alike ∙ e) in
     rw (alike, rest))
     (λ off. missing (sym e ∙ departing_other n x y xs ys off))
 
 alike_passes : (n : ℕ) (text : List ℕ) → departing n text text ≡ none
 alike_passes n [] = departing_none n
-alike_passes n (x ∷ xs) = departing_alike n x xs xs ∙ alike_passes _ xs
+alike_passes n (x ∷ xs) = departing_alike n x xs xs ∙ alike_passes (counted n x) xs
 
 pub passes_exactly : PassesExactly
 unfolding PassesExactly departure

@@ -101,7 +101,7 @@ ends_back on (of_listing wants input came same) ends =
     }
 
 -- back over a whole chain
-chain_back : {first q : State} {buffer after : List ℕ} {n : ℕ} {parts given more more_given : List (List ℕ)} {answer : Option ℕ} → Chain first buffer n q after parts given → Ends q more more_given → Runs q more more_given answer → Runs first (parts ++ more) (given ++ more_given) answer
+chain_back : {first : State} {buffer : List ℕ} {q : State} {after : List ℕ} {n : ℕ} {parts given more more_given : List (List ℕ)} {answer : Option ℕ} → Chain first buffer n q after parts given → Ends q more more_given → Runs q more more_given answer → Runs first (parts ++ more) (given ++ more_given) answer
 chain_back none_yet ends run = run
 chain_back {more = more} {more_given = more_given} (one_more {parts = parts} {given = given} chain on s) ends run =
     rw (append_assoc parts (trace_part s) more, append_assoc given (listing_part s) more_given)

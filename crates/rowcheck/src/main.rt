@@ -16,7 +16,7 @@ ghost use Rattle.rowcheck.specs.Answers.{has_answer};
 ghost use Rattle.rowcheck.specs.InnerContracts.{Comparable, most_lines, ListingChecked, SteppedIn, RanIn, RanFresh};
 
 use input::{File, Input};
-use libc::{STDERR_FILENO, STDOUT_FILENO};
+use std::env::{Env, FillError};
 use turns::Turn;
 
 // The tracker's tables: a count for every row of the largest bank, a word of marks for each 64 of them and one for each 64 of these, and as many bounds.
@@ -156,14 +156,14 @@ fn behind_listing(from: Check, required: &[u8], end: usize, given: &[u8], input:
 }
 
 // Reads the listing beside what is required and not yet compared, or, where nothing is, from the buffer's front on.
-fn read_listing(listing: ListingFile, given: &mut [u8], at: usize, end: usize) -> Input
+fn read_listing(listing: &mut ListingFile, given: &mut [u8], at: usize, end: usize) -> Input
     requires { end ≤ length given.old }
     ensures { ReadBeside result at end given.old given.new }
 {
     if at < end {
-        return input::read_from(listing.file, &mut given[0..end], at);
+        return input::read_from(&mut listing.file, &mut given[0..end], at);
     }
-    input::read_from(listing.file, given, 0)
+    input::read_from(&mut listing.file, given, 0)
 }
 
 // Before the first read.
@@ -184,7 +184,7 @@ fn first_step() -> Step
 // A read of the trace, and what lies behind it.
 fn trace_step(
     from: Step,
-    trace: TraceFile,
+    trace: &mut TraceFile,
     counts: &mut [u32],
     marks: &mut [u64],
     bounds: &mut [u32],
@@ -197,7 +197,7 @@ fn trace_step(
 {
     let before = from.turn;
     let so_far = from.check;
-    let turn = turns::next_turn(before, trace.file, counts, marks, bounds, text, out);
+    let turn = turns::next_turn(before, &mut trace.file, counts, marks, bounds, text, out);
     Step {
         turn,
         check: behind_trace(so_far, turn.failed),
@@ -205,7 +205,7 @@ fn trace_step(
 }
 
 // A read of the listing, and what lies behind it.
-fn listing_step(from: Step, listing: ListingFile, given: &mut [u8], out: &[u8]) -> Step
+fn listing_step(from: Step, listing: &mut ListingFile, given: &mut [u8], out: &[u8]) -> Step
     requires { (from.turn.end ≤ length out.now) × (from.turn.end ≤ length given.old) × (from.check.lines + length given.old ≤ 18446744073709551615) }
     ensures turn_value { (result.turn ≡ from.turn) × (result.check.lines ≤ from.check.lines + length given.old) }
     ensures listing_checked { ListingChecked from.check result.check out.now from.turn.end given.old given.new }
@@ -250,8 +250,8 @@ fn wants_trace(more: bool, end: usize, at: usize) -> bool
 // A read of the file that is wanted next, and what lies behind it: the trace once all that it required is compared, else the listing.
 fn next_step(
     from: Step,
-    trace: TraceFile,
-    listing: ListingFile,
+    trace: &mut TraceFile,
+    listing: &mut ListingFile,
     counts: &mut [u32],
     marks: &mut [u64],
     bounds: &mut [u32],
@@ -273,8 +273,8 @@ fn next_step(
 
 // Reads both files until the answer is known, or a read fails.
 fn run(
-    trace: TraceFile,
-    listing: ListingFile,
+    trace: &mut TraceFile,
+    listing: &mut ListingFile,
     counts: &mut [u32],
     marks: &mut [u64],
     bounds: &mut [u32],
@@ -298,7 +298,7 @@ fn run(
 }
 
 // Checks one open file against another, with memory of its own.
-fn check_files(trace: TraceFile, listing: ListingFile) -> Check
+fn check_files(trace: &mut TraceFile, listing: &mut ListingFile) -> Check
     ensures ran_fresh { RanFresh result }
     ensures lines_le_most_lines { result.lines ≤ most_lines }
 {
@@ -321,65 +321,78 @@ fn check_files(trace: TraceFile, listing: ListingFile) -> Check
 }
 
 // How to call it.
-fn tell_usage() {
-    io::write_all(
-        STDERR_FILENO,
+fn tell_usage(rt: &HostRuntime) {
+    input::say(
+        rt,
         b"rowcheck: two file names are needed: rowcheck TRACE LISTING\n",
     );
 }
 
 // What is wrong with the file of a name.
-fn tell_file(wrong: &[u8], name: &[u8]) {
-    io::write_all(STDERR_FILENO, wrong);
-    io::write_all(STDERR_FILENO, b" ");
-    os::fail(name);
+fn tell_file(rt: &HostRuntime, wrong: &[u8], name: &[u8], reason: i32) {
+    input::say(rt, wrong);
+    input::say(rt, b" ");
+    input::tell(rt, name, reason);
 }
 
+// Whether there is an argument of a number, however long.
+fn is_given(rt: &HostRuntime, argument: usize) -> bool {
+    let mut name = io::buffer();
+    match rt.arg(argument, &mut name) {
+        Ok(_) => true,
+        Err(FillError::TooLong) => true,
+        Err(FillError::NotPresent) => false,
+    }
+}
+
+// The system's numbers of an argument that is not there, and of one that is too long.
+const MISSING: i32 = 22;
+
+const TOO_LONG: i32 = 36;
+
 // Opens the file that an argument names, which goes to the buffer's front; where that fails, it is said.
-fn open(argument: usize, name: &mut [u8], wrong: &[u8]) -> Named
+fn open(rt: &HostRuntime, argument: usize, name: &mut [u8], wrong: &[u8]) -> Named
     ensures { result.length ≤ length name.new }
 {
-    let length = os::arg(argument, name);
-    if os::errno() != 0 {
-        os::fail(wrong);
-        return Named {
-            file: input::unopened(),
-            length,
-        };
-    }
-    let file = input::open(&name[0..length]);
-    if !input::is_open(file) {
-        tell_file(wrong, &name[0..length]);
+    let length = match rt.arg(argument, name) {
+        Ok(length) => length,
+        Err(error) => {
+            let reason = match error {
+                FillError::NotPresent => MISSING,
+                FillError::TooLong => TOO_LONG,
+            };
+            input::tell(rt, wrong, reason);
+            return Named {
+                file: input::unopened(),
+                length: 0,
+            };
+        }
+    };
+    let file = input::open(rt, &name[0..length]);
+    if !input::is_open(&file) {
+        tell_file(rt, wrong, &name[0..length], input::reason(&file));
     }
     Named { file, length }
 }
 
 // The trace is the first argument's file.
-fn open_trace(name: &mut [u8]) -> TraceFile
+fn open_trace(rt: &HostRuntime, name: &mut [u8]) -> TraceFile
     ensures { result.length ≤ length name.new }
 {
-    let named = open(1, name, b"rowcheck: cannot open the trace");
-    let file = named.file;
-    TraceFile {
-        file,
-        length: named.length,
-    }
+    let Named { file, length } = open(rt, 1, name, b"rowcheck: cannot open the trace");
+    TraceFile { file, length }
 }
 
 // The listing is the second's.
-fn open_listing(name: &mut [u8]) -> ListingFile
+fn open_listing(rt: &HostRuntime, name: &mut [u8]) -> ListingFile
     ensures { result.length ≤ length name.new }
 {
-    let named = open(2, name, b"rowcheck: cannot open the listing");
-    let file = named.file;
-    ListingFile {
-        file,
-        length: named.length,
-    }
+    let Named { file, length } = open(rt, 2, name, b"rowcheck: cannot open the listing");
+    ListingFile { file, length }
 }
 
 // The answer on standard output; whether there is one.
-fn tell_answer(k: Check) -> bool
+fn tell_answer(rt: &HostRuntime, k: Check) -> bool
     requires { k.lines ≤ most_lines }
     ensures { result ≡ has_answer k.answer }
 {
@@ -388,49 +401,67 @@ fn tell_answer(k: Check) -> bool
     if end == 0 {
         return false;
     }
-    if !io::write_all(STDOUT_FILENO, &line[..end]) {
-        os::fail(b"rowcheck: cannot write the answer");
+    if let Err(reason) = input::write(rt, &line[..end]) {
+        input::tell(rt, b"rowcheck: cannot write the answer", reason);
     }
     true
 }
 
 // Why there is no answer, on standard error.
-fn tell_failure(k: Check, trace: &[u8], listing: &[u8]) {
+fn tell_failure(
+    rt: &HostRuntime,
+    k: Check,
+    trace: &[u8],
+    trace_reason: i32,
+    listing: &[u8],
+    listing_reason: i32,
+) {
     let answer = k.answer;
     match answer {
-        Answer::TraceFailed => tell_file(b"rowcheck: cannot read the trace", trace),
-        Answer::ListingFailed => tell_file(b"rowcheck: cannot read the listing", listing),
-        Answer::Open => {
-            io::write_all(STDERR_FILENO, b"rowcheck: the files do not end\n");
-        }
+        Answer::TraceFailed => tell_file(
+            rt,
+            b"rowcheck: cannot read the trace",
+            trace,
+            trace_reason,
+        ),
+        Answer::ListingFailed => tell_file(
+            rt,
+            b"rowcheck: cannot read the listing",
+            listing,
+            listing_reason,
+        ),
+        Answer::Open => input::say(rt, b"rowcheck: the files do not end\n"),
         Answer::Passes => {}
         Answer::Departs => {}
     }
 }
 
-fn main() {
-    if os::arg_count() != 3 {
-        tell_usage();
+fn main(rt: HostRuntime) {
+    if !is_given(&rt, 2) || is_given(&rt, 3) {
+        tell_usage(&rt);
         return;
     }
     let mut trace_name = io::buffer();
-    let trace = open_trace(&mut trace_name);
-    if !input::is_open(trace.file) {
+    let mut trace = open_trace(&rt, &mut trace_name);
+    if !input::is_open(&trace.file) {
         return;
     }
     let mut listing_name = io::buffer();
-    let listing = open_listing(&mut listing_name);
-    if !input::is_open(listing.file) {
+    let mut listing = open_listing(&rt, &mut listing_name);
+    if !input::is_open(&listing.file) {
         return;
     }
-    let check = check_files(trace, listing);
-    if !tell_answer(check) {
-        let trace_end = trace.length;
-        let listing_end = listing.length;
+    let trace_end = trace.length;
+    let listing_end = listing.length;
+    let check = check_files(&mut trace, &mut listing);
+    if !tell_answer(&rt, check) {
         tell_failure(
+            &rt,
             check,
             &trace_name[0..trace_end],
+            input::reason(&trace.file),
             &listing_name[0..listing_end],
+            input::reason(&listing.file),
         );
     }
 }

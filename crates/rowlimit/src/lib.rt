@@ -78,9 +78,8 @@ pub fn row_limit(s: Settings, remap: [u32; 16], row: u32, p: Position) -> Answer
     }
 }
 
-// The same for C: the figure, or refusal k as -k.
-#[unsafe(no_mangle)]
-pub extern "C" fn row_tracker_row_limit(
+// The same for crate rowlimit_c: the figure, or refusal k as -k.
+pub fn row_tracker_row_limit(
     rows: u32,
     blast_diameter: u32,
     volume: u32,

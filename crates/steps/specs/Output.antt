@@ -1,5 +1,5 @@
 -- The printed lines: a letter, numbers in columns, byte 10.
-use Rattle.std.specs.Prelude.{ℕ, ◌+◌, ◌*◌, List, [], ◌∷◌, ◌++◌, length}
+use Rattle.std.specs.Prelude.{ℕ, ◌*◌, List, [], ◌∷◌, ◌++◌, length}
 use Rattle.columns.specs.Numbers.{printed}
 use Rattle.columns.specs.Output.{number_columns}
 

@@ -12,7 +12,6 @@ ghost use Rattle.tracefmt.specs.InnerContracts.{CarriedIn};
 
 use columns::LINES;
 use input::{File, Input};
-use libc::{STDERR_FILENO, STDOUT_FILENO};
 use spelling::Standing;
 use trace::Read;
 
@@ -61,11 +60,12 @@ struct Turn {
     failed: bool,
 }
 
-// How a run ended: what its last step left, and whether all that was to be written was.
+// How a run ended: what its last step left, whether all that was to be written was, and why not, or why the last read failed.
 #[derive(Clone, Copy)]
 struct Ended {
     turn: Turn,
     written: bool,
+    reason: i32,
 }
 
 // Behind a line, as it was read.
@@ -229,7 +229,7 @@ fn first_turn() -> Turn
 }
 
 // A read of the trace, and what lies behind it.
-fn next_turn(from: Turn, file: File, text: &mut [u8], out: &mut [u8]) -> Turn
+fn next_turn(from: Turn, file: &mut File, text: &mut [u8], out: &mut [u8]) -> Turn
     requires { CarriedIn from text.old out.old }
     ensures carried_in { CarriedIn result text.new out.new }
     ensures stepped { Stepped (state_before from text out) (state_left result text out) }
@@ -239,57 +239,59 @@ fn next_turn(from: Turn, file: File, text: &mut [u8], out: &mut [u8]) -> Turn
 }
 
 // Reads, rewrites and writes, until the input ends, a line is faulty, or a read or write fails.
-fn run(text: &mut [u8], out: &mut [u8]) -> Ended
+fn run(rt: &HostRuntime, text: &mut [u8], out: &mut [u8]) -> Ended
     requires { (length text.old ≡ 65536) × (length out.old ≡ 65536) }
     ensures { RanIn result text out }
 {
-    let file = input::standard_input();
+    let mut file = input::standard_input(rt.stdin());
     let mut turn = first_turn();
     let mut left = u64::MAX;
     while input::reads_again(turn.more, left) {
-        turn = next_turn(turn, file, text, out);
+        turn = next_turn(turn, &mut file, text, out);
         left -= 1;
         let end = turn.end;
-        if !io::write_all(STDOUT_FILENO, &out[..end]) {
+        if let Err(reason) = input::write(rt, &out[..end]) {
             return Ended {
                 turn,
                 written: false,
+                reason,
             };
         }
     }
     Ended {
         turn,
         written: true,
+        reason: input::reason(&file),
     }
 }
 
 // Says which line was faulty, if one was.
-fn tell_fault(p: Place, out: &mut [u8])
+fn tell_fault(rt: &HostRuntime, p: Place, out: &mut [u8])
     requires { 18 ≤ length out.old }
 {
     let end = print_fault(p, out);
-    io::write_all(STDERR_FILENO, &out[..end]);
+    input::say(rt, &out[..end]);
 }
 
 // What went wrong, on standard error: something could not be written or read, or a line was faulty.
-fn tell(ended: Ended, out: &mut [u8])
+fn tell(rt: &HostRuntime, ended: Ended, out: &mut [u8])
     requires { 18 ≤ length out.old }
 {
     if !ended.written {
-        os::fail(b"tracefmt: cannot write the spelling");
+        input::tell(rt, b"tracefmt: cannot write the spelling", ended.reason);
         return;
     }
     let turn = ended.turn;
     if turn.failed {
-        os::fail(b"tracefmt: cannot read the trace");
+        input::tell(rt, b"tracefmt: cannot read the trace", ended.reason);
         return;
     }
-    tell_fault(turn.place, out);
+    tell_fault(rt, turn.place, out);
 }
 
-fn main() {
+fn main(rt: HostRuntime) {
     let mut text = [0u8; TEXT];
     let mut out = [0u8; TEXT];
-    let ended = run(&mut text, &mut out);
-    tell(ended, &mut out);
+    let ended = run(&rt, &mut text, &mut out);
+    tell(&rt, ended, &mut out);
 }

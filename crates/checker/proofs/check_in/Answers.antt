@@ -1,21 +1,18 @@
 -- `checker::check_in` meets its contract. The invariant: how far the check has come, with tables that are a listing's.
 use mathlib.Core.Path.{◌≡◌, sym, ◌∙◌}
-use mathlib.Core.Bool.{true, false, cond}
+use mathlib.Core.Bool.{true}
 use mathlib.Core.List.{List}
-use Prim.Native.Nat.{ℕ, suc, ◌-◌, ◌<◌}
+use Prim.Native.Nat.{ℕ, ◌<◌}
 use native.Mathlib.Omega.{arith}
-use borrow.Author.Rules.{rules}
 use borrow.Author.Tests.{not-true, not-false}
-use lib.ListN.{length, drop}
-use Rattle.trace.specs.Lines.{ended}
 use Rattle.laws.proofs.Cases.{split, clash}
-use Rattle.steps.specs.Memory.{Memory, memory, Banked}
+use Rattle.steps.specs.Memory.{Memory}
 use Rattle.steps.proofs.Memory.Zeros.{banked_start}
 use Rattle.checker.specs.declared.Checking.{Checking}
 use Rattle.checker.specs.Comparison.{verdict_of}
 use Rattle.checker.specs.InnerContracts.{Reaches, Onward}
 use Rattle.checker.proofs.Checks.{reaches_start, reached_departs, reached_last}
-use Rattle.checker.proofs.check_in.Invariants.{Stands, left}
+use Rattle.checker.proofs.check_in.Invariants.{left}
 use Rattle.checker.proofs.check_in.Goals as goal
 
 left_less : {trace given : List ℕ} {m : Memory} {k k' : Checking} → Reaches trace given m k' → Onward trace k k' → k.more ≡ true → left trace k' < left trace k

@@ -1,20 +1,13 @@
 -- `checker::check_in` meets its contract. The invariant: how far the check has come, with tables that are a listing's.
-use mathlib.Core.Path.{◌≡◌, sym, ◌∙◌}
+use mathlib.Core.Path.{◌≡◌}
 use mathlib.Core.Bool.{true, false, cond}
 use mathlib.Core.List.{List}
-use Prim.Native.Nat.{ℕ, suc, ◌-◌, ◌<◌}
-use native.Mathlib.Omega.{arith}
-use borrow.Author.Rules.{rules}
-use borrow.Author.Tests.{not-true, not-false}
+use Prim.Native.Nat.{ℕ, suc, ◌-◌}
 use lib.ListN.{length, drop}
 use Rattle.trace.specs.Lines.{ended}
-use Rattle.laws.proofs.Cases.{split, clash}
-use Rattle.steps.specs.Memory.{Memory, memory, Banked}
-use Rattle.steps.proofs.Memory.Zeros.{banked_start}
+use Rattle.steps.specs.Memory.{memory, Banked}
 use Rattle.checker.specs.declared.Checking.{Checking}
-use Rattle.checker.specs.Comparison.{verdict_of}
-use Rattle.checker.specs.InnerContracts.{Reaches, Onward}
-use Rattle.checker.proofs.Checks.{reaches_start, reached_departs, reached_last}
+use Rattle.checker.specs.InnerContracts.{Reaches}
 use Rattle.checker.proofs.check_in.Given as goal
 
 pub record Stands (trace given counts marks bounds : List ℕ) (k : Checking) : Type 0 where

@@ -3,7 +3,6 @@ use mathlib.Core.Path.{refl}
 use mathlib.Core.Bool.{true}
 use native.Mathlib.Nat.{sub-zero}
 use native.Mathlib.Omega.{arith}
-use borrow.Author.Rules.{rules}
 use borrow.Author.Tests.{not-true, not-false}
 use Rattle.checker.proofs.Cuts.{cut_part}
 use Rattle.checker.proofs.Checks.{part_departs, taken_within, part_passes, departs_onward, passes_onward, rest_all}

@@ -1,7 +1,6 @@
 -- `checker::check_rest` meets its contract: by what the end of the trace requires, and by what comparing that came to.
 use native.Mathlib.Nat.{sub-zero}
 use native.Mathlib.Omega.{arith}
-use borrow.Author.Rules.{rules}
 use borrow.Author.Tests.{not-true, not-false}
 use Rattle.checker.specs.Comparison.{verdict_of}
 use Rattle.checker.proofs.Checks.{last_most, last_off, last_surplus, last_fits, last_passes, rest_all}

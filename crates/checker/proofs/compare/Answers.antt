@@ -1,7 +1,6 @@
 -- `checker::compare` meets its contract: all at once where all is the same, else byte by byte.
 use mathlib.Core.Path.{sym, ◌∙◌}
 use native.Mathlib.Omega.{arith}
-use borrow.Author.Rules.{rules}
 use lib.ListN.{length-drop}
 use Rattle.checker.proofs.Comparison.{same_compared}
 use Rattle.checker.proofs.compare.Goals as goal

@@ -1,17 +1,9 @@
 -- `checker::compare_bytes` meets its contract. The invariant: what comparing the rest comes to is what comparing all comes to.
-use mathlib.Core.Path.{◌≡◌, refl, sym, ◌∙◌, ap}
-use mathlib.Core.Bool.{true, false}
+use mathlib.Core.Path.{◌≡◌}
 use mathlib.Core.List.{List}
-use Prim.Native.Nat.{ℕ, ◌+◌, ◌-◌, ◌≤◌, ◌<◌}
-use native.Mathlib.Numerals.{add-one}
-use native.Mathlib.Omega.{arith}
-use borrow.Author.Tests.{eq-eqb, ne_eqb}
-use mir.Val.{bool_byte}
-use lib.Dec.{eqb}
-use lib.ListN.{length, get_or, drop, drop_of_length-le}
-use lib.Seq.{drop-cons}
-use Rattle.checker.specs.Comparison.{counted, compared}
-use Rattle.checker.proofs.Comparison.{one_more, one_most}
+use Prim.Native.Nat.{ℕ, ◌+◌, ◌-◌, ◌≤◌}
+use lib.ListN.{length, drop}
+use Rattle.checker.specs.Comparison.{compared}
 use Rattle.checker.proofs.compare_bytes.Given as goal
 
 pub record Left (required given : List ℕ) (from lines at i ended : ℕ) : Type 0 where

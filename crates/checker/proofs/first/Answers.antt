@@ -1,5 +1,4 @@
 -- `checker::first` meets its contract.
-use borrow.Author.Rules.{rules}
 use Rattle.checker.proofs.first.Goals as goal
 
 pub returns : goal.returns

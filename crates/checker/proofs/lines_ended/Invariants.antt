@@ -1,15 +1,9 @@
 -- `checker::lines_ended` meets its contract. The invariant: the lines so far, and those of the rest, are all lines.
-use mathlib.Core.Path.{◌≡◌, sym, ◌∙◌, ap}
-use mathlib.Core.Bool.{true}
+use mathlib.Core.Path.{◌≡◌}
 use mathlib.Core.List.{List}
-use Prim.Native.Nat.{ℕ, ◌+◌, ◌-◌, ◌≤◌, ◌<◌}
-use native.Mathlib.Nat.{add-zero}
-use native.Mathlib.Omega.{arith}
-use lib.Dec.{eqb}
-use lib.ListN.{length, get_or, drop, drop_of_length-le}
-use mir.Val.{bool_byte}
+use Prim.Native.Nat.{ℕ, ◌+◌, ◌-◌, ◌≤◌}
+use lib.ListN.{length, drop}
 use Rattle.checker.specs.Comparison.{compared}
-use Rattle.checker.proofs.Comparison.{one_most, itself_compared}
 use Rattle.checker.proofs.lines_ended.Given as goal
 
 pub record Counted (text : List ℕ) (lines ended i : ℕ) : Type 0 where

@@ -11,7 +11,6 @@ use Rattle.laws.proofs.Cases.{le_or_lt}
 use Rattle.trace.specs.Lines.{ended}
 use Rattle.columns.specs.Output.{refusal_line}
 use Rattle.steps.specs.Steps.{Progress, refused_step, line_step_to, step_to}
-use Rattle.trace.specs.Texts.{lines}
 use Rattle.listing.specs.Texts.{listed_to, listing_to, listing}
 use Rattle.steps.specs.Memory.{Memory, Represents, next_number}
 use Rattle.listing.specs.Chunks.{last_line}

@@ -13,7 +13,7 @@ use Rattle.listing.specs.Texts.{after}
 use Rattle.steps.specs.Memory.{Memory, Ready, Represents}
 use Rattle.trace.specs.Texts.{most_kept, kept_bytes}
 use Rattle.listing.specs.Chunks.{Going, part, Chunked, chunk}
-use Rattle.listing.specs.Parts.{Printed, lists, ends}
+use Rattle.listing.specs.Parts.{Printed, lists}
 use Rattle.steps.proofs.Memory.Progress.{represents_memory}
 use Rattle.listing.proofs.Chunks.Lines.{Taken, done_part, all_taken}
 use Rattle.trace.proofs.Texts.Cuts.{ended_less}

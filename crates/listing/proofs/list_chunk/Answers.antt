@@ -1,6 +1,5 @@
 -- `listing::list_chunk` meets its contract.
 use native.Mathlib.Nat.{sub-zero}
-use borrow.Author.Rules.{rules}
 use Rattle.steps.specs.Memory.{memory}
 use Rattle.listing.proofs.Parts.Moves.{chunk_parts}
 use Rattle.listing.proofs.list_chunk.Goals as goal

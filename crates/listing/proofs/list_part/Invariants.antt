@@ -1,15 +1,8 @@
 -- `listing::list_part` meets its contract. The invariant: what is left to do from `at` on is what was to be done at the start.
-use mathlib.Core.Path.{sym, ◌∙◌, ap}
-use Prim.Native.Nat.{◌+◌, ◌-◌, ◌≤◌, ◌<◌}
-use native.Mathlib.Omega.{arith}
-use borrow.Author.Rules.{rules}
-use borrow.Author.Tests.{leb-true, leb-false}
+use Prim.Native.Nat.{◌-◌}
 use lib.ListN.{length}
-use Rattle.trace.specs.Reading.{Reading}
 use Rattle.steps.specs.Memory.{Banked}
-use Rattle.listing.specs.Chunks.{part}
-use Rattle.trace.proofs.Texts.NextLine.{place_within, ends_with, ends_without}
-use Rattle.listing.proofs.Chunks.PartLoop.{come, Turning, turning_start, turning_run, turning_step, going_unended, going_short, going_end}
+use Rattle.listing.proofs.Chunks.PartLoop.{come, Turning}
 use Rattle.listing.proofs.list_part.Given as goal
 
 abbrev pub invariant-loop-at : goal.invariant-loop-at

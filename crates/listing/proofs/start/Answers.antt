@@ -1,5 +1,4 @@
 -- `listing::start` meets its contract.
-use borrow.Author.Rules.{rules}
 use Rattle.steps.specs.Memory.{start_place}
 use Rattle.listing.proofs.start.Goals as goal
 

@@ -2,18 +2,16 @@
 use mathlib.Core.Path.{sym, ◌∙◌}
 use mathlib.Core.List.{[]}
 use native.Mathlib.Omega.{arith}
-use borrow.Author.Rules.{rules}
-use lib.Seq.{length-take-le}
 use Rattle.input.proofs.Runs.{ran_unwritten}
 use Rattle.turns.proofs.Turns.{carried_first}
 use Rattle.turns.specs.Turns.{first_turned, none_yet, more_in}
-use Rattle.rowlist.proofs.Runs.{Going, some_left, goes_further, goes_no_further}
+use Rattle.rowlist.proofs.Runs.{some_left, goes_further, goes_no_further}
 use Rattle.rowlist.proofs.run.Goals as goal
 
 pub loop-file-init : goal.loop-file-init
 unfolding first_turned
 loop-file-init c =
-    let c = c in rw c.first_turn-turn.ensures
+    rw c.first_turn-turn.ensures
     (record {
       carried = carried_first c.requires.0 c.requires.1 c.requires.2 c.requires.3;
       steps = record { reads = 0; parts = []; out = []; chain = none_yet; few = omega arith };
@@ -24,16 +22,6 @@ next_turn-turn-requires c = c.loop-file.invariant.carried
 
 pub overflow_sub-left : goal.overflow_sub-left
 overflow_sub-left c = some_left c.loop-file.invariant c.reads_again.ensures c.loop-file-test.true
-
--- TODO slice-reshare-prefix-write-all : slice-reshare-prefix-write-all
--- TODO 
--- TODO slice-reshare-prefix-write-all c = let n = c.before.before.before.before.before.before.before.before.before.before.next-turn.ensures.0 in omega (arith, n.end_few, n.out_long)
-
--- TODO slice-aggregate-write-all : slice-aggregate-write-all
--- TODO 
--- TODO slice-aggregate-write-all c =
--- TODO     let n = c.before.before.before.before.before.before.before.before.before.before.before.next-turn.ensures.0 in
--- TODO     sym (length-take-le _ _ (omega (arith, n.end_few, n.out_long)))
 
 pub shape_of-counts-in-Err : goal.shape_of-counts-in-Err
 shape_of-counts-in-Err c = c.next_turn-turn.ensures.carried_in.banked.marked.counts_long ∙ sym c.requires.0.counts_long
@@ -59,20 +47,20 @@ loop-file-smaller c = omega (arith, some_left c.loop-file.invariant c.reads_agai
 pub loop-file-preserved : goal.loop-file-preserved
 loop-file-preserved c = goes_further c.loop-file.invariant c.reads_again.ensures c.loop-file-test.true c.next_turn-turn.ensures.carried_in c.next_turn-turn.ensures.stepped
 
-pub shape_of-counts-in-Err-2 : goal.shape_of-counts-in-Err-2
-shape_of-counts-in-Err-2 c = c.loop-file.invariant.carried.banked.marked.counts_long ∙ sym c.requires.0.counts_long
+pub shape_of-counts : goal.shape_of-counts
+shape_of-counts c = c.loop-file.invariant.carried.banked.marked.counts_long ∙ sym c.requires.0.counts_long
 
-pub shape_of-marks-in-Err-2 : goal.shape_of-marks-in-Err-2
-shape_of-marks-in-Err-2 c = c.loop-file.invariant.carried.banked.marked.marks_long ∙ sym c.requires.0.marks_long
+pub shape_of-marks : goal.shape_of-marks
+shape_of-marks c = c.loop-file.invariant.carried.banked.marked.marks_long ∙ sym c.requires.0.marks_long
 
-pub shape_of-bounds-in-Err-2 : goal.shape_of-bounds-in-Err-2
-shape_of-bounds-in-Err-2 c = c.loop-file.invariant.carried.banked.bounds_long ∙ sym c.requires.1
+pub shape_of-bounds : goal.shape_of-bounds
+shape_of-bounds c = c.loop-file.invariant.carried.banked.bounds_long ∙ sym c.requires.1
 
-pub shape_of-text-in-Err-2 : goal.shape_of-text-in-Err-2
-shape_of-text-in-Err-2 c = c.loop-file.invariant.carried.text_long ∙ sym c.requires.2
+pub shape_of-text : goal.shape_of-text
+shape_of-text c = c.loop-file.invariant.carried.text_long ∙ sym c.requires.2
 
-pub shape_of-out-in-Err-2 : goal.shape_of-out-in-Err-2
-shape_of-out-in-Err-2 c = c.loop-file.invariant.carried.out_long ∙ sym c.requires.3
+pub shape_of-out : goal.shape_of-out
+shape_of-out c = c.loop-file.invariant.carried.out_long ∙ sym c.requires.3
 
-pub returns-in-Err-2 : goal.returns-in-Err-2
-returns-in-Err-2 c = goes_no_further c.loop-file.invariant c.reads_again.ensures c.loop-file-test.false
+pub returns : goal.returns
+returns c = goes_no_further c.loop-file.invariant c.reads_again.ensures c.loop-file-test.false

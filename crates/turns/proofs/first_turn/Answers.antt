@@ -1,5 +1,4 @@
 -- `turns::first_turn` meets its contract.
-use borrow.Author.Rules.{rules}
 use Rattle.turns.proofs.first_turn.Goals as goal
 
 pub returns : goal.returns

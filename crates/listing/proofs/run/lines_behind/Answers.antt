@@ -2,7 +2,6 @@
 use mathlib.Core.Path.{◌≡◌, sym, ap, ◌∙◌}
 use Prim.Native.Nat.{ℕ, suc, ◌-◌}
 use native.Mathlib.Omega.{arith}
-use borrow.Author.Rules.{rules}
 use Rattle.listing.specs.InnerContracts.{numbers_on}
 use Rattle.listing.proofs.Chunks.Runs.{numbers_more}
 use Rattle.listing.proofs.run.lines_behind.Goals as goal

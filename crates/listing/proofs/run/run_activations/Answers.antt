@@ -1,13 +1,10 @@
 -- `listing::run::run_activations` meets its contract. The invariant: what is left to do from `at` on is what was to be done at the start.
 use mathlib.Core.Path.{◌≡◌, sym, ◌∙◌}
-use mathlib.Core.Bool.{true}
-use Prim.Native.Nat.{ℕ, ◌-◌, ◌/◌, ◌<◌, ◌%◌}
+use Prim.Native.Nat.{◌-◌, ◌/◌, ◌<◌, ◌%◌}
 use native.Mathlib.Nat.{mod-lt}
 use native.Mathlib.Omega.{arith}
-use borrow.Author.Rules.{rules}
-use borrow.Author.Tests.{not-false, ltb-true}
-use lib.Dec.{lit<, ltb}
-use lib.ListN.{length}
+use borrow.Author.Tests.{not-false}
+use lib.Dec.{lit<}
 use Rattle.device.specs.Remap.{physical}
 use Rattle.device.proofs.Remap.{entry_below}
 use Rattle.summary.proofs.Rules.Room.{room_more}
@@ -16,7 +13,7 @@ use Rattle.steps.specs.InnerContracts.{moved}
 use Rattle.listing.specs.InnerContracts.{numbers_on}
 use Rattle.steps.specs.Memory.{next_number}
 use Rattle.steps.proofs.Steps.CallLines.{activations_few, activation_facts, physical_inside, activation_diameter, activation_room}
-use Rattle.listing.proofs.Chunks.Runs.{runs_none, Running, run_free, running_more}
+use Rattle.listing.proofs.Chunks.Runs.{runs_none, run_free, running_more}
 use Rattle.listing.proofs.run.run_activations.Goals as goal
 
 pub returns-then-not-p : goal.returns-then-not-p
@@ -31,7 +28,7 @@ overflow_add-row c =
     let l = c.loop-row in
     let on = not-false _ c.if-not-p.false in
     let inside = c.loop-row-test.true in
-    let less = c.if-activations-s.true in
+    let less : l.activations < c.args.p.settings.interval = omega arith in
     let free = run_free l.invariant on inside less (omega (arith, (c.requires.1.bank on).most)) in
     let facts = activation_facts (moved c.args.p c.args.p.events l.activations l.tally (numbers_on c.args.p.lines l.invariant.count)) l.counts l.invariant.runs.ready l.row 1 free in
     omega (arith, entry_below c.args.p.remap facts.allowed (l.row % 16) (mod-lt l.row (lit< tt)), inside, (c.requires.1.bank on).most)
@@ -42,15 +39,18 @@ activate-tally-requires c =
     let l = c.loop-row in
     let on = not-false _ c.if-not-p.false in
     let inside = c.loop-row-test.true in
-    let less = c.if-activations-s.true in
+    let less : l.activations < c.args.p.settings.interval = omega arith in
     let free = run_free l.invariant on inside less (omega (arith, (c.requires.1.bank on).most)) in
-    let q = moved c.args.p c.args.p.events l.activations l.tally (numbers_on c.args.p.lines l.invariant.count) in record { holds = l.invariant.banked.bank on; diameter_bound = (
+    let q = moved c.args.p c.args.p.events l.activations l.tally (numbers_on c.args.p.lines l.invariant.count) in record {
+      holds = l.invariant.banked.bank on;
+      diameter_bound = (
         activation_diameter q l.counts l.invariant.runs.ready l.row 1 free,
         physical_inside q l.counts l.invariant.runs.ready l.row 1 free,
         omega arith,
         omega arith,
         room_more (activation_room q l.counts l.invariant.runs.ready l.row 1 free) (omega arith),
-      ) }
+      );
+    }
 
 pub overflow_add-activations : goal.overflow_add-activations
 overflow_add-activations c =
@@ -84,7 +84,7 @@ loop-row-preserved c =
     let l = c.loop-row in
     let on = not-false _ c.if-not-p.false in
     let inside = c.loop-row-test.true in
-    let less = c.if-activations-s.true in
+    let less : l.activations < c.args.p.settings.interval = omega arith in
     running_more l.invariant on inside less (omega (arith, inside, (c.requires.1.bank on).most)) c.activate-tally.ensures (activates_told c.args.text.now _ _ c.activation_row-row-in-loop-row.ensures)
 
 pub overflow_sub-at : goal.overflow_sub-at

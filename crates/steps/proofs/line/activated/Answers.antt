@@ -1,7 +1,6 @@
 -- `steps::line::activated` meets its contract.
 use mathlib.Core.Path.{sym, ◌∙◌}
 use native.Mathlib.Omega.{arith}
-use borrow.Author.Rules.{rules}
 use Rattle.summary.proofs.Rules.Room.{room_more}
 use Rattle.state.specs.State.{state_of}
 use Rattle.steps.proofs.Steps.CallLines.{banked_moved, activation_active, activation_facts, physical_inside, activation_diameter, activation_room, activation_moves}
@@ -12,13 +11,16 @@ physical_row-physical-requires c = let c = c in (activation_facts c.args.p c.arg
 
 pub activate-tally-requires : goal.activate-tally-requires
 activate-tally-requires c =
-    let c = c in let facts = activation_facts c.args.p c.args.counts.now c.requires.0 c.args.row c.args.hold c.requires.2 in record { holds = c.requires.1.bank (activation_active c.args.p c.args.counts.now c.requires.0 c.args.row c.args.hold c.requires.2); diameter_bound = (
+    let c = c in let facts = activation_facts c.args.p c.args.counts.now c.requires.0 c.args.row c.args.hold c.requires.2 in record {
+      holds = c.requires.1.bank (activation_active c.args.p c.args.counts.now c.requires.0 c.args.row c.args.hold c.requires.2);
+      diameter_bound = (
         activation_diameter c.args.p c.args.counts.now c.requires.0 c.args.row c.args.hold c.requires.2,
         omega (arith, c.physical_row-physical.ensures, physical_inside c.args.p c.args.counts.now c.requires.0 c.args.row c.args.hold c.requires.2),
         facts.units.least,
         facts.units.most,
         room_more (activation_room c.args.p c.args.counts.now c.requires.0 c.args.row c.args.hold c.requires.2) (omega arith),
-      ) }
+      );
+    }
 
 pub overflow_add-p : goal.overflow_add-p
 unfolding state_of

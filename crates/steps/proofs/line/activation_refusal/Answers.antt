@@ -1,7 +1,6 @@
 -- `steps::line::activation_refusal` meets its contract: test by test.
 use mathlib.Core.Path.{sym, ◌∙◌}
 use native.Mathlib.Omega.{arith}
-use borrow.Author.Rules.{rules}
 use borrow.Author.Tests.{not-true, not-false, le-ltb, lt-ltb}
 use Rattle.device.specs.Refusal.{refuse}
 use Rattle.device.proofs.Hold.{hold_between}

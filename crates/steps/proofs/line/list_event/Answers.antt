@@ -1,7 +1,6 @@
 -- `steps::line::list_event` meets its contract.
 use mathlib.Core.Path.{sym, ◌∙◌}
 use native.Mathlib.Omega.{arith}
-use borrow.Author.Rules.{rules}
 use borrow.Author.Tests.{not-true, not-false}
 use Rattle.steps.specs.Steps.{refused_step, record_step_to}
 use Rattle.steps.proofs.Memory.Tracker.{tracker_inactive, leaves_unmoved, banked_unmoved}
@@ -32,10 +31,13 @@ pub returns : goal.returns
 returns c =
     let c = c in let on = not-false _ c.if-not-p.false in
     let r = c.refresh-picked in
-    let m = c.moved in record { lists_line = record {
+    let m = c.moved in record {
+      lists_line = record {
         printed = rw (← event_prints c.args.p c.args.counts.now c.requires.0 on c.args.line r.ensures.names) c.print_refresh-end.ensures;
         left = rw m.ensures (event_moves c.args.p c.args.counts.now c.requires.0 on c.args.line c.next_event.ensures r.ensures.turns);
-      }; banked_in = rw m.ensures (banked_moved c.args.p _ 0 c.args.line r.ensures.turns) }
+      };
+      banked_in = rw m.ensures (banked_moved c.args.p _ 0 c.args.line r.ensures.turns);
+    }
 
 pub shape_of-counts : goal.shape_of-counts
 shape_of-counts c = let c = c in (returns c).banked_in.marked.counts_long ∙ sym c.requires.1.marked.counts_long

@@ -1,7 +1,6 @@
 -- `steps::line::list_settings` meets its contract: by the settings' tests.
 use mathlib.Core.Path.{sym, ◌∙◌}
 use native.Mathlib.Omega.{arith}
-use borrow.Author.Rules.{rules}
 use borrow.Author.Tests.{eqb-true}
 use Rattle.device.proofs.Acceptance.{accepted_settings}
 use Rattle.bound.proofs.Answers.{small_bound_answer}
@@ -18,11 +17,14 @@ returns c =
     let k = c.settings_refusal-active in
     let e = c.clear-tally in
     let none = e.ensures 0 0 (omega arith) in
-    let t = tracker_in c.args.p c.args.counts.now in record { lists_line = record {
+    let t = tracker_in c.args.p c.args.counts.now in record {
+      lists_line = record {
         printed = settings_printed c.args.p.loaded c.requires.0.loadable c.args.line c.args.s t b.result b.ensures c.print_settings-end.ensures;
         left = settings_leave c.args.p.loaded c.requires.0.loadable c.args.line c.args.s t _ e.result _ (rw k.ensures) none.holds;
-      }; banked_in = record {
+      };
+      banked_in = record {
         marked = none.bank.kept.marked;
         bounds_long = none.bank.capped.nested.bounds_long;
         bank = λ on. (e.ensures c.args.s.rows c.args.s.counters (accepted_settings c.args.s (sym k.ensures ∙ eqb-true _ 0 on)).others.rows.most).bank;
-      } }
+      };
+    }

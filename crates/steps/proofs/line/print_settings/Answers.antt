@@ -1,6 +1,5 @@
 -- `steps::line::print_settings` meets its contract.
 use native.Mathlib.Omega.{arith}
-use borrow.Author.Rules.{rules}
 use Rattle.bound.specs.Answers.{outcome, Small}
 use Rattle.steps.specs.InnerContracts.{settings_line}
 use Rattle.steps.proofs.line.print_settings.Goals as goal

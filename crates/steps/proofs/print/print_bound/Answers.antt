@@ -1,6 +1,5 @@
 -- `steps::print::print_bound` meets its contract: a byte, two numbers and a byte, each right behind the last.
 use native.Mathlib.Omega.{arith}
-use borrow.Author.Rules.{rules}
 use Prim.Native.Nat.{◌*◌}
 use Rattle.columns.proofs.Numbers.Printed.{length_printed}
 use Rattle.steps.specs.Output.{bound_line}

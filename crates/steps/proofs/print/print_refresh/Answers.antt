@@ -1,6 +1,5 @@
 -- `steps::print::print_refresh` meets its contract: a byte, two numbers, the rows and a byte, each right behind the last.
 use native.Mathlib.Omega.{arith}
-use borrow.Author.Rules.{rules}
 use lib.Seq.{length-take-le}
 use Rattle.columns.proofs.Numbers.Printed.{length_printed}
 use Rattle.steps.specs.Output.{refresh_line}

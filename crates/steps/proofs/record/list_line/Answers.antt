@@ -1,5 +1,4 @@
 -- `steps::record::list_line` meets its contract: by the reader's answer.
-use borrow.Author.Rules.{rules}
 use Rattle.trace.specs.Reading.{said}
 use Rattle.steps.specs.Steps.{line_step_to, refused_step, loaded_behind}
 use Rattle.steps.specs.Memory.{next_number, step_in}

@@ -1,6 +1,5 @@
 -- `steps::record::list_record` meets its contract: by the case of the record.
 use native.Mathlib.Omega.{arith}
-use borrow.Author.Rules.{rules}
 use Rattle.steps.specs.Steps.{remap_step, record_step_to, loaded_behind}
 use Rattle.columns.proofs.Output.{prints_nothing}
 use Rattle.steps.proofs.Memory.Tracker.{leaves_unmoved, banked_unmoved}

@@ -1,0 +1,53 @@
+// The bound and the least counter count for C: the static library over crate bound. include/row_tracker.h declares both.
+#![tactic(auto)]
+
+ghost use Rattle.std.specs.Prelude.{◌≡◌};
+ghost use Rattle.bound.specs.Answers.{bound_answer, least_answer, signed, settings_of};
+
+// The bound: H, or refusal k as -k.
+#[unsafe(no_mangle)]
+pub extern "C" fn row_tracker_bound(
+    rows: u32,
+    blast_diameter: u32,
+    volume: u32,
+    counters: u32,
+    interval: u32,
+    window: u32,
+    block: u32,
+) -> i64
+    ensures { result ≡ signed (bound_answer (settings_of rows blast_diameter volume counters interval window block)) }
+{
+    bound::row_tracker_bound(
+        rows,
+        blast_diameter,
+        volume,
+        counters,
+        interval,
+        window,
+        block,
+    )
+}
+
+// The least counter count: the count, or refusal k as -k.
+#[unsafe(no_mangle)]
+pub extern "C" fn row_tracker_least_counters(
+    rows: u32,
+    blast_diameter: u32,
+    volume: u32,
+    interval: u32,
+    window: u32,
+    block: u32,
+    threshold: u64,
+) -> i64
+    ensures { result ≡ signed (least_answer (settings_of rows blast_diameter volume 0 interval window block) threshold) }
+{
+    bound::row_tracker_least_counters(
+        rows,
+        blast_diameter,
+        volume,
+        interval,
+        window,
+        block,
+        threshold,
+    )
+}
