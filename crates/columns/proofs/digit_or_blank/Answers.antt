@@ -1,7 +1,6 @@
 -- `columns::digit_or_blank` meets its contract.
 use mathlib.Core.Path.{◌≡◌, refl}
 use Prim.Native.Nat.{ℕ, zero, suc, ◌+◌, ◌%◌}
-use borrow.Author.Rules.{rules}
 use Rattle.columns.specs.Numbers.{digit_or_blank}
 use Rattle.columns.proofs.digit_or_blank.Goals as goal
 

@@ -1,6 +1,5 @@
 -- `columns::print_byte` meets its contract.
 use native.Mathlib.Omega.{arith}
-use borrow.Author.Rules.{rules}
 use Rattle.columns.proofs.Output.{prints_byte, prints_up_to}
 use Rattle.columns.proofs.print_byte.Goals as goal
 

@@ -1,6 +1,5 @@
 -- `columns::print_columns` meets its contract.
 use native.Mathlib.Omega.{arith}
-use borrow.Author.Rules.{rules}
 use Rattle.columns.proofs.Output.{prints_number, prints_up_to}
 use Rattle.columns.proofs.print_columns.Goals as goal
 

@@ -1,10 +1,9 @@
 -- `columns::print_number` meets its contract. The invariant: with the columns in front of i still to be written, the buffer is as it is to be.
 use mathlib.Core.Path.{◌≡◌, refl, sym, ◌∙◌}
 use mathlib.Core.List.{List}
-use Prim.Native.Nat.{ℕ, ◌-◌, ◌≤◌, ◌<◌, ◌/◌}
+use Prim.Native.Nat.{ℕ, ◌-◌, ◌<◌, ◌/◌}
 use native.Mathlib.Omega.{arith}
-use borrow.Author.Rules.{rules}
-use lib.ListN.{length, set, length-set}
+use lib.ListN.{set, length-set}
 use Rattle.columns.specs.Numbers.{digit_or_blank}
 use Rattle.columns.proofs.Numbers.Printed.{with_columns_before, with_columns_before_set, with_columns_before_none, written_printed_zero, written_printed_last}
 use Rattle.columns.proofs.print_number.Invariants.{Left}

@@ -1,12 +1,8 @@
 -- `columns::print_numbers` meets its contract. The invariant: the numbers before i are printed.
-use mathlib.Core.Path.{◌≡◌}
 use mathlib.Core.List.{List}
-use Prim.Native.Nat.{ℕ, ◌+◌, ◌-◌, ◌*◌, ◌≤◌, ◌<◌}
-use native.Mathlib.Omega.{arith}
-use lib.ListN.{length, get_or, take}
-use Rattle.columns.specs.Numbers.{printed}
+use Prim.Native.Nat.{ℕ, ◌-◌, ◌≤◌}
+use lib.ListN.{take}
 use Rattle.columns.specs.Output.{number_columns, Prints}
-use Rattle.columns.proofs.Output.{prints_nothing, prints_then, prints_long, length_number_columns_take, number_columns_more}
 use Rattle.columns.proofs.print_numbers.Given as goal
 
 pub record Done (out₀ : List ℕ) (at : ℕ) (numbers : List ℕ) (count : ℕ) (out : List ℕ) (place i : ℕ) : Type 0 where

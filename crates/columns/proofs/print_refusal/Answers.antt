@@ -1,6 +1,5 @@
 -- `columns::print_refusal` meets its contract: a byte, two numbers and a byte, each right behind the last.
 use native.Mathlib.Omega.{arith}
-use borrow.Author.Rules.{rules}
 use Rattle.columns.specs.Output.{refusal_line}
 use Rattle.columns.proofs.Output.{number_behind, prints_then}
 use Rattle.columns.proofs.print_refusal.Goals as goal

@@ -8,7 +8,7 @@ use lib.Seq.{slice}
 use Rattle.columns.specs.Answers.{number_found}
 use Rattle.columns.specs.Numbers.{digits}
 use Rattle.columns.proofs.Answers.{number_found_none, number_found_some}
-use Rattle.columns.proofs.Numbers.Digits.{is_digit_below, is_digit_above, is_digit_within, digits_other, digits_digit, digits_empty, Room, room_zero, room_lt, room_digit}
+use Rattle.columns.proofs.Numbers.Digits.{is_digit_below, is_digit_above, is_digit_within, digits_other, digits_digit, digits_empty, room_zero, room_lt, room_digit}
 use Rattle.columns.proofs.read_digits.Invariants.{Left}
 use Rattle.columns.proofs.read_digits.Goals as goal
 

@@ -1,14 +1,10 @@
 -- `columns::read_digits` meets its contract. The invariant: the digits from i on, behind n, make what all of them make; and n leaves room for them.
-use mathlib.Core.Path.{◌≡◌, refl, sym, ◌∙◌}
+use mathlib.Core.Path.{◌≡◌}
 use mathlib.Core.List.{List}
-use Prim.Native.Nat.{ℕ, suc, ◌+◌, ◌-◌, ◌*◌, ◌≤◌, ◌<◌}
-use native.Mathlib.Omega.{arith}
-use lib.ListN.{length, get_or}
+use Prim.Native.Nat.{ℕ, ◌-◌, ◌≤◌}
 use lib.Seq.{slice}
-use Rattle.columns.specs.Answers.{number_found}
 use Rattle.columns.specs.Numbers.{digits}
-use Rattle.columns.proofs.Answers.{number_found_none, number_found_some}
-use Rattle.columns.proofs.Numbers.Digits.{is_digit_below, is_digit_above, is_digit_within, digits_other, digits_digit, digits_empty, Room, room_zero, room_lt, room_digit}
+use Rattle.columns.proofs.Numbers.Digits.{Room}
 use Rattle.columns.proofs.read_digits.Given as goal
 
 pub record Left (text : List ℕ) (from end n i : ℕ) : Type 0 where

@@ -1,6 +1,5 @@
 -- `columns::read_field` meets its contract.
 use mathlib.Core.Path.{sym, ◌∙◌}
-use borrow.Author.Rules.{rules}
 use Rattle.columns.specs.Answers.{found}
 use Rattle.columns.proofs.Answers.{number_found_none, number_found_some}
 use Rattle.columns.proofs.read_field.Goals as goal

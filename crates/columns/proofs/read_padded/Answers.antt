@@ -2,9 +2,8 @@
 use mathlib.Core.Path.{◌≡◌, refl, sym, ap, ◌∙◌}
 use mathlib.Core.List.{List}
 use mathlib.Core.Option.{none}
-use Prim.Native.Nat.{ℕ, ◌+◌, ◌-◌, ◌≤◌}
+use Prim.Native.Nat.{ℕ, ◌+◌}
 use native.Mathlib.Omega.{arith}
-use lib.Seq.{slice}
 use Rattle.columns.specs.Numbers.{number, field}
 use Rattle.columns.proofs.Answers.{number_found_none}
 use Rattle.columns.proofs.Numbers.Digits.{number_blank, number_not_blank, number_empty, slice_take_drop}

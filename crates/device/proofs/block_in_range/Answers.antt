@@ -1,5 +1,4 @@
 -- `device::block_in_range` meets its contract.
-use borrow.Author.Rules.{rules}
 use Rattle.device.specs.Acceptance.{block_allowed}
 use Rattle.device.proofs.block_in_range.Goals as goal
 

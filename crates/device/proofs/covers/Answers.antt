@@ -2,7 +2,6 @@
 use Prim.Native.Nat.{ℕ, ◌*◌, ◌<◌, ◌≤◌}
 use native.Mathlib.Omega.{arith}
 use native.Mathlib.Nat.{mul-le-mul}
-use borrow.Author.Rules.{rules}
 use Rattle.device.proofs.covers.Goals as goal
 
 product : (a b : ℕ) → a < 4294967296 → b < 4294967296 → a * b < 18446744073709551616

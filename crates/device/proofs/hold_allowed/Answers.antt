@@ -1,5 +1,4 @@
 -- `device::hold_allowed` meets its contract.
-use borrow.Author.Rules.{rules}
 use Rattle.device.specs.Hold.{hold_allowed}
 use Rattle.device.proofs.hold_allowed.Goals as goal
 

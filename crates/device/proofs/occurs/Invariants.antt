@@ -1,12 +1,8 @@
 -- `device::occurs` meets its contract. The loop's invariant: what was found and the places not looked at decide.
-use mathlib.Core.Path.{◌≡◌, refl, sym, ◌∙◌, ap}
-use mathlib.Core.Bool.{Bool, true, ◌||◌, or-true, or-false}
-use mathlib.Core.List.{List}
-use Prim.Native.Nat.{ℕ, ◌-◌, ◌≤◌, ◌<◌}
-use native.Mathlib.Omega.{arith}
-use lib.ListN.{get_or}
+use mathlib.Core.Path.{◌≡◌}
+use mathlib.Core.Bool.{◌||◌}
+use Prim.Native.Nat.{◌≤◌}
 use Rattle.device.specs.Remap.{occurs_in}
-use Rattle.device.proofs.Remap.{occurs_here, occurs_before, occurs_nowhere}
 use Rattle.device.proofs.occurs.Given as goal
 
 abbrev pub invariant-loop-i : goal.invariant-loop-i

@@ -1,5 +1,4 @@
 -- `device::refusal_with` meets its contract: the calls' results, put together, are the definition.
-use borrow.Author.Rules.{rules}
 use Rattle.device.specs.Refusal.{first_failed, unless}
 use Rattle.device.specs.Acceptance.{settings_tests_with}
 use Rattle.device.proofs.refusal_with.Goals as goal

@@ -1,10 +1,7 @@
 -- `device::remap_allowed` meets its contract. The loop's invariant: the numbers not looked for decide.
-use mathlib.Core.Path.{◌≡◌, refl, sym, ◌∙◌}
-use Prim.Native.Nat.{◌≤◌, ◌-◌}
-use native.Mathlib.Omega.{arith}
-use borrow.Author.Tests.{not-true, not-false}
-use Rattle.device.specs.Remap.{all_occur, remap_allowed}
-use Rattle.device.proofs.Remap.{all_missing, all_before, all_of_none}
+use mathlib.Core.Path.{◌≡◌}
+use Prim.Native.Nat.{◌≤◌}
+use Rattle.device.specs.Remap.{all_occur}
 use Rattle.device.proofs.remap_allowed.Given as goal
 
 abbrev pub invariant-loop-k : goal.invariant-loop-k

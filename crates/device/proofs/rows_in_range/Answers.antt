@@ -1,5 +1,4 @@
 -- `device::rows_in_range` meets its contract.
-use borrow.Author.Rules.{rules}
 use Rattle.device.specs.Acceptance.{rows_allowed_to}
 use Rattle.device.proofs.rows_in_range.Goals as goal
 

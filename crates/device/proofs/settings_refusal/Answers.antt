@@ -1,5 +1,4 @@
 -- `device::settings_refusal` meets its contract.
-use borrow.Author.Rules.{rules}
 use Rattle.device.specs.Acceptance.{settings_tests_to}
 use Rattle.device.proofs.settings_refusal.Goals as goal
 

@@ -1,5 +1,4 @@
 -- `device::settings_refusal_but_counters` meets its contract.
-use borrow.Author.Rules.{rules}
 use Rattle.device.specs.Acceptance.{settings_tests_but_counters_to}
 use Rattle.device.proofs.settings_refusal_but_counters.Goals as goal
 

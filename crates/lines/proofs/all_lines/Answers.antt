@@ -1,8 +1,6 @@
 -- `lines::all_lines` meets its contract. The invariant: the lines so far and those of the text that is left are all lines.
 use native.Mathlib.Omega.{arith}
-use borrow.Author.Rules.{rules}
-use lib.ListN.{length}
-use Rattle.lines.proofs.Lines.{Shorter, Counted, shorter_behind, counted_zero, counted_first, line_count_counted}
+use Rattle.lines.proofs.Lines.{shorter_behind, counted_zero, counted_first, line_count_counted}
 use Rattle.lines.proofs.all_lines.Goals as goal
 
 pub loop-left-init : goal.loop-left-init

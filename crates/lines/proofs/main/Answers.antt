@@ -1,5 +1,4 @@
 -- `lines::main` meets its contract: the text's lines, counted by the definition.
-use borrow.Author.Rules.{rules}
 use Rattle.lines.specs.Lines.{line_count}
 use Rattle.lines.proofs.main.Goals as goal
 

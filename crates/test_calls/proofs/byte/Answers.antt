@@ -1,5 +1,4 @@
 -- `test_calls::byte` answers at most 255: what is known of an element of a slice of bytes.
-use borrow.Author.Rules.{rules}
 use native.Mathlib.Omega.{arith}
 use Rattle.test_calls.proofs.byte.Goals as goal
 

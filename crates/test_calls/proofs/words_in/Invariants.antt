@@ -1,7 +1,6 @@
 -- `test_calls::words_in` is safe and ends. The invariant: `i` is at most the table's length, which stays.
 use Prim.Native.Nat.{◌≤◌, ◌-◌}
 use mathlib.Core.Path.{◌≡◌}
-use borrow.Author.Rules.{rules}
 use lib.ListN.{length}
 use Rattle.test_calls.proofs.words_in.Given as goal
 

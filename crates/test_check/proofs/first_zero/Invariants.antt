@@ -1,6 +1,5 @@
 -- `test_check::first_zero` is within the text.
 use Prim.Native.Nat.{◌-◌, ◌≤◌}
-use native.Mathlib.Omega.{arith}
 use lib.ListN.{length}
 use Rattle.test_check.proofs.first_zero.Given as goal
 

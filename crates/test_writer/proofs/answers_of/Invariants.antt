@@ -1,7 +1,6 @@
 -- `test_writer::answers_of` is safe and ends: `k` counts to 64, the length of the array, which stays.
 use Prim.Native.Nat.{◌≤◌, ◌-◌}
 use mathlib.Core.Path.{◌≡◌}
-use borrow.Author.Rules.{rules}
 use lib.ListN.{length}
 use Rattle.test_writer.proofs.answers_of.Given as goal
 

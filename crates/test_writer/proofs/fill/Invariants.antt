@@ -1,7 +1,6 @@
 -- `test_writer::fill` is safe and ends. The invariant: `i` is at most the number of places, which stays.
 use Prim.Native.Nat.{◌≤◌, ◌-◌}
 use mathlib.Core.Path.{◌≡◌}
-use borrow.Author.Rules.{rules}
 use lib.ListN.{length}
 use Rattle.test_writer.proofs.fill.Given as goal
 

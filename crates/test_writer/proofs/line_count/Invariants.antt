@@ -1,6 +1,5 @@
 -- `test_writer::line_count` is safe and ends, and answers at most 64: `count` never exceeds it.
 use Prim.Native.Nat.{◌≤◌, ◌-◌}
-use borrow.Author.Rules.{rules}
 use Rattle.test_writer.proofs.line_count.Given as goal
 
 abbrev pub invariant-loop-count : goal.invariant-loop-count
