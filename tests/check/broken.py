@@ -22,6 +22,7 @@ from rowcheck import (
 )
 
 LONGEST_NAME = 4095  # bytes of a path that Linux takes
+NO_TEXT = b"\xff\xfe"  # a name that is not UTF-8: the program opens no such file
 NOBODY = 65_534
 MEGABYTE = 10**6
 MOST_GROWTH = 1000  # kilobytes by which long texts may raise the program's memory
@@ -46,13 +47,14 @@ def expect(tally, title, answer, *wanted):
 def check_names(tally, command, folder):
     tally.begin("names of files")
     trace, listing = write_texts(folder)
-    for name in (b"a name with blanks", b"-", b"--", b"--help", b"-n", b"\xff\xfe", b"new\nline", b"%s",
+    for name in (b"a name with blanks", b"-", b"--", b"--help", b"-n", NO_TEXT, b"new\nline", b"%s",
                  b"n" * 255):
         path = os.path.join(os.fsencode(folder), name)
-        for text, names in ((TRACE, (name, "listing")), (LISTING, ("trace", name))):
+        for text, names, unopened in ((TRACE, (name, "listing"), NO_TRACE), (LISTING, ("trace", name), NO_LISTING)):
             with open(path, "wb") as file:
                 file.write(text)
-            expect(tally, f"{name}", rowcheck(command, *names, cwd=folder), answered(None))
+            wanted = wrong(unopened) if name == NO_TEXT else answered(None)
+            expect(tally, f"{name}", rowcheck(command, *names, cwd=folder), wanted)
         os.remove(path)
     for length in (100, 255, 256, 1000, 1024, 4000, LONGEST_NAME):
         names = [longer(name, length) for name in (trace, listing)]
@@ -224,6 +226,7 @@ def check_reasons(tally, command, folder):
     missing = f"{folder}/missing"
     for names, line in (((), USAGE), ((missing, listing), NO_TRACE + b" %s: No such file or directory" % missing.encode()),
                         ((trace, missing), NO_LISTING + b" %s: No such file or directory" % missing.encode()),
+                        ((NO_TEXT, listing), NO_TRACE + b" %s: Invalid or incomplete multibyte or wide character" % NO_TEXT),
                         ((folder, listing), TRACE_UNREAD + b" %s: Is a directory" % folder.encode()),
                         ((trace, folder), LISTING_UNREAD + b" %s: Is a directory" % folder.encode()),
                         ((longer(trace, 5000), listing), NO_TRACE + b": File name too long")):
