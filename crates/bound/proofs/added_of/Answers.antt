@@ -6,7 +6,7 @@ use Rattle.bound.proofs.Totals.Bound.{added_le}
 use Rattle.bound.proofs.added_of.Goals as goal
 
 pub overflow_mul-result : goal.overflow_mul-result
-overflow_mul-result c = let c = c in rw c.disturbers_of.ensures (omega (arith, added_le c.args.s (accepted_but_counters c.args.s c.requires)))
+overflow_mul-result c = rw c.disturbers_of.ensures (omega (arith, added_le c.args.s (accepted_but_counters c.args.s c.requires)))
 
 pub returns : goal.returns
 returns c = rw c.disturbers_of.ensures refl

@@ -11,7 +11,7 @@ added_of-added-requires c = accepted_skipping c.args.s c.requires.s_value
 
 pub total_of-total-requires : goal.total_of-total-requires
 total_of-total-requires c =
-    let c = c in let ok = accepted_settings c.args.s c.requires.s_value in (
+    let ok = accepted_settings c.args.s c.requires.s_value in (
       ok.others.volume.least,
       ok.others.volume.most,
       ok.counters.most,
@@ -24,4 +24,4 @@ unfolding bound_at
 returns c = rw (c.total_of-total.ensures, c.disturbers_of.ensures, c.added_of-added.ensures) refl
 
 pub overflow_add-result : goal.overflow_add-result
-overflow_add-result c = let c = c in omega (arith, returns c, bound_at_lt c.args.s c.args.events (accepted_settings c.args.s c.requires.s_value).others (omega arith))
+overflow_add-result c = omega (arith, returns c, bound_at_lt c.args.s c.args.events (accepted_settings c.args.s c.requires.s_value).others (omega arith))

@@ -23,11 +23,11 @@ unfolding ends_below meets bound_of bound_at with_counters disturbers
 same s threshold c = halved (total (size s.volume c) (s.blast_diameter * disturbers s) (s.window - 1) 0) (disturbers s) threshold
 
 pub overflow_sub-s : goal.overflow_sub-s
-overflow_sub-s c = let c = c in (accepted_but_counters c.args.s c.requires).window.least
+overflow_sub-s c = (accepted_but_counters c.args.s c.requires).window.least
 
 pub least_below-requires : goal.least_below-requires
 least_below-requires c =
-    let c = c in let ok = accepted_but_counters c.args.s c.requires in (
+    let ok = accepted_but_counters c.args.s c.requires in (
       ok.volume.least,
       ok.volume.most,
       rw c.added_of-added.ensures (added_le c.args.s ok),

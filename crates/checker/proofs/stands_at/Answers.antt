@@ -58,4 +58,4 @@ loop-i-preserved c =
     (λ not_so. clash (sym (rw not_so at on))))
 
 pub returns : goal.returns
-returns c = let c = c in λ on. so_far_all c.loop-i.invariant c.loop-i-test.false on c.if-required-gt-MOST.false (omega (arith, c.if-given-from.false, length-drop c.args.from c.args.given.now))
+returns c = λ on. so_far_all c.loop-i.invariant c.loop-i-test.false on c.if-required-gt-MOST.false (omega (arith, c.if-given-from.false, length-drop c.args.from c.args.given.now))

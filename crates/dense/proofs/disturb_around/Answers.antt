@@ -17,11 +17,11 @@ none_below : (row middle high : ℕ) → middle ≤ row → rows_between row mid
 none_below row middle high h = ap (λ rows. rows ++ rows_between (middle + 1) high) (between_none row middle h)
 
 pub loop-row-init : goal.loop-row-init
-loop-row-init c = let c = c in disturbing_start c.args.low c.args.middle c.args.high c.requires.0 c.requires.1 c.requires.2 c.requires.4 c.requires.5
+loop-row-init c = disturbing_start c.args.low c.args.middle c.args.high c.requires.0 c.requires.1 c.requires.2 c.requires.4 c.requires.5
 
 pub raise-requires : goal.raise-requires
 raise-requires c =
-    let c = c in let a = c in
+    let a = c in
     let less = c.loop-row-test.true in
     let next = next_below c.loop-row.row a.args.middle a.args.high less in
     let l = c.loop-row.invariant in
@@ -29,7 +29,7 @@ raise-requires c =
 
 pub disturb_other-left-requires : goal.disturb_other-left-requires
 disturb_other-left-requires c =
-    let c = c in let a = c in
+    let a = c in
     let less = c.loop-row-test.true in
     let next = next_below c.loop-row.row a.args.middle a.args.high less in
     let l = c.loop-row.invariant in
@@ -43,7 +43,7 @@ loop-row-smaller c = omega (arith, c.loop-row-test.true)
 
 pub loop-row-preserved : goal.loop-row-preserved
 loop-row-preserved c =
-    let c = c in let a = c in
+    let a = c in
     let less = c.loop-row-test.true in
     let inside : c.loop-row.row < a.args.rows = omega (arith, less, a.requires.2, a.requires.3) in
     let next = next_below c.loop-row.row a.args.middle a.args.high less in
@@ -64,7 +64,7 @@ loop-above-init c =
 
 pub raise-requires-in-loop-above : goal.raise-requires-in-loop-above
 raise-requires-in-loop-above c =
-    let c = c in let a = c in
+    let a = c in
     let less = c.loop-above-test.true in
     let next = between_step c.loop-above.above a.args.high less in
     let l = c.loop-above.invariant in
@@ -72,7 +72,7 @@ raise-requires-in-loop-above c =
 
 pub disturb_other-left-requires-then-not-raise-2 : goal.disturb_other-left-requires-then-not-raise-2
 disturb_other-left-requires-then-not-raise-2 c =
-    let c = c in let a = c in
+    let a = c in
     let less = c.loop-above-test.true in
     let next = between_step c.loop-above.above a.args.high less in
     let l = c.loop-above.invariant in
@@ -86,7 +86,7 @@ loop-above-smaller c = omega (arith, c.loop-above-test.true)
 
 pub loop-above-preserved : goal.loop-above-preserved
 loop-above-preserved c =
-    let c = c in let a = c in
+    let a = c in
     let less = c.loop-above-test.true in
     let inside : c.loop-above.above < a.args.rows = omega (arith, less, a.requires.3) in
     let next = between_step c.loop-above.above a.args.high less in

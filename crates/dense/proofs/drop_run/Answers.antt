@@ -5,7 +5,7 @@ use Rattle.dense.proofs.InnerContracts.Left.{fewer_same, dropping_again, droppin
 use Rattle.dense.proofs.drop_run.Goals as goal
 
 pub loop-row-init : goal.loop-row-init
-loop-row-init c = let c = c in record { kept = c.requires.0; same = refl; fewer = fewer_same c.args.counts.now }
+loop-row-init c = record { kept = c.requires.0; same = refl; fewer = fewer_same c.args.counts.now }
 
 pub drop_row-left-requires : goal.drop_row-left-requires
 drop_row-left-requires c = (c.loop-row.invariant.kept, omega (arith, c.loop-row-test.true, c.requires.1))
@@ -13,7 +13,7 @@ drop_row-left-requires c = (c.loop-row.invariant.kept, omega (arith, c.loop-row-
 pub overflow_add-row : goal.overflow_add-row
 overflow_add-row c =
     let loop_test = c.loop-row-test in
-    let c = c in omega (arith, loop_test.true, c.requires.1)
+    omega (arith, loop_test.true, c.requires.1)
 
 pub loop-row-smaller : goal.loop-row-smaller
 loop-row-smaller c = omega (arith, c.loop-row-test.true)

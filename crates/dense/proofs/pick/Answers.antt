@@ -9,7 +9,7 @@ use Rattle.dense.proofs.pick.Goals as goal
 
 pub loop-i-init : goal.loop-i-init
 loop-i-init c =
-    let c = c in record {
+    record {
       names = [];
       kept = c.requires.0;
       capped = c.requires.1;
@@ -32,18 +32,18 @@ overflow_cast-list c = omega (arith, c.take_top-taken.ensures.leaves.2)
 pub offset_bounds-list-i : goal.offset_bounds-list-i
 offset_bounds-list-i c =
     let loop_test = c.loop-i-test in
-    let c = c in omega (arith, loop_test.true, c.requires.2, c.well_formed)
+    omega (arith, loop_test.true, c.requires.2, c.well_formed)
 
 pub bounds-list-i : goal.bounds-list-i
 bounds-list-i c =
     let l = c.loop-i.invariant in
     let loop_test = c.loop-i-test in
-    let c = c in omega (arith, loop_test.true, c.requires.2, picking_long l (omega (arith, l.most, c.requires.2)))
+    omega (arith, loop_test.true, c.requires.2, picking_long l (omega (arith, l.most, c.requires.2)))
 
 pub overflow_add-i : goal.overflow_add-i
 overflow_add-i c =
     let loop_test = c.loop-i-test in
-    let c = c in omega (arith, loop_test.true, c.ranges.volume)
+    omega (arith, loop_test.true, c.ranges.volume)
 
 pub loop-i-smaller : goal.loop-i-smaller
 loop-i-smaller c = omega (arith, c.loop-i-test.true)
@@ -52,7 +52,7 @@ pub loop-i-preserved : goal.loop-i-preserved
 loop-i-preserved c =
     let loop = c.loop-i in
     let loop_test = c.loop-i-test in
-    let c = c in let if1 = c.if-left-gt0 in
+    let if1 = c.if-left-gt0 in
     let top = c.take_top-taken.ensures in
     picking_again loop.invariant loop_test.true c.requires.2 if1.true top.row_value top.leaves.0 top.leaves.1
 

@@ -9,5 +9,5 @@ use Rattle.dense.proofs.take_top.Goals as goal
 pub returns : goal.returns
 unfolding dense
 returns c =
-    let c = c in let top = c.top_row-row.ensures in
+    let top = c.top_row-row.ensures in
     let left = c.drop_row-tally.ensures in record { row_value = rw top.0 (picked_one c.args.counts.now (entries_from 0 c.args.counts.now) refl (omega (arith, c.requires.0.counted, c.requires.2))); leaves = (left, capped_fewer top.2 left.fewer.less, top.1) }

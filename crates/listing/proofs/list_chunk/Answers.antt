@@ -5,7 +5,7 @@ use Rattle.listing.proofs.Parts.Moves.{chunk_parts}
 use Rattle.listing.proofs.list_chunk.Goals as goal
 
 pub list_part-part-requires : goal.list_part-part-requires
-list_part-part-requires c = let c = c in (c.requires.0, c.requires.1)
+list_part-part-requires c = (c.requires.0, c.requires.1)
 
 pub returns : goal.returns
 returns c =

@@ -9,7 +9,7 @@ use Rattle.spelling.proofs.activation_fault.Goals as goal
 pub returns-then-standing : goal.returns-then-standing
 unfolding activation_fault standing_of first_failed unless
 returns-then-standing c =
-    let c = c in let refused = c.refuse_unless-held.ensures ∙ ap (λ (allowed : Bool). refuse (not allowed) 15 0) c.hold_allowed.ensures in
+    let refused = c.refuse_unless-held.ensures ∙ ap (λ (allowed : Bool). refuse (not allowed) 15 0) c.hold_allowed.ensures in
     rw c.if-standing.true (c.refuse_unless.ensures ∙ ap (refuse _ 9) refused)
 
 pub returns : goal.returns

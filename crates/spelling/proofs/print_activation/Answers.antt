@@ -6,14 +6,14 @@ use Rattle.canonical.proofs.Spelling.Lengths.{length_activation_line}
 use Rattle.spelling.proofs.print_activation.Goals as goal
 
 pub print_one_unit-requires : goal.print_one_unit-requires
-print_one_unit-requires c = let c = c in omega (arith, c.requires, rw (eq-eqb _ _ c.if-hold-eq1.true) at (length_activation_line c.args.row c.args.hold))
+print_one_unit-requires c = omega (arith, c.requires, rw (eq-eqb _ _ c.if-hold-eq1.true) at (length_activation_line c.args.row c.args.hold))
 
 pub returns-then-hold-eq1 : goal.returns-then-hold-eq1
 unfolding activation_spelling
 returns-then-hold-eq1 c = rw (eq-eqb _ _ c.if-hold-eq1.true) c.print_one_unit.ensures
 
 pub print_held-requires : goal.print_held-requires
-print_held-requires c = let c = c in omega (arith, c.requires, rw (ne_eqb _ _ c.if-hold-eq1.false) at (length_activation_line c.args.row c.args.hold))
+print_held-requires c = omega (arith, c.requires, rw (ne_eqb _ _ c.if-hold-eq1.false) at (length_activation_line c.args.row c.args.hold))
 
 pub returns : goal.returns
 unfolding activation_spelling

@@ -8,7 +8,7 @@ use Rattle.spelling.proofs.print_line.Goals as goal
 
 pub print_byte-requires : goal.print_byte-requires
 print_byte-requires c =
-    let c = c in let numbers = c.args.numbers.now in
+    let numbers = c.args.numbers.now in
     omega (arith, c.requires.1, c.print_numbers-end.ensures.behind, c.print_byte-place.ensures.behind, length_number_columns (take c.args.count numbers), length-take-le c.args.count numbers c.requires.0)
 
 pub returns : goal.returns

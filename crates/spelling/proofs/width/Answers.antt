@@ -15,7 +15,7 @@ returns-in-Remap c = rw (c.in-Line.is, c.in-Remap.is) (sym (length_remap_line _)
 
 pub returns-in-Activate : goal.returns-in-Activate
 unfolding answer_spelling record_spelling said
-returns-in-Activate c = let c = c in rw (c.in-Line.is, c.in-Activate.is) (c.activation_width.ensures ∙ sym (length_activation_line _ _))
+returns-in-Activate c = rw (c.in-Line.is, c.in-Activate.is) (c.activation_width.ensures ∙ sym (length_activation_line _ _))
 
 pub returns-in-Refresh : goal.returns-in-Refresh
 unfolding answer_spelling record_spelling said

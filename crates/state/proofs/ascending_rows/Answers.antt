@@ -27,11 +27,11 @@ pub loop-i-init : goal.loop-i-init
 loop-i-init c = record { same = refl }
 
 pub returns-then-row-low : goal.returns-then-row-low
-returns-then-row-low c = let c = c in rw (here c.loop-i.invariant c.requires (omega arith), lt-leb c.loop-i.low (get_or c.args.t.now c.loop-i.i 0) c.if-row-low.true)
+returns-then-row-low c = rw (here c.loop-i.invariant c.requires (omega arith), lt-leb c.loop-i.low (get_or c.args.t.now c.loop-i.i 0) c.if-row-low.true)
 
 pub returns-then-high-row : goal.returns-then-high-row
 returns-then-high-row c =
-    let c = c in let row = get_or c.args.t.now c.loop-i.i 0 in
+    let row = get_or c.args.t.now c.loop-i.i 0 in
     rw (
       here c.loop-i.invariant c.requires (omega arith),
       le-leb c.loop-i.low row c.if-row-low.false,
@@ -40,7 +40,7 @@ returns-then-high-row c =
 
 pub loop-i-preserved : goal.loop-i-preserved
 loop-i-preserved c =
-    let c = c in let row = get_or c.args.t.now c.loop-i.i 0 in
+    let row = get_or c.args.t.now c.loop-i.i 0 in
     record {
       same =
           rw (

@@ -25,11 +25,11 @@ pub loop-i-init : goal.loop-i-init
 loop-i-init c = record { same = refl }
 
 pub returns-then-not-count_in_range : goal.returns-then-not-count_in_range
-returns-then-not-count_in_range c = let c = c in rw (here c.loop-i.invariant c.requires (omega arith), ← c.count_in_range.ensures, c.if-not-count_in_range.true)
+returns-then-not-count_in_range c = rw (here c.loop-i.invariant c.requires (omega arith), ← c.count_in_range.ensures, c.if-not-count_in_range.true)
 
 pub loop-i-preserved : goal.loop-i-preserved
 loop-i-preserved c =
-    let c = c in record {
+    record {
       same = rw (here c.loop-i.invariant c.requires (omega arith), ← c.count_in_range.ensures, c.if-not-count_in_range.false);
     }
 

@@ -16,7 +16,7 @@ returns-then-s-p-2 c =
 
 pub returns-then-p-s : goal.returns-then-p-s
 returns-then-p-s c =
-    let c = c in let a = c.args in
+    let a = c.args in
     rw (
       lt-ltb a.p.events a.s.window c.if-s-p.false,
       le-leb a.p.activations a.s.interval (omega (arith, c.if-s-p-2.false)),
@@ -25,7 +25,7 @@ returns-then-p-s c =
 
 pub returns-else-p-s : goal.returns-else-p-s
 returns-else-p-s c =
-    let c = c in let a = c.args in
+    let a = c.args in
     rw (
       lt-ltb a.p.events a.s.window c.if-s-p.false,
       le-leb a.p.activations a.s.interval (omega (arith, c.if-s-p-2.false)),

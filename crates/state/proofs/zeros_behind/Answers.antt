@@ -26,10 +26,10 @@ pub loop-i-init : goal.loop-i-init
 loop-i-init c = record { same = refl }
 
 pub returns-then-t-i-ne0 : goal.returns-then-t-i-ne0
-returns-then-t-i-ne0 c = let c = c in rw (here c.loop-i.invariant (omega arith), ne_eqb (get_or c.args.t.now c.loop-i.i 0) 0 c.if-t-i-ne0.true)
+returns-then-t-i-ne0 c = rw (here c.loop-i.invariant (omega arith), ne_eqb (get_or c.args.t.now c.loop-i.i 0) 0 c.if-t-i-ne0.true)
 
 pub loop-i-preserved : goal.loop-i-preserved
-loop-i-preserved c = let c = c in record { same = rw (here c.loop-i.invariant (omega arith), eq-eqb (get_or c.args.t.now c.loop-i.i 0) 0 c.if-t-i-ne0.false) }
+loop-i-preserved c = record { same = rw (here c.loop-i.invariant (omega arith), eq-eqb (get_or c.args.t.now c.loop-i.i 0) 0 c.if-t-i-ne0.false) }
 
 pub returns : goal.returns
 returns c = done c.loop-i.invariant c.loop-i-test.false

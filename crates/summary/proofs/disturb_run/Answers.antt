@@ -8,15 +8,15 @@ use Rattle.summary.proofs.InnerContracts.Runs.{disturbing_ready, disturbing_agai
 use Rattle.summary.proofs.disturb_run.Goals as goal
 
 pub loop-row-init : goal.loop-row-init
-loop-row-init c = let c = c in record { sum = read c.args.rows.now c.args.counts.now c.args.t.tracked c.args.t.spillover; holds = c.requires.tracks; same = refl; room = room_more c.requires.low_bound.1 (omega arith); behind = omega arith }
+loop-row-init c = record { sum = read c.args.rows.now c.args.counts.now c.args.t.tracked c.args.t.spillover; holds = c.requires.tracks; same = refl; room = room_more c.requires.low_bound.1 (omega arith); behind = omega arith }
 
 pub disturb_row-left-requires : goal.disturb_row-left-requires
-disturb_row-left-requires c = let c = c in let all = disturbing_ready c.loop-row.invariant c.loop-row-test.true c.requires.low_bound.0 in record { tracks = all.0; room_for = all.1 }
+disturb_row-left-requires c = let all = disturbing_ready c.loop-row.invariant c.loop-row-test.true c.requires.low_bound.0 in record { tracks = all.0; room_for = all.1 }
 
 pub overflow_add-row : goal.overflow_add-row
 overflow_add-row c =
     let loop_test = c.loop-row-test in
-    let c = c in omega (arith, loop_test.true, c.ranges.high)
+    omega (arith, loop_test.true, c.ranges.high)
 
 pub loop-row-smaller : goal.loop-row-smaller
 loop-row-smaller c =

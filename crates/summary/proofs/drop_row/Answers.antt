@@ -16,8 +16,8 @@ pub returns-then-p-t : goal.returns-then-p-t
 returns-then-p-t c =
     let lookup = c.lookup-p in
     let if1 = c.if-p-t in
-    let c = c in let e = c.remove_entry.ensures in
+    let e = c.remove_entry.ensures in
     rw (e.0, e.1, e.2, e.3) (holds_drop c.requires c.args.row lookup.result lookup.ensures if1.true)
 
 pub returns-else-p-t : goal.returns-else-p-t
-returns-else-p-t c = let c = c in holds_drop_untracked c.requires c.args.row c.lookup-p.result c.lookup-p.ensures c.if-p-t.false
+returns-else-p-t c = holds_drop_untracked c.requires c.args.row c.lookup-p.result c.lookup-p.ensures c.if-p-t.false

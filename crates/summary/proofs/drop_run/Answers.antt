@@ -7,7 +7,7 @@ use Rattle.summary.proofs.InnerContracts.Runs.{dropping_ready, dropping_again, d
 use Rattle.summary.proofs.drop_run.Goals as goal
 
 pub loop-row-init : goal.loop-row-init
-loop-row-init c = let c = c in record { sum = read c.args.rows.now c.args.counts.now c.args.t.tracked c.args.t.spillover; holds = c.requires; same = refl }
+loop-row-init c = record { sum = read c.args.rows.now c.args.counts.now c.args.t.tracked c.args.t.spillover; holds = c.requires; same = refl }
 
 pub drop_row-left-requires : goal.drop_row-left-requires
 drop_row-left-requires c = dropping_ready c.loop-row.invariant
@@ -15,7 +15,7 @@ drop_row-left-requires c = dropping_ready c.loop-row.invariant
 pub overflow_add-row : goal.overflow_add-row
 overflow_add-row c =
     let loop_test = c.loop-row-test in
-    let c = c in omega (arith, loop_test.true, c.ranges.high)
+    omega (arith, loop_test.true, c.ranges.high)
 
 pub loop-row-smaller : goal.loop-row-smaller
 loop-row-smaller c =

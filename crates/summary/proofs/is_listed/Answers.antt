@@ -5,4 +5,4 @@ use Rattle.summary.proofs.Entries.Columns.{in_rows_place}
 use Rattle.summary.proofs.is_listed.Goals as goal
 
 pub returns : goal.returns
-returns c = let c = c in rw (in_rows_place c.args.row (take c.args.used c.args.list.now), length-take-le c.args.used c.args.list.now c.requires, ← c.first_equal.ensures)
+returns c = rw (in_rows_place c.args.row (take c.args.used c.args.list.now), length-take-le c.args.used c.args.list.now c.requires, ← c.first_equal.ensures)

@@ -10,7 +10,7 @@ use Rattle.summary.proofs.pick.Goals as goal
 
 pub loop-i-init : goal.loop-i-init
 loop-i-init c =
-    let c = c in record {
+    record {
       sum = read c.args.rows.now c.args.counts.now c.args.t.tracked c.args.t.spillover;
       names = [];
       holds = c.requires.tracks;
@@ -34,12 +34,12 @@ pub bounds-list-i : goal.bounds-list-i
 bounds-list-i c =
     let loop_test = c.loop-i-test in
     let l = c.loop-i.invariant in
-    let c = c in omega (arith, loop_test.true, c.requires.volume_in_bounds, picking_long l (omega (arith, l.most, c.requires.volume_in_bounds)))
+    omega (arith, loop_test.true, c.requires.volume_in_bounds, picking_long l (omega (arith, l.most, c.requires.volume_in_bounds)))
 
 pub overflow_add-i : goal.overflow_add-i
 overflow_add-i c =
     let loop_test = c.loop-i-test in
-    let c = c in omega (arith, loop_test.true, c.ranges.volume)
+    omega (arith, loop_test.true, c.ranges.volume)
 
 pub loop-i-smaller : goal.loop-i-smaller
 loop-i-smaller c =
@@ -50,7 +50,7 @@ pub loop-i-preserved : goal.loop-i-preserved
 loop-i-preserved c =
     let loop = c.loop-i in
     let loop_test = c.loop-i-test in
-    let c = c in let if1 = c.if-left-gt0 in
+    let if1 = c.if-left-gt0 in
     let t = c.take_top-taken in
     picking_again loop.invariant loop_test.true c.requires.volume_in_bounds if1.true t.ensures.row_value t.ensures.turns
 
@@ -58,10 +58,10 @@ pub shape_of-rows-else-left-gt0 : goal.shape_of-rows-else-left-gt0
 shape_of-rows-else-left-gt0 c = long_rows c.loop-i.invariant.holds
 
 pub shape_of-counts-else-left-gt0 : goal.shape_of-counts-else-left-gt0
-shape_of-counts-else-left-gt0 c = let c = c in long_counts c.loop-i.invariant.holds ∙ sym (long_counts c.requires.tracks)
+shape_of-counts-else-left-gt0 c = long_counts c.loop-i.invariant.holds ∙ sym (long_counts c.requires.tracks)
 
 pub shape_of-list-else-left-gt0 : goal.shape_of-list-else-left-gt0
-shape_of-list-else-left-gt0 c = let c = c in picking_long c.loop-i.invariant (omega (arith, c.loop-i.invariant.most, c.requires.volume_in_bounds))
+shape_of-list-else-left-gt0 c = picking_long c.loop-i.invariant (omega (arith, c.loop-i.invariant.most, c.requires.volume_in_bounds))
 
 pub returns-else-left-gt0 : goal.returns-else-left-gt0
 returns-else-left-gt0 c = let all = picking_empty c.loop-i.invariant c.if-left-gt0.false in record { names = all.0; turns = all.1 }
@@ -70,10 +70,10 @@ pub shape_of-rows-after-loop-i : goal.shape_of-rows-after-loop-i
 shape_of-rows-after-loop-i c = long_rows c.loop-i.invariant.holds
 
 pub shape_of-counts-after-loop-i : goal.shape_of-counts-after-loop-i
-shape_of-counts-after-loop-i c = let c = c in long_counts c.loop-i.invariant.holds ∙ sym (long_counts c.requires.tracks)
+shape_of-counts-after-loop-i c = long_counts c.loop-i.invariant.holds ∙ sym (long_counts c.requires.tracks)
 
 pub shape_of-list-after-loop-i : goal.shape_of-list-after-loop-i
-shape_of-list-after-loop-i c = let c = c in picking_long c.loop-i.invariant (omega (arith, c.loop-i.invariant.most, c.requires.volume_in_bounds))
+shape_of-list-after-loop-i c = picking_long c.loop-i.invariant (omega (arith, c.loop-i.invariant.most, c.requires.volume_in_bounds))
 
 pub returns-after-loop-i : goal.returns-after-loop-i
 returns-after-loop-i c = let all = picking_full c.loop-i.invariant c.loop-i-test.false in record { names = all.0; turns = all.1 }

@@ -5,13 +5,13 @@ use Rattle.trace.proofs.Reading.Activations.{short_untold, letter_untold, end_un
 use Rattle.trace.proofs.activation_row.Goals as goal
 
 pub returns-then-text-place-lt8 : goal.returns-then-text-place-lt8
-returns-then-text-place-lt8 c = let c = c in short_untold c.args.text.now c.args.place _ refl (omega (arith, c.if-text-place-lt8.true, c.requires))
+returns-then-text-place-lt8 c = short_untold c.args.text.now c.args.place _ refl (omega (arith, c.if-text-place-lt8.true, c.requires))
 
 pub returns-then-text-place-ne65 : goal.returns-then-text-place-ne65
-returns-then-text-place-ne65 c = let c = c in letter_untold c.args.text.now c.args.place _ refl (omega (arith, c.if-text-place-lt8.false, c.requires)) c.if-text-place-ne65.true
+returns-then-text-place-ne65 c = letter_untold c.args.text.now c.args.place _ refl (omega (arith, c.if-text-place-lt8.false, c.requires)) c.if-text-place-ne65.true
 
 pub returns-then-text-place-ne10 : goal.returns-then-text-place-ne10
-returns-then-text-place-ne10 c = let c = c in end_untold c.args.text.now c.args.place _ refl (omega (arith, c.if-text-place-lt8.false, c.requires)) c.if-text-place-ne10.true
+returns-then-text-place-ne10 c = end_untold c.args.text.now c.args.place _ refl (omega (arith, c.if-text-place-lt8.false, c.requires)) c.if-text-place-ne10.true
 
 pub returns : goal.returns
-returns c = let c = c in field_told c.args.text.now c.args.place _ (omega (arith, c.if-text-place-lt8.false, c.requires)) c.if-text-place-ne65.false c.if-text-place-ne10.false c.read_number.ensures
+returns c = field_told c.args.text.now c.args.place _ (omega (arith, c.if-text-place-lt8.false, c.requires)) c.if-text-place-ne65.false c.if-text-place-ne10.false c.read_number.ensures

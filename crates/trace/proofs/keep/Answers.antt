@@ -12,7 +12,7 @@ loop-i-init c = (refl, omega arith)
 
 pub bounds-text-begin : goal.bounds-text-begin
 bounds-text-begin c =
-    let c = c in let smaller = c.smaller-end in
+    let smaller = c.smaller-end in
     let l = c.loop-i in
     let few = kept_within c.args.text.now c.args.from c.args.to smaller.ensures c.smaller-begin.ensures _ c.smaller-kept.ensures in
     omega (arith, few, c.loop-i-test.true, copied_long c.args.text.now c.smaller-begin.result l.i (omega (arith, few, l.invariant.1)) l.invariant.0)
@@ -24,7 +24,7 @@ bounds-text-i c =
 
 pub loop-i-preserved : goal.loop-i-preserved
 loop-i-preserved c =
-    let c = c in let smaller = c.smaller-end in
+    let smaller = c.smaller-end in
     let l = c.loop-i in
     let few = kept_within c.args.text.now c.args.from c.args.to smaller.ensures c.smaller-begin.ensures _ c.smaller-kept.ensures in
     let less = c.loop-i-test.true in
@@ -32,7 +32,7 @@ loop-i-preserved c =
 
 pub shape_of-text : goal.shape_of-text
 shape_of-text c =
-    let c = c in let l = c.loop-i in
+    let l = c.loop-i in
     let few = kept_within c.args.text.now c.args.from c.args.to c.smaller-end.ensures c.smaller-begin.ensures _ c.smaller-kept.ensures in
     copied_long c.args.text.now c.smaller-begin.result l.i (omega (arith, few, l.invariant.1)) l.invariant.0
 

@@ -9,7 +9,7 @@ use Rattle.trace.proofs.line_fields.Goals as goal
 
 pub read_fields-requires : goal.read_fields-requires
 read_fields-requires c =
-    let c = c in let inside = ends_after_lt _ _ (sym c.ends_after.ensures ∙ c.if-ends_after.true) in
+    let inside = ends_after_lt _ _ (sym c.ends_after.ensures ∙ c.if-ends_after.true) in
     (c.requires.0, omega (arith, rw length-drop at inside))
 
 pub returns-then-ends_after : goal.returns-then-ends_after

@@ -56,14 +56,14 @@ loop-i-init c = filled_zero _ _ _ _ refl
 
 pub returns-in_default : goal.returns-in_default
 returns-in_default c =
-    let c = c in let l = c.loop-i in
+    let l = c.loop-i in
     let a = c.args in
     let is_other = field_found_other a.text.now (a.at + 6 * l.i) _ c.read_field.ensures c.in_default.is in
     filled_other l.invariant (omega arith) is_other
 
 pub loop-i-preserved : goal.loop-i-preserved
 loop-i-preserved c =
-    let c = c in let l = c.loop-i in
+    let l = c.loop-i in
     let a = c.args in
     let is_number = field_found_number a.text.now (a.at + 6 * l.i) _ _ c.read_field.ensures c.in-Number.is in
     filled_number _ l.invariant (omega arith) (omega arith) is_number

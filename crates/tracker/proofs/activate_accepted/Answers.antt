@@ -24,33 +24,33 @@ made_by s e a sum at remap row hold same h = state_of_holds s e a h ∙ ap (λ x
 
 pub physical_row-physical-requires : goal.physical_row-physical-requires
 unfolding given
-physical_row-physical-requires c = let c = c in (activation_ready c.args.s c.args.remap (given c.args.rows.now c.args.counts.now c.args.p) c.args.row c.args.hold c.requires).allowed
+physical_row-physical-requires c = (activation_ready c.args.s c.args.remap (given c.args.rows.now c.args.counts.now c.args.p) c.args.row c.args.hold c.requires).allowed
 
 pub activate_units-after-requires : goal.activate_units-after-requires
 unfolding given summary_of
 activate_units-after-requires c =
-    let c = c in let st = given c.args.rows.now c.args.counts.now c.args.p in
+    let st = given c.args.rows.now c.args.counts.now c.args.p in
     let r = activation_ready c.args.s c.args.remap st c.args.row c.args.hold c.requires in
     let below = physical_below c.args.remap r.allowed c.args.s.rows c.args.row r.state.settings.others.rows_whole r.inside in record { tracks = ready_held r.state; blast_diameter_bound = (diameter_four r.state.settings, omega (arith, c.physical_row-physical.ensures, below, r.inside), r.state.settings.others.rows.most); le_units = (omega (arith, r.units.least), omega (arith, r.units.most), room_more r.state.facts.room (omega arith)) }
 
 pub overflow_add-result : goal.overflow_add-result
 unfolding given
 overflow_add-result c =
-    let c = c in let r = activation_ready c.args.s c.args.remap (given c.args.rows.now c.args.counts.now c.args.p) c.args.row c.args.hold c.requires in
+    let r = activation_ready c.args.s c.args.remap (given c.args.rows.now c.args.counts.now c.args.p) c.args.row c.args.hold c.requires in
     omega (arith, r.spare, r.state.settings.others.interval.most)
 
 pub overflow_cast-result : goal.overflow_cast-result
 unfolding given
 overflow_cast-result c =
     let activate_units = c.activate_units-after in
-    let c = c in let r = activation_ready c.args.s c.args.remap (given c.args.rows.now c.args.counts.now c.args.p) c.args.row c.args.hold c.requires in
+    let r = activation_ready c.args.s c.args.remap (given c.args.rows.now c.args.counts.now c.args.p) c.args.row c.args.hold c.requires in
     omega (arith, tracked_le activate_units.ensures, r.state.fitting.rows_long, r.state.settings.counters.most)
 
 pub returns : goal.returns
 unfolding given summary_of
 returns c =
     let activate_units = c.activate_units-after in
-    let c = c in let st = given c.args.rows.now c.args.counts.now c.args.p in
+    let st = given c.args.rows.now c.args.counts.now c.args.p in
     let r = activation_ready c.args.s c.args.remap st c.args.row c.args.hold c.requires in
     let f = c.physical_row-physical in
     rw (activation_leaves c.args.s c.args.remap st c.args.row c.args.hold c.requires)

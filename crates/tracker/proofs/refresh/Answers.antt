@@ -13,7 +13,7 @@ returns-then-k-ne0 c =
     refresh_refused a.s (given a.rows.now a.counts.now a.p) a.picks.now k.result k.ensures c.if-k-ne0.true
 
 pub returns : goal.returns
-returns c = let c = c in c.refresh_accepted-after.ensures
+returns c = c.refresh_accepted-after.ensures
 
 pub refresh_accepted-after-requires : goal.refresh_accepted-after-requires
 refresh_accepted-after-requires c = sym c.refresh_refusal-k.ensures ∙ c.if-k-ne0.false

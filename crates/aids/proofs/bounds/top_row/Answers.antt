@@ -26,6 +26,6 @@ loop-row-preserved c = left c.try_top-row-in-loop-row.ensures
 
 pub returns : goal.returns
 returns c =
-    let c = c in let l = c.loop-row.invariant in
+    let l = c.loop-row.invariant in
     let less : c.loop-row.row < most_rows = omega (arith, l.range, c.loop-row-test.false) in
     (highest_is c.args.counts.now most_rows c.loop-row.row c.requires.0 (l.found less), less, l.capped)

@@ -7,5 +7,5 @@ use Rattle.aids.proofs.marks.clear.Goals as goal
 
 pub returns : goal.returns
 returns c =
-    let c = c in let counts = c.clear_marked.ensures in
+    let counts = c.clear_marked.ensures in
     (counts.1, unmarked counts.0 counts.1 (c.clear_marks.ensures ∙ ap (λ (n : ℕ). replicate n 0) c.requires.marks_long))

@@ -26,7 +26,7 @@ bounds-counts-row c = let l = c.loop-left in omega (arith, lowest_inside l.invar
 pub returns-then-counts-row : goal.returns-then-counts-row
 returns-then-counts-row c =
     let l = c.loop-left in
-    let c = c in let some : 0 < l.left = omega (arith, c.loop-left-test.true) in
+    let some : 0 < l.left = omega (arith, c.loop-left-test.true) in
     found_at c.args.end (clear_skipped l.invariant.shows l.invariant.clear some) c.if-counts-row.true (omega (arith, lowest_inside l.invariant.shows some))
 
 pub overflow_add-row-in-loop-left : goal.overflow_add-row-in-loop-left

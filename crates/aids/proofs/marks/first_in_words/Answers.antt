@@ -9,7 +9,7 @@ use Rattle.aids.proofs.Searches.{clear_less, clear_words_skipped, clear_words_en
 use Rattle.aids.proofs.marks.first_in_words.Goals as goal
 
 pub loop-left-init : goal.loop-left-init
-loop-left-init c = let c = c in record { shows = c.requires.3; clear = c.requires.4; fits = omega arith }
+loop-left-init c = record { shows = c.requires.3; clear = c.requires.4; fits = omega arith }
 
 pub overflow_cast-w : goal.overflow_cast-w
 overflow_cast-w c = let l = c.loop-left in omega (arith, lowest_inside l.invariant.shows (omega (arith, c.loop-left-test.true)))
@@ -35,13 +35,13 @@ overflow_add-w-in-loop-left c = let l = c.loop-left in omega (arith, lowest_insi
 pub first_in_word-row-requires : goal.first_in_word-row-requires
 first_in_word-row-requires c =
     let l = c.loop-left in
-    let c = c in let some : 0 < l.left = omega (arith, c.loop-left-test.true) in
+    let some : 0 < l.left = omega (arith, c.loop-left-test.true) in
     let w = l.w + count_trailing_zeros 64 l.left in
     let inside = lowest_inside l.invariant.shows some in
     (c.requires.0.counts_long, omega arith, rows_of_word c.requires.0 c.requires.1 w (omega (arith, c.type_inv.marks w)), clear_words_skipped c.requires.0 c.requires.1 l.invariant.shows l.invariant.clear some)
 
 pub returns-then-row-ne-ROWS : goal.returns-then-row-ne-ROWS
-returns-then-row-ne-ROWS c = let c = c in found_part (c.args.end * 64) c.first_in_word-row.ensures c.if-row-ne-ROWS.true
+returns-then-row-ne-ROWS c = found_part (c.args.end * 64) c.first_in_word-row.ensures c.if-row-ne-ROWS.true
 
 pub overflow_add-w-in-loop-left-2 : goal.overflow_add-w-in-loop-left-2
 overflow_add-w-in-loop-left-2 c = let l = c.loop-left in omega (arith, lowest_inside l.invariant.shows (omega (arith, c.loop-left-test.true)))
@@ -69,4 +69,4 @@ loop-left-preserved c =
 pub returns : goal.returns
 returns c =
     let l = c.loop-left in
-    let c = c in missed_all (clear_words_end c.requires.0 c.requires.1 l.invariant.shows l.invariant.clear (omega (arith, c.loop-left-test.false)))
+    missed_all (clear_words_end c.requires.0 c.requires.1 l.invariant.shows l.invariant.clear (omega (arith, c.loop-left-test.false)))

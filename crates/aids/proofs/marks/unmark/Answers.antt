@@ -9,4 +9,4 @@ use Rattle.aids.proofs.marks.unmark.Goals as goal
 
 pub returns : goal.returns
 unfolding turned
-returns c = let c = c in rw (one_shifted (c.args.place % 64) (omega arith)) (refl, sym (get_or-set_same c.args.marks.now (c.args.place / 64) _ 0 c.requires))
+returns c = rw (one_shifted (c.args.place % 64) (omega arith)) (refl, sym (get_or-set_same c.args.marks.now (c.args.place / 64) _ 0 c.requires))

@@ -8,7 +8,7 @@ clear-requires c = let bank = c.requires in (bank.kept.marked, bank.capped.neste
 
 pub returns-then-last : goal.returns-then-last
 unfolding cleared_if
-returns-then-last c = let c = c in rw c.if-last.true (c.clear.ensures c.args.s.rows c.args.s.counters c.requires.most)
+returns-then-last c = rw c.if-last.true (c.clear.ensures c.args.s.rows c.args.s.counters c.requires.most)
 
 pub returns-else-last : goal.returns-else-last
 unfolding cleared_if

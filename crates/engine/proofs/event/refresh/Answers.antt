@@ -21,7 +21,7 @@ pub overflow_add-low : goal.overflow_add-low
 overflow_add-low c = let p = c.requires.ranges.0 in omega (arith, mul-le-mul p.5 p.3, p.3)
 
 pub take_out-taken-requires : goal.take_out-taken-requires
-take_out-taken-requires c = let c = c in record { holds = c.requires.holds; volume_in_bounds = (c.requires.ranges.0.6, omega (arith, c.smaller-high.ensures)) }
+take_out-taken-requires c = record { holds = c.requires.holds; volume_in_bounds = (c.requires.ranges.0.6, omega (arith, c.smaller-high.ensures)) }
 
 pub overflow_sub-s : goal.overflow_sub-s
 overflow_sub-s c = c.requires.ranges.0.4
@@ -32,7 +32,7 @@ clear_if-begun-requires c = c.take_out-taken.ensures.turns.bank
 pub spread_picks-named-requires : goal.spread_picks-named-requires
 unfolding ends_window
 spread_picks-named-requires c =
-    let c = c in let a = c.args in
+    let a = c.args in
     let p = c.requires.ranges.0 in
     let taken = c.take_out-taken in
     let cleared = c.clear_if-begun.ensures in
@@ -43,7 +43,7 @@ spread_picks-named-requires c =
 pub spread_run-after-requires : goal.spread_run-after-requires
 unfolding ends_window
 spread_run-after-requires c =
-    let c = c in let a = c.args in
+    let a = c.args in
     let p = c.requires.ranges.0 in
     let high = c.smaller-high.ensures in
     let taken = c.take_out-taken in
@@ -73,7 +73,7 @@ shape_of-picks c = c.take_out-taken.auto.picks
 pub returns : goal.returns
 unfolding block_rows ends_window
 returns c =
-    let c = c in let a = c.args in
+    let a = c.args in
     let smaller = c.smaller-high in
     let taken = c.take_out-taken in
     let x = taken.ensures.names in

@@ -14,7 +14,7 @@ use Rattle.engine.proofs.Steps.Spread.{spreading_again, spreading_done}
 use Rattle.engine.proofs.event.spread_picks.Goals as goal
 
 pub loop-i-init : goal.loop-i-init
-loop-i-init c = let c = c in (record { bank = c.requires.holds; same = refl; room = room_more c.requires.room_for (omega arith) }, omega arith)
+loop-i-init c = (record { bank = c.requires.holds; same = refl; room = room_more c.requires.room_for (omega arith) }, omega arith)
 
 pub offset_bounds-picks-i : goal.offset_bounds-picks-i
 offset_bounds-picks-i c = omega (arith, c.loop-i-test.true, c.requires.blast_diameter_bound.1)
@@ -24,7 +24,7 @@ bounds-picks-i c = omega (arith, c.loop-i-test.true, c.requires.blast_diameter_b
 
 pub disturb_victims-left-requires : goal.disturb_victims-left-requires
 disturb_victims-left-requires c =
-    let c = c in let a = c.args in
+    let a = c.args in
     let p = c.requires.blast_diameter_bound in
     let loop = c.loop-i in
     let less = c.loop-i-test.true in record {
@@ -45,7 +45,7 @@ loop-i-smaller c = omega (arith, c.loop-i-test.true)
 
 pub loop-i-preserved : goal.loop-i-preserved
 loop-i-preserved c =
-    let c = c in let a = c.args in
+    let a = c.args in
     let p = c.requires.blast_diameter_bound in
     let loop = c.loop-i in
     let less = c.loop-i-test.true in
@@ -68,6 +68,6 @@ shape_of-bounds c = same_bounds c.requires.holds c.loop-i.invariant.0.bank
 pub returns : goal.returns
 unfolding victims_in
 returns c =
-    let c = c in let a = c.args in
+    let a = c.args in
     let loop = c.loop-i in
     spreading_done loop.invariant.0 (left_none a.picks.now a.used loop.i c.requires.blast_diameter_bound.2 c.loop-i-test.false)

@@ -13,7 +13,7 @@ use Rattle.engine.proofs.Steps.Spread.{spreading_beside, spreading_done}
 use Rattle.engine.proofs.event.spread_run.Goals as goal
 
 pub loop-row-init : goal.loop-row-init
-loop-row-init c = let c = c in (record { bank = c.requires.holds; same = refl; room = room_more c.requires.room_for (omega arith) }, omega arith)
+loop-row-init c = (record { bank = c.requires.holds; same = refl; room = room_more c.requires.room_for (omega arith) }, omega arith)
 
 pub spread_unlisted-left-requires : goal.spread_unlisted-left-requires
 spread_unlisted-left-requires c =
@@ -29,7 +29,7 @@ loop-row-smaller c = omega (arith, c.loop-row-test.true)
 
 pub loop-row-preserved : goal.loop-row-preserved
 loop-row-preserved c =
-    let c = c in let a = c.args in
+    let a = c.args in
     let loop = c.loop-row in
     let l = rw (between_step loop.row a.high c.loop-row-test.true) at loop.invariant.0 in (
       spreading_beside (take a.used a.picks.now) loop.row (rows_between (loop.row + 1) a.high) l (victims_four a.s loop.row c.requires.blast_diameter_bound.0) c.spread_unlisted-left.ensures

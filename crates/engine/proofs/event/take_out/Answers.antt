@@ -8,14 +8,14 @@ use Rattle.dense.proofs.Bridge.{bank_dropped_under, bank_dropped}
 use Rattle.engine.proofs.event.take_out.Goals as goal
 
 pub pick-picked-requires : goal.pick-picked-requires
-pick-picked-requires c = let c = c in (c.requires.holds.kept, c.requires.holds.capped, c.requires.volume_in_bounds.0)
+pick-picked-requires c = (c.requires.holds.kept, c.requires.holds.capped, c.requires.volume_in_bounds.0)
 
 pub drop_run-rest-requires : goal.drop_run-rest-requires
-drop_run-rest-requires c = let c = c in (c.pick-picked.ensures.leaves.0.kept, omega (arith, c.requires.volume_in_bounds.1, c.requires.holds.most))
+drop_run-rest-requires c = (c.pick-picked.ensures.leaves.0.kept, omega (arith, c.requires.volume_in_bounds.1, c.requires.holds.most))
 
 pub returns : goal.returns
 returns c =
-    let c = c in let a = c.args in
+    let a = c.args in
     let x = c.pick-picked.ensures in
     let sum = dense a.counts.now a.t.spillover in
     let taken = bank_dropped_under (picks a.s.volume sum.entries) c.requires.holds x.leaves.0 x.leaves.1 in

@@ -13,12 +13,12 @@ use Rattle.engine.proofs.Steps.Units.{units_room, units_again, units_done}
 use Rattle.engine.proofs.victims.activate.Goals as goal
 
 pub drop_row-left-requires : goal.drop_row-left-requires
-drop_row-left-requires c = let c = c in (c.requires.holds.kept, omega (arith, c.requires.diameter_bound.1, c.requires.holds.most))
+drop_row-left-requires c = (c.requires.holds.kept, omega (arith, c.requires.diameter_bound.1, c.requires.holds.most))
 
 pub loop-done-init : goal.loop-done-init
 unfolding repeated
 loop-done-init c =
-    let c = c in (
+    (
       record {
         turned = record { bank = (bank_dropped (c.args.row ∷ []) c.requires.holds c.drop_row-left.ensures).bank; holds = refl };
       },
@@ -27,7 +27,7 @@ loop-done-init c =
 
 pub disturb_victims-left-requires : goal.disturb_victims-left-requires
 disturb_victims-left-requires c =
-    let c = c in let a = c.args in
+    let a = c.args in
     let p = c.requires.diameter_bound in
     let l = c.loop-done.invariant.0 in
     let room = units_room l (omega (arith, p.0, length_victims_le a.rows a.diameter a.row)) (omega (arith, c.loop-done-test.true, p.3)) _ c.drop_row-left.ensures.holds (room_drop (a.row ∷ []) p.4) in record { holds = l.turned.bank; diameter_bound = (p.0, p.1, room) }
@@ -52,7 +52,7 @@ shape_of-bounds c = same_bounds c.requires.holds c.loop-done.invariant.0.turned.
 
 pub returns : goal.returns
 returns c =
-    let c = c in let a = c.args in
+    let a = c.args in
     let p = c.requires.diameter_bound in
     let loop = c.loop-done in
     let once = units_drop_once a.counters (victims a.rows a.diameter) a.row (λ v m same. omega (arith, (victim_near a.rows a.diameter a.row p.1 v m).2)) (dense a.counts.now a.t.spillover) (bank_sound c.requires.holds).ordered a.units p.2 in

@@ -4,11 +4,11 @@ use Rattle.engine.proofs.Steps.Around.{victims_around}
 use Rattle.engine.proofs.victims.disturb_victims.Goals as goal
 
 pub overflow_add-highest_within : goal.overflow_add-highest_within
-overflow_add-highest_within c = let c = c in omega (arith, c.highest_within.ensures, c.requires.holds.most, c.requires.diameter_bound.1)
+overflow_add-highest_within c = omega (arith, c.highest_within.ensures, c.requires.holds.most, c.requires.diameter_bound.1)
 
 pub disturb_around-requires : goal.disturb_around-requires
 disturb_around-requires c =
-    let c = c in let p = c.requires.diameter_bound in
+    let p = c.requires.diameter_bound in
     let low = c.lowest_within-low.ensures in
     let top = c.highest_within.ensures in
     let high = c.smaller-high.ensures in

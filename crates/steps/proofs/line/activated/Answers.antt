@@ -6,11 +6,11 @@ use Rattle.steps.proofs.Steps.CallLines.{banked_moved, activation_active, activa
 use Rattle.steps.proofs.line.activated.Goals as goal
 
 pub physical_row-physical-requires : goal.physical_row-physical-requires
-physical_row-physical-requires c = let c = c in (activation_facts c.args.p c.args.counts.now c.requires.0 c.args.row c.args.hold c.requires.2).allowed
+physical_row-physical-requires c = (activation_facts c.args.p c.args.counts.now c.requires.0 c.args.row c.args.hold c.requires.2).allowed
 
 pub activate-tally-requires : goal.activate-tally-requires
 activate-tally-requires c =
-    let c = c in let facts = activation_facts c.args.p c.args.counts.now c.requires.0 c.args.row c.args.hold c.requires.2 in record {
+    let facts = activation_facts c.args.p c.args.counts.now c.requires.0 c.args.row c.args.hold c.requires.2 in record {
       holds = c.requires.1.bank (activation_active c.args.p c.args.counts.now c.requires.0 c.args.row c.args.hold c.requires.2);
       diameter_bound = (
         activation_diameter c.args.p c.args.counts.now c.requires.0 c.args.row c.args.hold c.requires.2,
@@ -24,11 +24,11 @@ activate-tally-requires c =
 pub overflow_add-p : goal.overflow_add-p
 unfolding state_of
 overflow_add-p c =
-    let c = c in let facts = activation_facts c.args.p c.args.counts.now c.requires.0 c.args.row c.args.hold c.requires.2 in
+    let facts = activation_facts c.args.p c.args.counts.now c.requires.0 c.args.row c.args.hold c.requires.2 in
     omega (arith, facts.spare, facts.state.settings.others.interval.most)
 
 pub returns : goal.returns
 returns c =
-    let c = c in let t = c.activate-tally.ensures in
+    let t = c.activate-tally.ensures in
     let m = c.moved in
     let f = c.physical_row-physical.ensures in record { leaves_in = rw m.ensures (activation_moves c.args.p c.args.counts.now c.requires.0 c.args.row c.args.hold c.requires.2 c.args.line f t); banked_in = rw m.ensures (banked_moved c.args.p _ _ c.args.line t) }

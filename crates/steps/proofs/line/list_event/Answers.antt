@@ -9,26 +9,26 @@ use Rattle.steps.proofs.line.list_event.Goals as goal
 pub returns-then-not-p : goal.returns-then-not-p
 unfolding refused_step record_step_to
 returns-then-not-p c =
-    let c = c in let none = tracker_inactive c.args.p c.args.counts.now (not-true _ c.if-not-p.true) in
+    let none = tracker_inactive c.args.p c.args.counts.now (not-true _ c.if-not-p.true) in
     let same = c.at_line.ensures in record { lists_line = rw none (rw none at (leaves_unmoved c.args.p c.args.counts.now same _ c.print_refusal-end.ensures)); banked_in = banked_unmoved c.args.p c.args.counts.now same c.requires.1 }
 
 pub refresh-picked-requires : goal.refresh-picked-requires
-refresh-picked-requires c = let c = c in let on = not-false _ c.if-not-p.false in record { holds = c.requires.1.bank on; ranges = (event_ranges c.args.p c.args.counts.now c.requires.0 on 16 (omega arith), event_room c.args.p c.args.counts.now c.requires.0 on) }
+refresh-picked-requires c = let on = not-false _ c.if-not-p.false in record { holds = c.requires.1.bank on; ranges = (event_ranges c.args.p c.args.counts.now c.requires.0 on 16 (omega arith), event_room c.args.p c.args.counts.now c.requires.0 on) }
 
 pub print_refresh-end-requires : goal.print_refresh-end-requires
 print_refresh-end-requires c =
-    let c = c in let r = c.refresh-picked in
+    let r = c.refresh-picked in
     let few = event_few c.args.p c.args.counts.now c.requires.0 (not-false _ c.if-not-p.false) r.ensures.names in
     (omega (arith, r.auto.picks, few), omega (arith, c.requires.2, few))
 
 pub next_event-requires : goal.next_event-requires
 next_event-requires c =
-    let c = c in let ranges = event_ranges c.args.p c.args.counts.now c.requires.0 (not-false _ c.if-not-p.false) 16 (omega arith) in
+    let ranges = event_ranges c.args.p c.args.counts.now c.requires.0 (not-false _ c.if-not-p.false) 16 (omega arith) in
     (ranges.4, ranges.5)
 
 pub returns : goal.returns
 returns c =
-    let c = c in let on = not-false _ c.if-not-p.false in
+    let on = not-false _ c.if-not-p.false in
     let r = c.refresh-picked in
     let m = c.moved in record {
       lists_line = record {

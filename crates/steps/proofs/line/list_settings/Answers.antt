@@ -9,11 +9,11 @@ use Rattle.steps.proofs.Steps.SettingsLine.{settings_printed, settings_leave}
 use Rattle.steps.proofs.line.list_settings.Goals as goal
 
 pub print_settings-end-requires : goal.print_settings-end-requires
-print_settings-end-requires c = let c = c in (omega (arith, c.requires.2), rw c.bound.ensures (small_bound_answer c.args.s))
+print_settings-end-requires c = (omega (arith, c.requires.2), rw c.bound.ensures (small_bound_answer c.args.s))
 
 pub returns : goal.returns
 returns c =
-    let c = c in let b = c.bound in
+    let b = c.bound in
     let k = c.settings_refusal-active in
     let e = c.clear-tally in
     let none = e.ensures 0 0 (omega arith) in

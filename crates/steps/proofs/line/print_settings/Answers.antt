@@ -7,7 +7,7 @@ use Rattle.steps.proofs.line.print_settings.Goals as goal
 pub print_bound-requires : goal.print_bound-requires
 unfolding outcome Small
 print_bound-requires c =
-    let c = c in let small = rw c.in-Value.is at c.requires.1 in
+    let small = rw c.in-Value.is at c.requires.1 in
     (omega (arith, c.requires.0), omega (arith, small))
 
 pub returns-in-Value : goal.returns-in-Value

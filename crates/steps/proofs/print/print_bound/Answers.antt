@@ -7,7 +7,7 @@ use Rattle.columns.proofs.Output.{prints_then}
 use Rattle.steps.proofs.print.print_bound.Goals as goal
 
 pub print_columns-end-requires : goal.print_columns-end-requires
-print_columns-end-requires c = let c = c in omega (arith, length_printed 10 c.args.h)
+print_columns-end-requires c = omega (arith, length_printed 10 c.args.h)
 
 pub print_byte-requires : goal.print_byte-requires
 print_byte-requires c =

@@ -7,7 +7,7 @@ use Rattle.columns.proofs.Output.{prints_then, length_number_columns_take}
 use Rattle.steps.proofs.print.print_refresh.Goals as goal
 
 pub print_columns-rows-requires : goal.print_columns-rows-requires
-print_columns-rows-requires c = let c = c in omega (arith, length_printed 6 c.args.e)
+print_columns-rows-requires c = omega (arith, length_printed 6 c.args.e)
 
 pub print_numbers-end-requires : goal.print_numbers-end-requires
 print_numbers-end-requires c =
@@ -26,7 +26,7 @@ returns c =
     let print_columns = c.print_columns-number in
     let print_columns2 = c.print_columns-rows in
     let print_numbers = c.print_numbers-end in
-    let c = c in let a = c.args in
+    let a = c.args in
     rw (length-take-le a.count a.picks.now (omega (arith, c.requires)))
     (prints_then
     (prints_then

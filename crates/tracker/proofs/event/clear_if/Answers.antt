@@ -12,7 +12,7 @@ unfolding cleared_if
 returns-then-last c =
     let if1 = c.if-last in
     let clear = c.clear in
-    let c = c in rw if1.true
+    rw if1.true
     (holds_empty (length c.args.rows.now) clear.ensures (c.clear-then-last.ensures ∙ ap (λ (n : ℕ). replicate n 0) (long_counts c.requires)))
 
 pub returns-else-last : goal.returns-else-last

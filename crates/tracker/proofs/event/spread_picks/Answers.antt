@@ -14,7 +14,7 @@ use Rattle.tracker.proofs.event.spread_picks.Goals as goal
 
 pub loop-i-init : goal.loop-i-init
 loop-i-init c =
-    let c = c in (
+    (
       record {
         sum = read c.args.rows.now c.args.counts.now c.args.t.tracked c.args.t.spillover;
         holds = c.requires.tracks;
@@ -25,14 +25,14 @@ loop-i-init c =
     )
 
 pub offset_bounds-picks-i : goal.offset_bounds-picks-i
-offset_bounds-picks-i c = let c = c in omega (arith, c.loop-i-test.true, c.requires.blast_diameter_bound.1)
+offset_bounds-picks-i c = omega (arith, c.loop-i-test.true, c.requires.blast_diameter_bound.1)
 
 pub bounds-picks-i : goal.bounds-picks-i
-bounds-picks-i c = let c = c in omega (arith, c.loop-i-test.true, c.requires.blast_diameter_bound.2)
+bounds-picks-i c = omega (arith, c.loop-i-test.true, c.requires.blast_diameter_bound.2)
 
 pub disturb_victims-left-requires : goal.disturb_victims-left-requires
 disturb_victims-left-requires c =
-    let c = c in let p = c.requires.blast_diameter_bound in
+    let p = c.requires.blast_diameter_bound in
     let i = c.loop-i.i in
     let less = c.loop-i-test.true in
     let ready = spreading_ready c.loop-i.invariant.0 (omega (arith, less, p.1)) in record {
@@ -47,7 +47,7 @@ disturb_victims-left-requires c =
 
 pub overflow_add-i : goal.overflow_add-i
 overflow_add-i c =
-    let c = c in let test = c.loop-i-test in
+    let test = c.loop-i-test in
     omega (arith, test.true, c.requires.blast_diameter_bound.1)
 
 pub loop-i-smaller : goal.loop-i-smaller
@@ -58,7 +58,7 @@ loop-i-smaller c =
 pub loop-i-preserved : goal.loop-i-preserved
 loop-i-preserved c =
     let turn = c.loop-i in
-    let c = c in let p = c.requires.blast_diameter_bound in
+    let p = c.requires.blast_diameter_bound in
     let i = c.loop-i.i in
     let less = c.loop-i-test.true in
     let l = rw (used_step c.args.picks.now c.args.used i p.2 less) at turn.invariant.0 in (
@@ -70,7 +70,7 @@ pub shape_of-rows : goal.shape_of-rows
 shape_of-rows c = long_rows c.loop-i.invariant.0.holds
 
 pub shape_of-counts : goal.shape_of-counts
-shape_of-counts c = let c = c in long_counts c.loop-i.invariant.0.holds ∙ sym (long_counts c.requires.tracks)
+shape_of-counts c = long_counts c.loop-i.invariant.0.holds ∙ sym (long_counts c.requires.tracks)
 
 pub returns : goal.returns
-returns c = let c = c in spreading_done c.loop-i.invariant.0 (left_none c.args.picks.now c.args.used c.loop-i.i c.requires.blast_diameter_bound.2 c.loop-i-test.false)
+returns c = spreading_done c.loop-i.invariant.0 (left_none c.args.picks.now c.args.used c.loop-i.i c.requires.blast_diameter_bound.2 c.loop-i-test.false)

@@ -15,7 +15,7 @@ use Rattle.tracker.proofs.event.spread_run.Goals as goal
 
 pub loop-row-init : goal.loop-row-init
 loop-row-init c =
-    let c = c in (
+    (
       record {
         sum = read c.args.rows.now c.args.counts.now c.args.t.tracked c.args.t.spillover;
         holds = c.requires.tracks;
@@ -33,7 +33,7 @@ spread_unlisted-left-requires c =
 
 pub overflow_add-row : goal.overflow_add-row
 overflow_add-row c =
-    let c = c in let test = c.loop-row-test in
+    let test = c.loop-row-test in
     omega (arith, test.true, c.requires.blast_diameter_bound.2)
 
 pub loop-row-smaller : goal.loop-row-smaller
@@ -44,7 +44,7 @@ loop-row-smaller c =
 pub loop-row-preserved : goal.loop-row-preserved
 loop-row-preserved c =
     let turn = c.loop-row in
-    let c = c in let less = c.loop-row-test.true in
+    let less = c.loop-row-test.true in
     let row = c.loop-row.row in
     let l = rw (between_step row c.args.high less) at turn.invariant.0 in (
       spreading_more
@@ -57,8 +57,8 @@ pub shape_of-rows : goal.shape_of-rows
 shape_of-rows c = long_rows c.loop-row.invariant.0.holds
 
 pub shape_of-counts : goal.shape_of-counts
-shape_of-counts c = let c = c in long_counts c.loop-row.invariant.0.holds ∙ sym (long_counts c.requires.tracks)
+shape_of-counts c = long_counts c.loop-row.invariant.0.holds ∙ sym (long_counts c.requires.tracks)
 
 pub returns : goal.returns
 unfolding besides
-returns c = let c = c in spreading_done c.loop-row.invariant.0 (rw (between_none c.loop-row.row c.args.high c.loop-row-test.false))
+returns c = spreading_done c.loop-row.invariant.0 (rw (between_none c.loop-row.row c.args.high c.loop-row-test.false))

@@ -5,7 +5,7 @@ use Rattle.tracker.proofs.event.spread_unlisted.Goals as goal
 
 pub returns-then-is_listed : goal.returns-then-is_listed
 unfolding spread besides
-returns-then-is_listed c = let c = c in rw (sym c.is_listed.ensures ∙ c.if-is_listed.true) c.requires.tracks
+returns-then-is_listed c = rw (sym c.is_listed.ensures ∙ c.if-is_listed.true) c.requires.tracks
 
 pub returns-else-is_listed : goal.returns-else-is_listed
 unfolding spread besides
