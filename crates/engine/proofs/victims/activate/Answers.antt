@@ -17,13 +17,12 @@ drop_row-left-requires c = (c.requires.holds.kept, omega (arith, c.requires.diam
 
 pub loop-done-init : goal.loop-done-init
 unfolding repeated
-loop-done-init c =
-    (
-      record {
-        turned = record { bank = (bank_dropped (c.args.row ∷ []) c.requires.holds c.drop_row-left.ensures).bank; holds = refl };
-      },
-      omega arith,
-    )
+loop-done-init c = (
+  record {
+    turned = record { bank = (bank_dropped (c.args.row ∷ []) c.requires.holds c.drop_row-left.ensures).bank; holds = refl };
+  },
+  omega arith,
+)
 
 pub disturb_victims-left-requires : goal.disturb_victims-left-requires
 disturb_victims-left-requires c =

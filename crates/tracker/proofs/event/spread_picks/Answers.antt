@@ -13,16 +13,15 @@ use Rattle.tracker.proofs.Steps.Spread.{spreading_ready, spreading_again, spread
 use Rattle.tracker.proofs.event.spread_picks.Goals as goal
 
 pub loop-i-init : goal.loop-i-init
-loop-i-init c =
-    (
-      record {
-        sum = read c.args.rows.now c.args.counts.now c.args.t.tracked c.args.t.spillover;
-        holds = c.requires.tracks;
-        same = refl;
-        room = room_more c.requires.room_for (omega arith);
-      },
-      omega arith,
-    )
+loop-i-init c = (
+  record {
+    sum = read c.args.rows.now c.args.counts.now c.args.t.tracked c.args.t.spillover;
+    holds = c.requires.tracks;
+    same = refl;
+    room = room_more c.requires.room_for (omega arith);
+  },
+  omega arith,
+)
 
 pub offset_bounds-picks-i : goal.offset_bounds-picks-i
 offset_bounds-picks-i c = omega (arith, c.loop-i-test.true, c.requires.blast_diameter_bound.1)

@@ -14,16 +14,15 @@ use Rattle.tracker.proofs.Steps.Spread.{spreading_ready, spreading_beside, sprea
 use Rattle.tracker.proofs.event.spread_run.Goals as goal
 
 pub loop-row-init : goal.loop-row-init
-loop-row-init c =
-    (
-      record {
-        sum = read c.args.rows.now c.args.counts.now c.args.t.tracked c.args.t.spillover;
-        holds = c.requires.tracks;
-        same = refl;
-        room = room_more c.requires.room_for (omega arith);
-      },
-      omega arith,
-    )
+loop-row-init c = (
+  record {
+    sum = read c.args.rows.now c.args.counts.now c.args.t.tracked c.args.t.spillover;
+    holds = c.requires.tracks;
+    same = refl;
+    room = room_more c.requires.room_for (omega arith);
+  },
+  omega arith,
+)
 
 pub spread_unlisted-left-requires : goal.spread_unlisted-left-requires
 spread_unlisted-left-requires c =
