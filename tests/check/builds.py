@@ -23,7 +23,7 @@ BUILDS = (
     ("the listing read from descriptor 0", "input::read_from(&mut listing.file, given, 0)",
      "input::read_from(&mut 0, given, 0)", OTHER_TYPE),
     ("a file made of descriptor 0", "input::read_from(&mut listing.file, given, 0)",
-     "input::read_from(&mut File { descriptor: 0, opened: true }, given, 0)", PRIVATE),
+     "input::read_from(&mut File { descriptor: 0, opened: true, ..input::unopened() }, given, 0)", PRIVATE),
 )
 
 

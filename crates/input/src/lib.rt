@@ -1,9 +1,9 @@
 // Files that are open for reading, and what a read behind bytes that are kept comes to.
 #![tactic(auto)]
 
-ghost use Rattle.std.specs.Prelude.{◌≡◌, ◌&&◌, ◌+◌, ◌≤◌, ltb, length};
+ghost use Rattle.std.specs.Prelude.{true, ◌≡◌, ◌&&◌, ◌+◌, ◌≤◌, ltb, length};
 ghost use Rattle.input.specs.AtHand.{input_of, Came};
-ghost use Rattle.input.specs.Files.{is_descriptor, no_file, standard_input};
+ghost use Rattle.input.specs.Files.{is_descriptor, is_source, no_file, standard_input};
 
 use std::fs;
 use std::io::{Error, Read, Stdin, Write};
@@ -35,12 +35,16 @@ pub enum Input {
     Failed,
 }
 
-// The number of a name that is not UTF-8, of which the library opens no file.
+// The system's numbers of a name that is not UTF-8, of which the library opens no file, and of a read where none is open.
 const NOT_TEXT: i32 = 84;
+
+const NOT_OPEN: i32 = 9;
 
 // A file with a number of the system's, and why there is none where it is below 0.
 fn with_number(source: Source, descriptor: i32, reason: i32) -> File
-    ensures { result.opened ≡ is_descriptor result.descriptor }
+    ensures number { result.descriptor ≡ descriptor }
+    ensures tested { result.opened ≡ is_descriptor result.descriptor }
+    ensures source { result.source ≡ source }
 {
     File {
         source,
@@ -52,7 +56,8 @@ fn with_number(source: Source, descriptor: i32, reason: i32) -> File
 
 // Opens the file of a name for reading.
 pub fn open(rt: &HostRuntime, name: &[u8]) -> File
-    ensures { result.opened ≡ is_descriptor result.descriptor }
+    ensures tested { result.opened ≡ is_descriptor result.descriptor }
+    ensures source { result.opened ≡ true → is_source result.source ≡ true }
 {
     let Ok(name) = str::from_utf8(name) else {
         return with_number(Source::Nothing, -1, NOT_TEXT);
@@ -104,7 +109,7 @@ fn read(file: &mut File, part: &mut [u8]) -> isize
     let got = match &mut file.source {
         Source::Named(named) => named.read(part),
         Source::Standard(input) => input.read(part),
-        Source::Nothing => return -1,
+        Source::Nothing => Err(Error::from_raw_os_error(NOT_OPEN)),
     };
     match got {
         Ok(count) => count as isize,

@@ -2,5 +2,5 @@
 use Rattle.input.proofs.Files.{descriptor_tested}
 use Rattle.input.proofs.with_number.Goals as goal
 
-pub returns : goal.returns
-returns c = descriptor_tested _
+pub returns-clause-tested : goal.returns-clause-tested
+returns-clause-tested c = descriptor_tested _
