@@ -288,7 +288,7 @@ fn run(
 {
     let mut step = first_step();
     let mut left = TURNS;
-    while runs_on(step.check, left) {
+    'reads: while runs_on(step.check, left) {
         step = next_step(
             step, trace, listing, counts, marks, bounds, text, out, given,
         );

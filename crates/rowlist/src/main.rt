@@ -43,7 +43,7 @@ fn run(
     let mut file = input::standard_input(rt.stdin());
     let mut turn = turns::first_turn();
     let mut left = u64::MAX;
-    while input::reads_again(turn.more, left) {
+    'reads: while input::reads_again(turn.more, left) {
         turn = turns::next_turn(turn, &mut file, counts, marks, bounds, text, out);
         left -= 1;
         let end = turn.end;

@@ -246,7 +246,7 @@ fn run(rt: &HostRuntime, text: &mut [u8], out: &mut [u8]) -> Ended
     let mut file = input::standard_input(rt.stdin());
     let mut turn = first_turn();
     let mut left = u64::MAX;
-    while input::reads_again(turn.more, left) {
+    'reads: while input::reads_again(turn.more, left) {
         turn = next_turn(turn, &mut file, text, out);
         left -= 1;
         let end = turn.end;

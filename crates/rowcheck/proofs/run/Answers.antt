@@ -10,9 +10,9 @@ use Rattle.rowcheck.specs.Turns.{open_so_far, first_step, first_state, none_yet}
 use Rattle.rowcheck.proofs.Chains.{steps_on, ran}
 use Rattle.rowcheck.proofs.run.Goals as goal
 
-pub loop-trace-init : goal.loop-trace-init
+pub reads-init : goal.reads-init
 unfolding first_step first_state first_turned
-loop-trace-init c =
+reads-init c =
     rw c.first_step-step.ensures
     (record {
       carried = carried_first c.requires.0 c.requires.1 c.requires.2 c.requires.3;
@@ -23,25 +23,25 @@ loop-trace-init c =
 
 pub next_step-step-requires : goal.next_step-step-requires
 next_step-step-requires c =
-    let l = c.loop-trace in
-    let on = more_left (open_so_far l.step.check.answer) l.left c.runs_on.ensures c.loop-trace-test.true in
+    let l = c.reads in
+    let on = more_left (open_so_far l.step.check.answer) l.left c.runs_on.ensures c.reads-test.true in
     (l.invariant.carried, l.invariant.given_long, omega (arith, l.invariant.few_lines, on.1))
 
 pub overflow_sub-left : goal.overflow_sub-left
 overflow_sub-left c =
-    let l = c.loop-trace in
-    omega (arith, (more_left (open_so_far l.step.check.answer) l.left c.runs_on.ensures c.loop-trace-test.true).1)
+    let l = c.reads in
+    omega (arith, (more_left (open_so_far l.step.check.answer) l.left c.runs_on.ensures c.reads-test.true).1)
 
-pub loop-trace-smaller : goal.loop-trace-smaller
-loop-trace-smaller c =
-    let l = c.loop-trace in
-    omega (arith, (more_left (open_so_far l.step.check.answer) l.left c.runs_on.ensures c.loop-trace-test.true).1)
+pub reads-smaller : goal.reads-smaller
+reads-smaller c =
+    let l = c.reads in
+    omega (arith, (more_left (open_so_far l.step.check.answer) l.left c.runs_on.ensures c.reads-test.true).1)
 
-pub loop-trace-preserved : goal.loop-trace-preserved
-loop-trace-preserved c =
-    let l = c.loop-trace in
+pub reads-preserved : goal.reads-preserved
+reads-preserved c =
+    let l = c.reads in
     let n = c.next_step-step in
-    let on = more_left (open_so_far l.step.check.answer) l.left c.runs_on.ensures c.loop-trace-test.true in
+    let on = more_left (open_so_far l.step.check.answer) l.left c.runs_on.ensures c.reads-test.true in
     record {
       carried = n.ensures.carried_in.0;
       given_long = n.auto.given ∙ l.invariant.given_long;
@@ -50,24 +50,24 @@ loop-trace-preserved c =
     }
 
 pub shape_of-counts : goal.shape_of-counts
-shape_of-counts c = c.loop-trace.invariant.carried.banked.marked.counts_long ∙ sym c.requires.0.counts_long
+shape_of-counts c = c.reads.invariant.carried.banked.marked.counts_long ∙ sym c.requires.0.counts_long
 
 pub shape_of-marks : goal.shape_of-marks
-shape_of-marks c = c.loop-trace.invariant.carried.banked.marked.marks_long ∙ sym c.requires.0.marks_long
+shape_of-marks c = c.reads.invariant.carried.banked.marked.marks_long ∙ sym c.requires.0.marks_long
 
 pub shape_of-bounds : goal.shape_of-bounds
-shape_of-bounds c = c.loop-trace.invariant.carried.banked.bounds_long ∙ sym c.requires.1
+shape_of-bounds c = c.reads.invariant.carried.banked.bounds_long ∙ sym c.requires.1
 
 pub shape_of-text : goal.shape_of-text
-shape_of-text c = c.loop-trace.invariant.carried.text_long ∙ sym c.requires.2
+shape_of-text c = c.reads.invariant.carried.text_long ∙ sym c.requires.2
 
 pub shape_of-out : goal.shape_of-out
-shape_of-out c = c.loop-trace.invariant.carried.out_long ∙ sym c.requires.3
+shape_of-out c = c.reads.invariant.carried.out_long ∙ sym c.requires.3
 
 pub shape_of-given : goal.shape_of-given
-shape_of-given c = c.loop-trace.invariant.given_long ∙ sym c.requires.4
+shape_of-given c = c.reads.invariant.given_long ∙ sym c.requires.4
 
 pub returns : goal.returns
 returns c =
-    let l = c.loop-trace in
-    let none = none_left (open_so_far l.step.check.answer) l.left c.runs_on.ensures c.loop-trace-test.false in record { ran_in = ran l.invariant.steps refl none; lines_le_most_lines = omega (arith, l.invariant.few_lines) }
+    let l = c.reads in
+    let none = none_left (open_so_far l.step.check.answer) l.left c.runs_on.ensures c.reads-test.false in record { ran_in = ran l.invariant.steps refl none; lines_le_most_lines = omega (arith, l.invariant.few_lines) }

@@ -4,9 +4,9 @@ use Rattle.rowcheck.specs.Turns.{first_state}
 use Rattle.rowcheck.proofs.Chains.{Going}
 use Rattle.rowcheck.proofs.run.Given as goal
 
-abbrev pub invariant-loop-trace : goal.invariant-loop-trace
-invariant-loop-trace l =
+abbrev pub invariant-reads : goal.invariant-reads
+invariant-reads l =
     Going (first_state l.initial.counts l.initial.text l.initial.out) l.initial.given l.counts l.marks l.bounds l.text l.out l.given l.step l.left
 
-abbrev pub decreases-loop-trace : goal.decreases-loop-trace
-decreases-loop-trace l = l.left
+abbrev pub decreases-reads : goal.decreases-reads
+decreases-reads l = l.left

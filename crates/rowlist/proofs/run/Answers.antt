@@ -8,9 +8,9 @@ use Rattle.turns.specs.Turns.{first_turned, none_yet, more_in}
 use Rattle.rowlist.proofs.Runs.{some_left, goes_further, goes_no_further}
 use Rattle.rowlist.proofs.run.Goals as goal
 
-pub loop-file-init : goal.loop-file-init
+pub reads-init : goal.reads-init
 unfolding first_turned
-loop-file-init c =
+reads-init c =
     rw c.first_turn-turn.ensures
     (record {
       carried = carried_first c.requires.0 c.requires.1 c.requires.2 c.requires.3;
@@ -18,10 +18,10 @@ loop-file-init c =
     })
 
 pub next_turn-turn-requires : goal.next_turn-turn-requires
-next_turn-turn-requires c = c.loop-file.invariant.carried
+next_turn-turn-requires c = c.reads.invariant.carried
 
 pub overflow_sub-left : goal.overflow_sub-left
-overflow_sub-left c = some_left c.loop-file.invariant c.reads_again.ensures c.loop-file-test.true
+overflow_sub-left c = some_left c.reads.invariant c.reads_again.ensures c.reads-test.true
 
 pub shape_of-counts-in-Err : goal.shape_of-counts-in-Err
 shape_of-counts-in-Err c = c.next_turn-turn.ensures.carried_in.banked.marked.counts_long ∙ sym c.requires.0.counts_long
@@ -39,28 +39,28 @@ pub shape_of-out-in-Err : goal.shape_of-out-in-Err
 shape_of-out-in-Err c = c.next_turn-turn.ensures.carried_in.out_long ∙ sym c.requires.3
 
 pub returns-in-Err : goal.returns-in-Err
-returns-in-Err c = ran_unwritten more_in (goes_further c.loop-file.invariant c.reads_again.ensures c.loop-file-test.true c.next_turn-turn.ensures.carried_in c.next_turn-turn.ensures.stepped).steps
+returns-in-Err c = ran_unwritten more_in (goes_further c.reads.invariant c.reads_again.ensures c.reads-test.true c.next_turn-turn.ensures.carried_in c.next_turn-turn.ensures.stepped).steps
 
-pub loop-file-smaller : goal.loop-file-smaller
-loop-file-smaller c = omega (arith, some_left c.loop-file.invariant c.reads_again.ensures c.loop-file-test.true)
+pub reads-smaller : goal.reads-smaller
+reads-smaller c = omega (arith, some_left c.reads.invariant c.reads_again.ensures c.reads-test.true)
 
-pub loop-file-preserved : goal.loop-file-preserved
-loop-file-preserved c = goes_further c.loop-file.invariant c.reads_again.ensures c.loop-file-test.true c.next_turn-turn.ensures.carried_in c.next_turn-turn.ensures.stepped
+pub reads-preserved : goal.reads-preserved
+reads-preserved c = goes_further c.reads.invariant c.reads_again.ensures c.reads-test.true c.next_turn-turn.ensures.carried_in c.next_turn-turn.ensures.stepped
 
 pub shape_of-counts : goal.shape_of-counts
-shape_of-counts c = c.loop-file.invariant.carried.banked.marked.counts_long ∙ sym c.requires.0.counts_long
+shape_of-counts c = c.reads.invariant.carried.banked.marked.counts_long ∙ sym c.requires.0.counts_long
 
 pub shape_of-marks : goal.shape_of-marks
-shape_of-marks c = c.loop-file.invariant.carried.banked.marked.marks_long ∙ sym c.requires.0.marks_long
+shape_of-marks c = c.reads.invariant.carried.banked.marked.marks_long ∙ sym c.requires.0.marks_long
 
 pub shape_of-bounds : goal.shape_of-bounds
-shape_of-bounds c = c.loop-file.invariant.carried.banked.bounds_long ∙ sym c.requires.1
+shape_of-bounds c = c.reads.invariant.carried.banked.bounds_long ∙ sym c.requires.1
 
 pub shape_of-text : goal.shape_of-text
-shape_of-text c = c.loop-file.invariant.carried.text_long ∙ sym c.requires.2
+shape_of-text c = c.reads.invariant.carried.text_long ∙ sym c.requires.2
 
 pub shape_of-out : goal.shape_of-out
-shape_of-out c = c.loop-file.invariant.carried.out_long ∙ sym c.requires.3
+shape_of-out c = c.reads.invariant.carried.out_long ∙ sym c.requires.3
 
 pub returns : goal.returns
-returns c = goes_no_further c.loop-file.invariant c.reads_again.ensures c.loop-file-test.false
+returns c = goes_no_further c.reads.invariant c.reads_again.ensures c.reads-test.false

@@ -3,9 +3,9 @@ use Rattle.turns.specs.Turns.{first_turned}
 use Rattle.rowlist.proofs.Runs.{Going}
 use Rattle.rowlist.proofs.run.Given as goal
 
-abbrev pub invariant-loop-file : goal.invariant-loop-file
-invariant-loop-file l =
+abbrev pub invariant-reads : goal.invariant-reads
+invariant-reads l =
     Going (first_turned l.initial.counts l.initial.text l.initial.out) l.counts l.marks l.bounds l.text l.out l.turn l.left
 
-abbrev pub decreases-loop-file : goal.decreases-loop-file
-decreases-loop-file l = l.left
+abbrev pub decreases-reads : goal.decreases-reads
+decreases-reads l = l.left

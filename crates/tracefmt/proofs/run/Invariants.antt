@@ -3,8 +3,8 @@ use Rattle.tracefmt.specs.Turns.{first_state}
 use Rattle.tracefmt.proofs.Runs.{Going}
 use Rattle.tracefmt.proofs.run.Given as goal
 
-abbrev pub invariant-loop-file : goal.invariant-loop-file
-invariant-loop-file l = Going (first_state l.initial.text l.initial.out) l.text l.out l.turn l.left
+abbrev pub invariant-reads : goal.invariant-reads
+invariant-reads l = Going (first_state l.initial.text l.initial.out) l.text l.out l.turn l.left
 
-abbrev pub decreases-loop-file : goal.decreases-loop-file
-decreases-loop-file l = l.left
+abbrev pub decreases-reads : goal.decreases-reads
+decreases-reads l = l.left
