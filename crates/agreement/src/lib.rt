@@ -6,46 +6,30 @@ mod estimates;
 mod same;
 
 ghost use Rattle.std.specs.Prelude.{◌≡◌, ◌&&◌, true};
-ghost use Rattle.device.specs.Refusal.{first_failed};
+ghost use Rattle.device.specs.Refusal.{first_failed, refusal_number, outcome};
 ghost use Rattle.state.specs.State.{valid, tables_long, lent};
 ghost use Rattle.agreement.specs.Calls.{agreement_tests, estimates_tests, agreement_of, estimates_of};
-ghost use Rattle.agreement.specs.Answers.{agreement_outcome};
 ghost use Rattle.agreement.specs.InnerContracts.{both_tables_tests};
 
-use device::Settings;
+use device::{Refusal, Settings};
 use state::Position;
 use summary::Tally;
 
-// What both calls answer: yes or no, or the refusal.
-#[derive(Clone, Copy)]
-pub enum Agreement {
-    Same(bool),
-    Refused(u32),
-}
-
-// The refusal of both settings and of the lent tables, or 0.
-fn tables_refusal(
+// The tests of both settings and of the lent tables.
+fn test_tables(
     s: Settings,
     rows: &[u32],
     counts: &[u32],
     s2: Settings,
     rows2: &[u32],
     counts2: &[u32],
-) -> u32
-    ensures { result ≡ first_failed (both_tables_tests s rows.now counts.now s2 rows2.now counts2.now) }
+) -> Result<(), Refusal>
+    ensures { refusal_number result ≡ first_failed (both_tables_tests s rows.now counts.now s2 rows2.now counts2.now) }
 {
-    let k = device::settings_refusal(s);
-    if k != 0 {
-        return k;
-    }
-    let k2 = device::settings_refusal(s2);
-    if k2 != 0 {
-        return k2;
-    }
-    if !state::tables_long(s, rows, counts) {
-        return 8;
-    }
-    device::refuse_unless(state::tables_long(s2, rows2, counts2), 8, 0)
+    device::test_settings(s)?;
+    device::test_settings(s2)?;
+    device::test(state::tables_long(s, rows, counts), Refusal::Tables)?;
+    device::test(state::tables_long(s2, rows2, counts2), Refusal::Tables)
 }
 
 // Whether both states, of tables of the right length, break no rule.
@@ -65,8 +49,8 @@ fn both_valid(
     state::valid_memory(s, rows, counts, p) && state::valid_memory(s2, rows2, counts2, p2)
 }
 
-// The refusal of `agree`, or 0.
-fn agreement_refusal(
+// The tests of `agree`.
+fn test_agreement(
     s: Settings,
     remap: [u32; 16],
     rows: &[u32],
@@ -77,28 +61,20 @@ fn agreement_refusal(
     rows2: &[u32],
     counts2: &[u32],
     p2: Position,
-) -> u32
-    ensures { result ≡ first_failed (agreement_tests s remap (lent rows.now counts.now p) s2 remap2 (lent rows2.now counts2.now p2)) }
+) -> Result<(), Refusal>
+    ensures { refusal_number result ≡ first_failed (agreement_tests s remap (lent rows.now counts.now p) s2 remap2 (lent rows2.now counts2.now p2)) }
 {
-    let k = tables_refusal(s, rows, counts, s2, rows2, counts2);
-    if k != 0 {
-        return k;
-    }
-    if !device::remap_allowed(remap) {
-        return 14;
-    }
-    if !device::remap_allowed(remap2) {
-        return 14;
-    }
-    device::refuse_unless(
+    test_tables(s, rows, counts, s2, rows2, counts2)?;
+    device::test(device::remap_allowed(remap), Refusal::Remap)?;
+    device::test(device::remap_allowed(remap2), Refusal::Remap)?;
+    device::test(
         both_valid(s, rows, counts, p, s2, rows2, counts2, p2),
-        21,
-        0,
+        Refusal::State,
     )
 }
 
-// The refusal of `estimates_agree`, or 0.
-fn estimates_refusal(
+// The tests of `estimates_agree`.
+fn test_estimates(
     s: Settings,
     rows: &[u32],
     counts: &[u32],
@@ -107,17 +83,13 @@ fn estimates_refusal(
     rows2: &[u32],
     counts2: &[u32],
     p2: Position,
-) -> u32
-    ensures { result ≡ first_failed (estimates_tests s (lent rows.now counts.now p) s2 (lent rows2.now counts2.now p2)) }
+) -> Result<(), Refusal>
+    ensures { refusal_number result ≡ first_failed (estimates_tests s (lent rows.now counts.now p) s2 (lent rows2.now counts2.now p2)) }
 {
-    let k = tables_refusal(s, rows, counts, s2, rows2, counts2);
-    if k != 0 {
-        return k;
-    }
-    device::refuse_unless(
+    test_tables(s, rows, counts, s2, rows2, counts2)?;
+    device::test(
         both_valid(s, rows, counts, p, s2, rows2, counts2, p2),
-        21,
-        0,
+        Refusal::State,
     )
 }
 
@@ -133,20 +105,14 @@ pub fn agree(
     rows2: &[u32],
     counts2: &[u32],
     p2: Position,
-) -> Agreement
-    ensures { agreement_outcome result ≡ agreement_of s remap (lent rows.now counts.now p) s2 remap2 (lent rows2.now counts2.now p2) }
+) -> Result<bool, Refusal>
+    ensures { outcome result ≡ agreement_of s remap (lent rows.now counts.now p) s2 remap2 (lent rows2.now counts2.now p2) }
 {
-    let k = agreement_refusal(s, remap, rows, counts, p, s2, remap2, rows2, counts2, p2);
-    if k != 0 {
-        return Agreement::Refused(k);
+    test_agreement(s, remap, rows, counts, p, s2, remap2, rows2, counts2, p2)?;
+    if s != s2 || remap != remap2 || p != p2 {
+        return Ok(false);
     }
-    if !same::same_set_up(s, remap, s2, remap2) {
-        return Agreement::Same(false);
-    }
-    if !same::same_position(p, p2) {
-        return Agreement::Same(false);
-    }
-    Agreement::Same(same::same_tracked(rows, counts, rows2, counts2, p.tracked as usize))
+    Ok(same::same_tracked(rows, counts, rows2, counts2, p.tracked as usize))
 }
 
 // Whether two summaries give every row the same estimate, in banks of as many rows.
@@ -159,15 +125,12 @@ pub fn estimates_agree(
     rows2: &[u32],
     counts2: &[u32],
     p2: Position,
-) -> Agreement
-    ensures { agreement_outcome result ≡ estimates_of s (lent rows.now counts.now p) s2 (lent rows2.now counts2.now p2) }
+) -> Result<bool, Refusal>
+    ensures { outcome result ≡ estimates_of s (lent rows.now counts.now p) s2 (lent rows2.now counts2.now p2) }
 {
-    let k = estimates_refusal(s, rows, counts, p, s2, rows2, counts2, p2);
-    if k != 0 {
-        return Agreement::Refused(k);
-    }
+    test_estimates(s, rows, counts, p, s2, rows2, counts2, p2)?;
     if s.rows != s2.rows {
-        return Agreement::Same(false);
+        return Ok(false);
     }
     let t = Tally {
         tracked: p.tracked as usize,
@@ -177,5 +140,5 @@ pub fn estimates_agree(
         tracked: p2.tracked as usize,
         spillover: p2.spillover,
     };
-    Agreement::Same(estimates::same_estimates(rows, counts, t, rows2, counts2, t2, s.rows))
+    Ok(estimates::same_estimates(rows, counts, t, rows2, counts2, t2, s.rows))
 }

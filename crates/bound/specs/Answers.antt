@@ -3,15 +3,8 @@ use Rattle.std.specs.Prelude.{ℕ, ◌<◌, ◌^◌, ℤ, pos, neg_ℤ}
 use Rattle.device.specs.declared.Settings.{Settings}
 use Rattle.device.specs.Refusal.{Outcome, accepted, refused, first_failed, tested}
 use Rattle.device.specs.Acceptance.{most_rows, settings_tests_to, settings_tests_but_counters_to}
-use Rattle.bound.specs.declared.Answer.{Answer}
-use Rattle.bound.specs.declared.Answer.TheVariants.{Value, Refused}
 use Rattle.bound.specs.Totals.{bound_of}
 use Rattle.bound.specs.Least.{least_of}
-
--- what an answer says
-unfoldable pub outcome : Answer → Outcome ℕ
-outcome (Value v) = accepted v
-outcome (Refused k) = refused k
 
 -- the bound's answer, where N may be up to the most: the settings' refusals, else H
 unfoldable pub bound_answer_to : ℕ → Settings → Outcome ℕ

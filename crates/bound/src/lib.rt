@@ -5,20 +5,13 @@ mod search;
 mod total;
 
 ghost use Rattle.std.specs.Prelude.{◌≡◌, ◌*◌, ◌≤◌, ◌<◌};
-ghost use Rattle.device.specs.Refusal.{first_failed};
+ghost use Rattle.device.specs.Refusal.{first_failed, outcome};
 ghost use Rattle.device.specs.Acceptance.{settings_tests, settings_tests_but_counters};
 ghost use Rattle.bound.specs.Totals.{disturbers, bound_at};
 ghost use Rattle.bound.specs.Least.{least_of};
-ghost use Rattle.bound.specs.Answers.{outcome, bound_answer, least_answer, signed, Small, settings_of};
+ghost use Rattle.bound.specs.Answers.{bound_answer, least_answer, signed, Small, settings_of};
 
-use device::Settings;
-
-// A value, or the number of the refusal.
-#[derive(Clone, Copy)]
-pub enum Answer {
-    Value(u64),
-    Refused(u32),
-}
+use device::{Refusal, Settings};
 
 // T': the rows that disturb their victims from one event to the next.
 pub fn disturbers_of(s: Settings) -> u64
@@ -47,19 +40,15 @@ pub fn bound_at(s: Settings, events: u32) -> u64
 }
 
 // The bound H on any row's disturbance, of which each of two windows adds at most one.
-pub fn bound(s: Settings) -> Answer
+pub fn bound(s: Settings) -> Result<u64, Refusal>
     ensures { outcome result ≡ bound_answer s }
 {
-    let k = device::settings_refusal(s);
-    if k == 0 {
-        Answer::Value(bound_at(s, s.window))
-    } else {
-        Answer::Refused(k)
-    }
+    device::test_settings(s)?;
+    Ok(bound_at(s, s.window))
 }
 
 // The least counter count of accepted settings.
-fn least_of(s: Settings, threshold: u64) -> Answer
+fn least_of(s: Settings, threshold: u64) -> Result<u64, Refusal>
     requires { first_failed (settings_tests_but_counters s) ≡ 0 }
     ensures { outcome result ≡ least_of s threshold }
 {
@@ -69,25 +58,21 @@ fn least_of(s: Settings, threshold: u64) -> Answer
 }
 
 // The smallest counter count whose bound, twice, is below the threshold; `counters` is not looked at.
-pub fn least_counters(s: Settings, threshold: u64) -> Answer
+pub fn least_counters(s: Settings, threshold: u64) -> Result<u64, Refusal>
     ensures { outcome result ≡ least_answer s threshold }
 {
-    let k = device::settings_refusal_but_counters(s);
-    if k == 0 {
-        least_of(s, threshold)
-    } else {
-        Answer::Refused(k)
-    }
+    device::test_settings_but_counters(s)?;
+    least_of(s, threshold)
 }
 
 // The signed number that C gets.
-pub fn signed_number(answer: Answer) -> i64
+pub fn signed_number(answer: Result<u64, Refusal>) -> i64
     requires { Small (outcome answer) }
     ensures { result ≡ signed (outcome answer) }
 {
     match answer {
-        Answer::Value(v) => v as i64,
-        Answer::Refused(k) => -(k as i64),
+        Ok(v) => v as i64,
+        Err(refusal) => -(refusal.number() as i64),
     }
 }
 

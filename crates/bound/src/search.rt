@@ -3,12 +3,11 @@
 // the first m at which such a step ends below the room has the least count, and one division gives it.
 ghost use Rattle.std.specs.Prelude.{◌≡◌, ◌+◌, ◌-◌, ◌*◌, ◌/◌, ◌^◌, ◌≤◌, ◌<◌, max, leb};
 ghost use Rattle.device.specs.Acceptance.{most_counters};
-ghost use Rattle.device.specs.Refusal.{refused};
+ghost use Rattle.device.specs.Refusal.{refused, outcome};
 ghost use Rattle.bound.specs.Least.{or_else, first_from};
-ghost use Rattle.bound.specs.Answers.{outcome};
 ghost use Rattle.bound.specs.InnerContracts.{ends_below};
 
-use crate::Answer;
+use device::Refusal;
 
 // What a total has to be below so that twice the total with T' is below the threshold.
 pub fn room_below(threshold: u64, disturbers: u64) -> u64
@@ -48,29 +47,29 @@ fn share_less(share: Share, less: u64, at: u64) -> Share
 }
 
 // The smallest count from the volume on for which sum × at is below room × (count + 1); 12 if that is none up to 2,048.
-fn count_for(volume: u64, room: u64, sum: u64, at: u64) -> Answer
+fn count_for(volume: u64, room: u64, sum: u64, at: u64) -> Result<u64, Refusal>
     requires { (0 < room) × (sum < 2 ^ 29) × (at ≤ most_counters) }
     ensures { outcome result ≡ or_else (leb (max volume (sum * at / room)) most_counters) (max volume (sum * at / room)) (refused 12) }
 {
     let first = sum * at / room;
     let count = if first < volume { volume } else { first };
     if count <= device::MOST_COUNTERS as u64 {
-        Answer::Value(count)
+        Ok(count)
     } else {
-        Answer::Refused(12)
+        Err(Refusal::NoCount)
     }
 }
 
 // The smallest count from the volume on whose total is below the end. Before the last m steps `sum` is what all steps up to there
 // add, `room` what a total has to be below, `at` the size D(m), and `share` that of room × V; no count up to m × V will do. One step
 // undone, the room is room × (at + V) / at, rounded up, and what the step added is taken from it.
-pub fn least_below(volume: u64, added: u64, steps: u64, end: u64) -> Answer
+pub fn least_below(volume: u64, added: u64, steps: u64, end: u64) -> Result<u64, Refusal>
     requires { (0 < volume) × (volume ≤ 16) × (added ≤ 16704) × (steps ≤ 16383) }
     ensures { outcome result ≡ first_from (ends_below volume added steps end) (most_counters + 1 - volume) volume }
 {
     let mut sum = steps * added;
     if sum < end {
-        return Answer::Value(volume);
+        return Ok(volume);
     }
     let less = added * volume;
     let mut room = end;
@@ -85,12 +84,12 @@ pub fn least_below(volume: u64, added: u64, steps: u64, end: u64) -> Answer
             return count_for(volume, room, sum, at);
         }
         if before <= added {
-            return Answer::Refused(12);
+            return Err(Refusal::NoCount);
         }
         room = before - added;
         sum = sum - added;
         at = at + volume;
         share = share_less(share, less, at);
     }
-    Answer::Refused(12)
+    Err(Refusal::NoCount)
 }

@@ -14,7 +14,7 @@ use Rattle.device.specs.declared.Settings.{Settings}
 use Rattle.device.specs.Refusal.{Outcome, accepted, refused, unless, refuse, first_failed}
 use Rattle.device.specs.Acceptance.{most_rows}
 use Rattle.device.proofs.Acceptance.{Between, Accepted, accepted_settings, settings_alike}
-use Rattle.device.proofs.Refusal.{refuse_passed}
+use Rattle.device.proofs.Tests.{refuse_passed}
 use Rattle.device.proofs.Remap.{entry_below}
 use Rattle.device.proofs.Hold.{hold_between}
 use Rattle.laws.proofs.Cases.{split, clash, zero_one}

@@ -27,18 +27,10 @@ const MARKS: usize = 4_160;
 
 const BOUNDS: usize = 4_160;
 
-// The answer: the listing passes, or it departs at a line, counted from 1.
-#[derive(Clone, Copy)]
-pub enum Verdict {
-    Passes,
-    Departs(u64),
-}
-
-// Whether all bytes that were required stood there, and how many lines have ended among those that did.
-#[derive(Clone, Copy)]
-pub struct Compared {
-    pub all: bool,
-    pub lines: u64,
+// Where a listing departs: at a line, counted from 1.
+#[derive(Clone, Copy, PartialEq, Eq)]
+pub struct Departure {
+    pub line: u64,
 }
 
 // How far a check is: where the listing of the trace is, the bytes of the trace taken, the bytes of the listing passed and the lines ended among them,

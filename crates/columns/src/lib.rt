@@ -4,7 +4,7 @@
 ghost use Rattle.std.specs.Prelude.{◌≡◌, ◌+◌, ◌*◌, ◌≤◌, ◌<◌, [], ◌∷◌, length, take};
 ghost use Rattle.std.proofs.Math.Seq.{slice};
 ghost use Rattle.columns.specs.Numbers.{digits, field, digit_or_blank, printed, written};
-ghost use Rattle.columns.specs.Answers.{found, number_found};
+ghost use Rattle.columns.specs.Answers.{found};
 ghost use Rattle.columns.specs.Output.{number_columns, refusal_line, PrintsInto};
 
 // How wide a number is.
@@ -13,41 +13,31 @@ pub const COLUMNS: usize = 6;
 // Line numbers are printed modulo this.
 pub const LINES: u64 = 10_000_000_000;
 
-// No 6 columns hold this number: it stands for none.
-pub const NO_NUMBER: u32 = 4_294_967_295;
-
-// What some columns hold.
-#[derive(Clone, Copy)]
-pub enum Field {
-    Number(u32),
-    Other,
-}
-
 // The digits from a place to an end.
-fn read_digits(text: &[u8], from: usize, end: usize) -> u32
+fn read_digits(text: &[u8], from: usize, end: usize) -> Option<u32>
     requires { (from ≤ end) × (end ≤ from + 6) × (end ≤ length text.now) }
-    ensures { number_found result ≡ digits 0 (slice from end text.now) }
+    ensures { found result ≡ digits 0 (slice from end text.now) }
 {
     let mut n: u32 = 0;
     let mut i = from;
     while i < end {
         let b = text[i];
         if b < b'0' {
-            return NO_NUMBER;
+            return None;
         }
         if b'9' < b {
-            return NO_NUMBER;
+            return None;
         }
         n = n * 10 + (b - b'0') as u32;
         i += 1;
     }
-    n
+    Some(n)
 }
 
 // The number in the 6 columns from a place on: blanks, then digits.
-fn read_padded(text: &[u8], from: usize) -> u32
+fn read_padded(text: &[u8], from: usize) -> Option<u32>
     requires { from + 6 ≤ length text.now }
-    ensures { number_found result ≡ field from text.now }
+    ensures { found result ≡ field from text.now }
 {
     let end = from + COLUMNS;
     let mut i = from;
@@ -57,45 +47,31 @@ fn read_padded(text: &[u8], from: usize) -> u32
         }
         i += 1;
     }
-    NO_NUMBER
+    None
 }
 
 // The same; a number of four or five digits, as most rows are, without a loop over the blanks.
-pub fn read_number(text: &[u8], from: usize) -> u32
+pub fn read_number(text: &[u8], from: usize) -> Option<u32>
     requires { from + 6 ≤ length text.now }
-    ensures { number_found result ≡ field from text.now }
+    ensures { found result ≡ field from text.now }
 {
-    let low = read_digits(text, from + 2, from + COLUMNS);
-    if low == NO_NUMBER {
+    let Some(low) = read_digits(text, from + 2, from + COLUMNS) else {
         return read_padded(text, from);
-    }
+    };
     if text[from] != b' ' {
         return read_padded(text, from);
     }
     let first = text[from + 1];
     if first == b' ' {
-        return low;
+        return Some(low);
     }
     if first < b'0' {
-        return NO_NUMBER;
+        return None;
     }
     if b'9' < first {
-        return NO_NUMBER;
+        return None;
     }
-    (first - b'0') as u32 * 10000 + low
-}
-
-// The same as an enum.
-pub fn read_field(text: &[u8], from: usize) -> Field
-    requires { from + 6 ≤ length text.now }
-    ensures { found result ≡ field from text.now }
-{
-    let n = read_number(text, from);
-    if n == NO_NUMBER {
-        Field::Other
-    } else {
-        Field::Number(n)
-    }
+    Some((first - b'0') as u32 * 10000 + low)
 }
 
 // A column in front of the last, with what is left of the number there.

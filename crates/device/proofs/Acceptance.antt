@@ -12,7 +12,7 @@ use Rattle.device.specs.declared.Settings.{Settings}
 use Rattle.device.specs.Refusal.{Test, first_failed, unless}
 use Rattle.device.specs.Acceptance.{most_rows, most_counters, within, rows_allowed_to, rows_allowed, diameter_allowed, block_allowed, settings_tests_with, settings_tests_to, settings_tests_but_counters_to, settings_tests, settings_tests_but_counters}
 use Rattle.device.specs.Claims.{Alike}
-use Rattle.device.proofs.Refusal.{refuse_passed, refuse_failed, refuse_le, or_later, later_refuse}
+use Rattle.device.proofs.Tests.{refuse_passed, refuse_failed, refuse_le, or_later, later_refuse}
 
 -- a number from low to high
 pub record Between (low high x : ℕ) : Type 0 where

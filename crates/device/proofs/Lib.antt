@@ -1,5 +1,5 @@
 -- Laws of the device's definitions.
-pub mod Refusal
+pub mod Tests
 pub mod Acceptance
 pub mod Remap
 pub mod Hold

@@ -2,12 +2,16 @@
 // its subarray.
 #![tactic(auto)]
 
-ghost use Rattle.std.specs.Prelude.{◌≡◌, ◌<◌, ◌+◌, ◌-◌, ◌*◌, min, max, not, true, leb};
-ghost use Rattle.device.specs.Refusal.{refuse, first_failed};
+mod refusal;
+
+ghost use Rattle.std.specs.Prelude.{◌≡◌, ◌<◌, ◌+◌, ◌-◌, ◌*◌, min, max, true, leb};
+ghost use Rattle.device.specs.Refusal.{first_failed, refusal_number};
 ghost use Rattle.device.specs.Acceptance.{most_rows, within, rows_allowed, diameter_allowed, block_allowed, settings_tests, settings_tests_with, settings_tests_but_counters};
 ghost use Rattle.device.specs.Remap.{own_remap, occurs_in, remap_allowed, physical};
 ghost use Rattle.device.specs.Hold.{hold_allowed};
 ghost use Rattle.device.specs.Victims.{subarray_rows, subarray_start};
+
+pub use refusal::{Refusal, test};
 
 // The most rows of a bank and the most counters that settings may name.
 pub const MOST_ROWS: u32 = 262144;
@@ -15,7 +19,7 @@ pub const MOST_ROWS: u32 = 262144;
 pub const MOST_COUNTERS: u32 = 2048;
 
 // The settings in document 01's order.
-#[derive(Clone, Copy)]
+#[derive(Clone, Copy, PartialEq, Eq)]
 pub struct Settings {
     // N, 'rows in the bank'.
     pub rows: u32,
@@ -64,56 +68,34 @@ fn block_in_range(p: u32, n: u32, rows: u32) -> bool
     is_within(1, 64, p) && covers(p, n, rows)
 }
 
-// k unless something is so, else what the later tests say.
-pub fn refuse_unless(allowed: bool, k: u32, later: u32) -> u32
-    ensures { result ≡ refuse (not allowed) k later }
-{
-    if allowed { later } else { k }
-}
-
 // The settings' tests in their order, the one of the counter count given by its outcome.
-fn refusal_with(s: Settings, counters_in_range: bool) -> u32
-    ensures { result ≡ first_failed (settings_tests_with most_rows counters_in_range s) }
+#[tactic(auto, unfolding(crate::specs::Refusal::first_failed, crate::specs::Refusal::unless, crate::specs::Refusal::refuse, crate::specs::Acceptance::settings_tests_with))]
+fn test_with(s: Settings, counters_in_range: bool) -> Result<(), Refusal>
+    ensures { refusal_number result ≡ first_failed (settings_tests_with most_rows counters_in_range s) }
 {
-    refuse_unless(
-        rows_in_range(s.rows),
-        1,
-        refuse_unless(
-            diameter_in_range(s.blast_diameter),
-            2,
-            refuse_unless(
-                is_within(1, 16, s.volume),
-                3,
-                refuse_unless(
-                    counters_in_range,
-                    4,
-                    refuse_unless(
-                        is_within(1, 4096, s.interval),
-                        5,
-                        refuse_unless(
-                            is_within(1, 8192, s.window),
-                            6,
-                            refuse_unless(block_in_range(s.block, s.window, s.rows), 7, 0),
-                        ),
-                    ),
-                ),
-            ),
-        ),
-    )
+    test(rows_in_range(s.rows), Refusal::Rows)?;
+    test(diameter_in_range(s.blast_diameter), Refusal::BlastDiameter)?;
+    test(is_within(1, 16, s.volume), Refusal::Volume)?;
+    test(counters_in_range, Refusal::Counters)?;
+    test(is_within(1, 4096, s.interval), Refusal::Interval)?;
+    test(is_within(1, 8192, s.window), Refusal::Window)?;
+    test(block_in_range(s.block, s.window, s.rows), Refusal::Block)
 }
 
-// The refusal that the settings earn: 1 to 7, or 0 where they are accepted.
-pub fn settings_refusal(s: Settings) -> u32
-    ensures { result ≡ first_failed (settings_tests s) }
+// The settings' tests: refused with 1 to 7, or accepted.
+#[tactic(auto, unfolding(crate::specs::Acceptance::settings_tests_to))]
+pub fn test_settings(s: Settings) -> Result<(), Refusal>
+    ensures { refusal_number result ≡ first_failed (settings_tests s) }
 {
-    refusal_with(s, is_within(s.volume, MOST_COUNTERS, s.counters))
+    test_with(s, is_within(s.volume, MOST_COUNTERS, s.counters))
 }
 
 // The same where no counter count is given: `counters` is not looked at, and 4 is not given.
-pub fn settings_refusal_but_counters(s: Settings) -> u32
-    ensures { result ≡ first_failed (settings_tests_but_counters s) }
+#[tactic(auto, unfolding(crate::specs::Acceptance::settings_tests_but_counters_to))]
+pub fn test_settings_but_counters(s: Settings) -> Result<(), Refusal>
+    ensures { refusal_number result ≡ first_failed (settings_tests_but_counters s) }
 {
-    refusal_with(s, true)
+    test_with(s, true)
 }
 
 const OWN_REMAP: [u32; 16] = [0, 1, 3, 2, 4, 5, 7, 6, 8, 9, 11, 10, 12, 13, 15, 14];

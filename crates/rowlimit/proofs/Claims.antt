@@ -8,7 +8,7 @@ use Rattle.device.specs.declared.Settings.{Settings}
 use Rattle.device.specs.Refusal.{first_failed, refuse, accepted}
 use Rattle.device.specs.Remap.{physical}
 use Rattle.device.proofs.Acceptance.{accepted_settings}
-use Rattle.device.proofs.Refusal.{tested_passed, or_later_zero}
+use Rattle.device.proofs.Tests.{tested_passed, or_later_zero}
 use Rattle.device.proofs.Remap.{physical_below}
 use Rattle.state.specs.State.{State, state_of, position_allowed}
 use Rattle.state.proofs.PositionAllowed.{facts_position}

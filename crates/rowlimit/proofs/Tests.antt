@@ -10,7 +10,7 @@ use Rattle.device.specs.declared.Settings.{Settings}
 use Rattle.device.specs.Refusal.{unless, refuse, first_failed}
 use Rattle.device.specs.Acceptance.{settings_tests}
 use Rattle.device.specs.Remap.{remap_allowed}
-use Rattle.device.proofs.Refusal.{or_later, or_later_le, refuse_passed, refuse_le, or_later_none}
+use Rattle.device.proofs.Tests.{or_later, or_later_le, refuse_passed, refuse_le, or_later_none}
 use Rattle.device.proofs.Acceptance.{settings_then, refusals_le}
 use Rattle.state.specs.declared.Position.{Position}
 use Rattle.state.specs.State.{position_allowed}

@@ -2,34 +2,24 @@
 #![tactic(auto)]
 
 ghost use Rattle.std.specs.Prelude.{◌≡◌, ◌≤◌, ◌<◌, min};
-ghost use Rattle.device.specs.Refusal.{first_failed};
+ghost use Rattle.device.specs.Refusal.{first_failed, refusal_number, outcome};
 ghost use Rattle.device.specs.Acceptance.{settings_tests};
 ghost use Rattle.bound.specs.Totals.{bound_of};
-ghost use Rattle.bound.specs.Answers.{outcome, signed, settings_of};
+ghost use Rattle.bound.specs.Answers.{signed, settings_of};
 ghost use Rattle.limit.specs.ByRow.{carried_most, row_figure};
 ghost use Rattle.rowlimit.specs.Answers.{row_limit_tests, row_limit_answer, position_of};
 
-use bound::Answer;
-use device::Settings;
+use device::{Refusal, Settings};
 use state::Position;
 
-// The refusal of the call, or 0.
-fn row_limit_refusal(s: Settings, remap: [u32; 16], row: u32, p: Position) -> u32
-    ensures { result ≡ first_failed (row_limit_tests s remap row p) }
+// The tests of the call.
+fn test_row_limit(s: Settings, remap: [u32; 16], row: u32, p: Position) -> Result<(), Refusal>
+    ensures { refusal_number result ≡ first_failed (row_limit_tests s remap row p) }
 {
-    let k = device::settings_refusal(s);
-    if k != 0 {
-        return k;
-    }
-    device::refuse_unless(
-        row < s.rows,
-        9,
-        device::refuse_unless(
-            device::remap_allowed(remap),
-            14,
-            device::refuse_unless(state::position_in_range(s, p), 21, 0),
-        ),
-    )
+    device::test_settings(s)?;
+    device::test(row < s.rows, Refusal::Row)?;
+    device::test(device::remap_allowed(remap), Refusal::Remap)?;
+    device::test(state::position_in_range(s, p), Refusal::State)
 }
 
 fn smaller(a: u64, b: u64) -> u64
@@ -67,15 +57,16 @@ fn figure(s: Settings, events: u32, row: u32) -> u64
 }
 
 // The figure of a logical row where a tracker stands, whichever window it is in: the row's disturbance is at most that.
-pub fn row_limit(s: Settings, remap: [u32; 16], row: u32, p: Position) -> Answer
+pub fn row_limit(
+    s: Settings,
+    remap: [u32; 16],
+    row: u32,
+    p: Position,
+) -> Result<u64, Refusal>
     ensures { outcome result ≡ row_limit_answer s remap row p }
 {
-    let k = row_limit_refusal(s, remap, row, p);
-    if k == 0 {
-        Answer::Value(figure(s, p.events, device::physical_row(remap, row)))
-    } else {
-        Answer::Refused(k)
-    }
+    test_row_limit(s, remap, row, p)?;
+    Ok(figure(s, p.events, device::physical_row(remap, row)))
 }
 
 // The same for crate rowlimit_c: the figure, or refusal k as -k.

@@ -12,7 +12,7 @@ use Rattle.device.specs.declared.Settings.{Settings}
 use Rattle.device.specs.Refusal.{first_failed, tested}
 use Rattle.device.specs.Acceptance.{settings_tests}
 use Rattle.device.specs.Remap.{remap_allowed}
-use Rattle.device.proofs.Refusal.{or_later}
+use Rattle.device.proofs.Tests.{or_later}
 use Rattle.summary.specs.Steps.{empty}
 use Rattle.state.specs.State.{state_of}
 use Rattle.tracker.specs.Calls.{kept_unless, set_up_to}

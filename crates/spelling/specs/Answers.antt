@@ -1,24 +1,20 @@
--- The settings last before an answer, as the code holds them.
-use Rattle.std.specs.Prelude.{ℕ, true, false, cond}
+-- The settings last before an answer, as the code holds them: their N, if any stand.
+use Rattle.std.specs.Prelude.{ℕ, Option as Maybe, Some, None}
 use Rattle.std.proofs.Math.Option.{Option, none, some}
 use Rattle.device.specs.Refusal.{Outcome, accepted, refused}
 use Rattle.trace.specs.declared.Record.{Record}
 use Rattle.trace.specs.declared.Record.TheVariants.{Set, Remap, Activate, Refresh, Blank}
-use Rattle.spelling.specs.declared.Standing.{Standing}
 
--- none stand
-unfoldable pub no_settings : Standing
-no_settings = record { active = false; rows = 0 }
+-- the N of the settings that stand
+unfoldable pub standing_of : Maybe ℕ → Option ℕ
+standing_of (Some rows) = some rows
+standing_of None = none
 
--- their N, if any stand
-unfoldable pub standing_of : Standing → Option ℕ
-standing_of s = cond s.active (some s.rows) none
-
--- those behind an answer
-unfoldable pub stood : Standing → Outcome Record → Standing
-stood s (accepted (Set t)) = record { active = true; rows = t.rows }
-stood s (accepted (Remap t)) = s
-stood s (accepted (Activate row hold)) = s
-stood s (accepted Refresh) = s
-stood s (accepted Blank) = s
-stood s (refused k) = s
+-- that behind an answer
+unfoldable pub stood : Maybe ℕ → Outcome Record → Maybe ℕ
+stood rows (accepted (Set t)) = Some t.rows
+stood rows (accepted (Remap t)) = rows
+stood rows (accepted (Activate row hold)) = rows
+stood rows (accepted Refresh) = rows
+stood rows (accepted Blank) = rows
+stood rows (refused k) = rows

@@ -3,92 +3,64 @@
 
 ghost use Rattle.std.specs.Prelude.{◌≡◌, cond, [], ◌∷◌, eqb, ◌+◌, ◌*◌, ◌≤◌, length, take};
 ghost use Rattle.trace.specs.Bytes.{letter_A, letter_F, letter_H, letter_R, letter_S};
-ghost use Rattle.device.specs.Refusal.{unless, first_failed};
+ghost use Rattle.device.specs.Refusal.{unless, first_failed, refusal_number};
 ghost use Rattle.device.specs.Remap.{remap_allowed};
 ghost use Rattle.trace.specs.Records.{sixteen_of};
 ghost use Rattle.trace.specs.Reading.{said};
 ghost use Rattle.columns.specs.Output.{PrintsInto};
 ghost use Rattle.canonical.specs.Spelling.{settings_numbers, spelled_line, activation_spelling, record_spelling, answer_spelling};
 ghost use Rattle.canonical.specs.Writing.{activation_fault, event_fault, fault};
-ghost use Rattle.spelling.specs.Answers.{no_settings, standing_of, stood};
+ghost use Rattle.spelling.specs.Answers.{standing_of, stood};
 
-use device::Settings;
+use device::{Refusal, Settings};
 use trace::{Read, Record, Sixteen};
 
-// N of the settings last before a record, if any stand.
-#[derive(Clone, Copy)]
-pub struct Standing {
-    pub active: bool,
-    pub rows: u32,
+// The tests of a remap.
+fn test_remap(t: Sixteen) -> Result<(), Refusal>
+    ensures { refusal_number result ≡ first_failed (unless (remap_allowed (sixteen_of t)) 14 ∷ []) }
+{
+    device::test(device::remap_allowed(trace::sixteen_of(t)), Refusal::Remap)
 }
 
-// Before the first record.
-pub fn no_settings() -> Standing
-    ensures { result ≡ no_settings }
+// The tests of an activation behind settings with so many rows, if any stand.
+fn test_activation(rows: Option<u32>, row: u32, hold: u32) -> Result<(), Refusal>
+    ensures { refusal_number result ≡ activation_fault (standing_of rows) row hold }
 {
-    Standing {
-        active: false,
-        rows: 0,
+    let rows = rows.ok_or(Refusal::Line)?;
+    device::test(row < rows, Refusal::Row)?;
+    device::test(device::hold_allowed(hold), Refusal::Hold)
+}
+
+// The tests of an event.
+fn test_event(rows: Option<u32>) -> Result<(), Refusal>
+    ensures { refusal_number result ≡ event_fault (standing_of rows) }
+{
+    device::test(rows.is_some(), Refusal::Line)
+}
+
+// What an answer earns where it is to be written, behind settings with so many rows, if any stand.
+pub fn test(rows: Option<u32>, answer: Read) -> Result<(), Refusal>
+    ensures { refusal_number result ≡ fault (standing_of rows) (said answer).outcome }
+{
+    let Ok(says) = answer.outcome else {
+        return Err(Refusal::Line);
+    };
+    match says {
+        Record::Set(s) => device::test_settings(s),
+        Record::Remap(t) => test_remap(t),
+        Record::Activate(row, hold) => test_activation(rows, row, hold),
+        Record::Refresh => test_event(rows),
+        Record::Blank => Ok(()),
     }
 }
 
-// The refusal of a remap, or 0.
-fn remap_fault(t: Sixteen) -> u32
-    ensures { result ≡ first_failed (unless (remap_allowed (sixteen_of t)) 14 ∷ []) }
+// The rows of the settings that stand behind an answer, if any do.
+pub fn rows_behind(rows: Option<u32>, answer: Read) -> Option<u32>
+    ensures { result ≡ stood rows (said answer).outcome }
 {
-    device::refuse_unless(device::remap_allowed(trace::sixteen_of(t)), 14, 0)
-}
-
-// The refusal of an activation, or 0.
-fn activation_fault(standing: Standing, row: u32, hold: u32) -> u32
-    ensures { result ≡ activation_fault (standing_of standing) row hold }
-{
-    if standing.active {
-        let held = device::refuse_unless(device::hold_allowed(hold), 15, 0);
-        return device::refuse_unless(row < standing.rows, 9, held);
-    }
-    11
-}
-
-// The refusal of an event, or 0.
-fn event_fault(standing: Standing) -> u32
-    ensures { result ≡ event_fault (standing_of standing) }
-{
-    if standing.active { 0 } else { 11 }
-}
-
-// The refusal that an answer earns, or 0.
-pub fn fault(standing: Standing, answer: Read) -> u32
-    ensures { result ≡ fault (standing_of standing) (said answer).outcome }
-{
-    match answer {
-        Read::Line(record, _) => match record {
-            Record::Set(s) => device::settings_refusal(s),
-            Record::Remap(t) => remap_fault(t),
-            Record::Activate(row, hold) => activation_fault(standing, row, hold),
-            Record::Refresh => event_fault(standing),
-            Record::Blank => 0,
-        },
-        Read::Refused(_) => 11,
-    }
-}
-
-// What stands behind an answer.
-pub fn standing_behind(standing: Standing, answer: Read) -> Standing
-    ensures { result ≡ stood standing (said answer).outcome }
-{
-    match answer {
-        Read::Line(record, _) => match record {
-            Record::Set(s) => Standing {
-                active: true,
-                rows: s.rows,
-            },
-            Record::Remap(_) => standing,
-            Record::Activate(_, _) => standing,
-            Record::Refresh => standing,
-            Record::Blank => standing,
-        },
-        Read::Refused(_) => standing,
+    match answer.outcome {
+        Ok(Record::Set(s)) => Some(s.rows),
+        _ => rows,
     }
 }
 
@@ -103,15 +75,15 @@ fn activation_width(hold: u32) -> usize
 pub fn width(answer: Read) -> usize
     ensures { result ≡ length (answer_spelling (said answer).outcome) }
 {
-    match answer {
-        Read::Line(record, _) => match record {
-            Record::Set(_) => 44,
-            Record::Remap(_) => 98,
-            Record::Activate(_, hold) => activation_width(hold),
-            Record::Refresh => 2,
-            Record::Blank => 0,
-        },
-        Read::Refused(_) => 0,
+    let Ok(says) = answer.outcome else {
+        return 0;
+    };
+    match says {
+        Record::Set(_) => 44,
+        Record::Remap(_) => 98,
+        Record::Activate(_, hold) => activation_width(hold),
+        Record::Refresh => 2,
+        Record::Blank => 0,
     }
 }
 
@@ -209,8 +181,8 @@ pub fn print_answer(out: &mut [u8], at: usize, answer: Read) -> usize
     requires { at + length (answer_spelling (said answer).outcome) ≤ length out.old }
     ensures { PrintsInto out at (answer_spelling (said answer).outcome) result }
 {
-    match answer {
-        Read::Line(record, _) => print_record(out, at, record),
-        Read::Refused(_) => at,
+    match answer.outcome {
+        Ok(says) => print_record(out, at, says),
+        Err(_) => at,
     }
 }

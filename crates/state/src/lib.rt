@@ -7,7 +7,7 @@ ghost use Rattle.state.specs.State.{most_count, zeros, ascending, counts_allowed
 use device::Settings;
 
 // Where a tracker stands: events so far in this window, activations since the last event, counted by their units, tracked rows, spillover.
-#[derive(Clone, Copy)]
+#[derive(Clone, Copy, PartialEq, Eq)]
 pub struct Position {
     pub events: u32,
     pub activations: u32,

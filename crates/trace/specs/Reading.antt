@@ -2,22 +2,20 @@
 use Rattle.std.specs.Prelude.{cond, ℕ, ◌+◌, min, List, ◌≡◌, drop, length}
 use Rattle.std.proofs.Math.Option.{Option, none, some}
 use Rattle.std.specs.Borrow.{Bor}
-use Rattle.device.specs.Refusal.{Outcome, accepted, refused}
+use Rattle.device.specs.Refusal.{Outcome, accepted, refused, outcome as outcome_of}
 use Rattle.trace.specs.Lines.{line, ended, extent}
 use Rattle.trace.specs.Records.{record_of}
 use Rattle.trace.specs.declared.Record.{Record}
 use Rattle.trace.specs.declared.Read.{Read}
-use Rattle.trace.specs.declared.Read.TheVariants.{Line, Refused}
 
 -- what the reader answers: a record or a refusal, and the place behind the line
 pub record Reading : Type 0 where
   pub outcome : Outcome Record
   pub place : ℕ
 
--- what an answer of the code says; the refusal is 11
+-- what an answer of the code says
 unfoldable pub said : Read → Reading
-said (Line r next) = record { outcome = accepted r; place = next }
-said (Refused next) = record { outcome = refused 11; place = next }
+said answer = record { outcome = outcome_of answer.outcome; place = answer.place }
 
 -- a record, or refusal 11: 'a trace line of another form'
 unfoldable pub or_refused : Option Record → Outcome Record

@@ -3,28 +3,22 @@
 
 ghost use Rattle.std.specs.Prelude.{◌≡◌, ◌+◌, ◌*◌, ◌≤◌, min, length, drop};
 ghost use Rattle.columns.specs.Numbers.{fields};
+ghost use Rattle.device.specs.Refusal.{accepted, refused};
 ghost use Rattle.trace.specs.Lines.{extent};
 ghost use Rattle.trace.specs.Records.{as_settings, as_sixteen, sixteen_of, settings, remap, activation, held_activation, refresh};
-ghost use Rattle.columns.specs.Answers.{number_found};
+ghost use Rattle.columns.specs.Answers.{found};
 ghost use Rattle.trace.specs.Answers.{found_all, row_told, CopiesFront};
 ghost use Rattle.trace.specs.InnerContracts.{ends_after, line_fields};
 ghost use Rattle.trace.specs.Reading.{said, reading, reading_by, HandedOn};
 ghost use Rattle.trace.specs.Texts.{kept_bytes};
 
-use columns::{COLUMNS, Field, NO_NUMBER};
-use device::Settings;
+use columns::COLUMNS;
+use device::{Refusal, Settings};
 
 // How many bytes are kept of a line that has not ended: no record is as long.
 const KEPT: usize = 128;
 
-// What some fields hold: whether each is a number, and these numbers from the front on.
-#[derive(Clone, Copy)]
-pub struct Fields {
-    pub all: bool,
-    pub values: [u32; 16],
-}
-
-// The numbers of a remap as fields: an enum can hold these, and no array.
+// The numbers of a remap as fields, sixteen by their type: a list of the definitions has any length, and what `canonical` claims is claimed of every record.
 #[derive(Clone, Copy)]
 pub struct Sixteen {
     pub n0: u32,
@@ -55,11 +49,11 @@ pub enum Record {
     Blank,
 }
 
-// A record and the place behind its line, or, of a line refused with 11, the place behind it.
+// The record that a line says, or the refusal 11, and the place behind the line.
 #[derive(Clone, Copy)]
-pub enum Read {
-    Line(Record, usize),
-    Refused(usize),
+pub struct Read {
+    pub outcome: Result<Record, Refusal>,
+    pub place: usize,
 }
 
 // A line's answer, and the text behind the line as a part of the caller's.
@@ -97,33 +91,47 @@ fn ends_after(text: &[u8], at: usize, width: usize) -> bool
 }
 
 // The numbers in so many fields from a place on.
-fn read_fields(text: &[u8], at: usize, count: usize) -> Fields
+fn read_fields(text: &[u8], at: usize, count: usize) -> Option<[u32; 16]>
     requires { (count ≤ 16) × (at + 6 * count ≤ length text.now) }
     ensures { found_all count result ≡ fields count (drop at text.now) }
 {
     let mut values = [0u32; 16];
     let mut i: usize = 0;
     while i < count {
-        let Field::Number(n) = columns::read_field(text, at + COLUMNS * i) else {
-            return Fields { all: false, values };
-        };
-        values[i] = n;
+        values[i] = columns::read_number(text, at + COLUMNS * i)?;
         i += 1;
     }
-    Fields { all: true, values }
+    Some(values)
 }
 
 // The numbers of a line of so many fields, from behind its letter on.
-fn line_fields(text: &[u8], at: usize, count: usize) -> Fields
+fn line_fields(text: &[u8], at: usize, count: usize) -> Option<[u32; 16]>
     requires { (count ≤ 16) × (at ≤ length text.now) }
     ensures { found_all count result ≡ line_fields count (drop at text.now) }
 {
     if ends_after(text, at, COLUMNS * count) {
         return read_fields(text, at, count);
     }
-    Fields {
-        all: false,
-        values: [0u32; 16],
+    None
+}
+
+// A line that says a record, and one that is refused.
+fn line(says: Record, place: usize) -> Read
+    ensures { said result ≡ record { outcome = accepted says; place = place } }
+{
+    Read {
+        outcome: Ok(says),
+        place,
+    }
+}
+
+fn refused(text: &[u8], at: usize) -> Read
+    requires { at ≤ length text.now }
+    ensures { said result ≡ record { outcome = refused 11; place = at + extent (drop at text.now) } }
+{
+    Read {
+        outcome: Err(Refusal::Line),
+        place: line_end(text, at),
     }
 }
 
@@ -147,12 +155,10 @@ fn read_settings(text: &[u8], at: usize) -> Read
     requires { at ≤ length text.now }
     ensures { said result ≡ reading_by settings (drop at text.now) at }
 {
-    let found = line_fields(text, at, 7);
-    if !found.all {
-        return Read::Refused(line_end(text, at));
-    }
-    let values = found.values;
-    Read::Line(Record::Set(as_settings(values)), at + 43)
+    let Some(values) = line_fields(text, at, 7) else {
+        return refused(text, at);
+    };
+    line(Record::Set(as_settings(values)), at + 43)
 }
 
 // Sixteen numbers as fields.
@@ -194,12 +200,10 @@ fn read_remap(text: &[u8], at: usize) -> Read
     requires { at ≤ length text.now }
     ensures { said result ≡ reading_by remap (drop at text.now) at }
 {
-    let found = line_fields(text, at, 16);
-    if !found.all {
-        return Read::Refused(line_end(text, at));
-    }
-    let values = found.values;
-    Read::Line(Record::Remap(as_sixteen(values)), at + 97)
+    let Some(values) = line_fields(text, at, 16) else {
+        return refused(text, at);
+    };
+    line(Record::Remap(as_sixteen(values)), at + 97)
 }
 
 // An activation's line, from behind its letter on.
@@ -208,12 +212,12 @@ fn read_activation(text: &[u8], at: usize) -> Read
     ensures { said result ≡ reading_by activation (drop at text.now) at }
 {
     if !ends_after(text, at, 6) {
-        return Read::Refused(line_end(text, at));
+        return refused(text, at);
     }
-    let Field::Number(row) = columns::read_field(text, at) else {
-        return Read::Refused(line_end(text, at));
+    let Some(row) = columns::read_number(text, at) else {
+        return refused(text, at);
     };
-    Read::Line(Record::Activate(row, 1), at + 7)
+    line(Record::Activate(row, 1), at + 7)
 }
 
 // The line of an activation held open, from behind its letter on.
@@ -221,12 +225,10 @@ fn read_held_activation(text: &[u8], at: usize) -> Read
     requires { at ≤ length text.now }
     ensures { said result ≡ reading_by held_activation (drop at text.now) at }
 {
-    let found = line_fields(text, at, 2);
-    if !found.all {
-        return Read::Refused(line_end(text, at));
-    }
-    let values = found.values;
-    Read::Line(Record::Activate(values[0], values[1]), at + 13)
+    let Some(values) = line_fields(text, at, 2) else {
+        return refused(text, at);
+    };
+    line(Record::Activate(values[0], values[1]), at + 13)
 }
 
 // A refresh event's line, from behind its letter on.
@@ -235,25 +237,25 @@ fn read_refresh(text: &[u8], at: usize) -> Read
     ensures { said result ≡ reading_by refresh (drop at text.now) at }
 {
     if ends_after(text, at, 0) {
-        Read::Line(Record::Refresh, at + 1)
+        line(Record::Refresh, at + 1)
     } else {
-        Read::Refused(line_end(text, at))
+        refused(text, at)
     }
 }
 
-// The row of an activation line of one unit at a place, or a number that is none: for a caller that wants nothing but the rows of such lines, and no record.
-pub fn activation_row(text: &[u8], place: usize) -> u32
+// The row of an activation line of one unit at a place: for a caller that wants nothing but the rows of such lines, and no record.
+pub fn activation_row(text: &[u8], place: usize) -> Option<u32>
     requires { place ≤ length text.now }
-    ensures { number_found result ≡ row_told text.now place }
+    ensures { found result ≡ row_told text.now place }
 {
     if text.len() - place < 8 {
-        return NO_NUMBER;
+        return None;
     }
     if text[place] != b'A' {
-        return NO_NUMBER;
+        return None;
     }
     if text[place + 7] != b'\n' {
-        return NO_NUMBER;
+        return None;
     }
     columns::read_number(text, place + 1)
 }
@@ -263,7 +265,10 @@ pub fn read_line(text: &[u8], place: usize) -> Read
     ensures { said result ≡ reading text.now place }
 {
     if text.len() <= place {
-        return Read::Refused(place);
+        return Read {
+            outcome: Err(Refusal::Line),
+            place,
+        };
     }
     let letter = text[place];
     let at = place + 1;
@@ -283,9 +288,9 @@ pub fn read_line(text: &[u8], place: usize) -> Read
         return read_remap(text, at);
     }
     if letter == b'\n' {
-        return Read::Line(Record::Blank, at);
+        return line(Record::Blank, at);
     }
-    Read::Refused(line_end(text, at))
+    refused(text, at)
 }
 
 // The text from a place on, as a part of the caller's; none of it where the place is behind the end.
@@ -299,29 +304,12 @@ pub fn rest(text: &[u8], place: usize) -> &[u8]
     &text[end..]
 }
 
-// The place behind a line that was read.
-pub fn place_behind(answer: Read) -> usize
-    ensures { result ≡ (said answer).place }
-{
-    match answer {
-        Read::Line(_, next) => next,
-        Read::Refused(next) => next,
-    }
-}
-
-// The text behind a line that was read.
-fn text_behind(text: &[u8], answer: Read) -> &[u8]
-    ensures { HandedOn text.entry (said answer).place result }
-{
-    rest(text, place_behind(answer))
-}
-
 // The line at a place of the text, with the text behind it as a part of the caller's.
 pub fn next_line<'a>(text: &'a [u8], place: usize) -> Parsed<'a>
     ensures { (said result.answer ≡ reading text.now place) × HandedOn text.entry (reading text.now place).place result.rest }
 {
     let answer = read_line(text, place);
-    let rest = text_behind(text, answer);
+    let rest = rest(text, answer.place);
     Parsed { answer, rest }
 }
 

@@ -1,64 +1,55 @@
 -- What the calls' answers say: 'a definition gives this paper's number and values for every case of the enum'. The number is 0 where a call is
 -- accepted; otherwise 'every refusal hands back its number, and the position and all lent memory as they came'.
-use Rattle.std.specs.Prelude.{ℕ, Bool, true, false, List}
+use Rattle.std.specs.Prelude.{ℕ, Bool, true, false, List, Result, Ok, Err}
 use Rattle.laws.specs.Lent.{Lent}
-use Rattle.device.specs.Refusal.{Outcome, accepted, refused}
+use Rattle.device.specs.declared.refusal.Refusal.{Refusal}
+use Rattle.device.specs.Refusal.{number, outcome}
 use Rattle.state.specs.declared.Position.{Position}
 use Rattle.state.specs.State.{given}
 use Rattle.tracker.specs.Calls.{SetUpCall, ActivationCall, RefreshCall}
-use Rattle.tracker.specs.declared.SetUp.{SetUp}
-use Rattle.tracker.specs.declared.SetUp.TheVariants.{Ready, Refused as SetUpRefused}
-use Rattle.tracker.specs.declared.Activation.{Activation}
-use Rattle.tracker.specs.declared.Activation.TheVariants.{Accepted as ActivationAccepted, Refused as ActivationRefused}
+use Rattle.tracker.specs.declared.Refused.{Refused}
 use Rattle.tracker.specs.declared.Refreshed.{Refreshed}
-use Rattle.tracker.specs.declared.Refreshed.TheVariants.{Accepted as RefreshAccepted, Refused as RefreshRefused}
-use Rattle.tracker.specs.declared.AfterEvent.{AfterEvent}
-
--- setting up: the position to begin with; 'a refused setting up has no position to hand back'
-unfoldable pub set_up_outcome : SetUp → Outcome Position
-set_up_outcome (Ready p) = accepted p
-set_up_outcome (SetUpRefused k) = refused k
 
 -- an activation: 'whether the call was accepted'
-unfoldable pub activation_accepts : Activation → Bool
-activation_accepts (ActivationAccepted p) = true
-activation_accepts (ActivationRefused k p) = false
+unfoldable pub activation_accepts : Result Position Refused → Bool
+activation_accepts (Ok p) = true
+activation_accepts (Err r) = false
 
 -- its number ('every refusal hands back its number')
-unfoldable pub activation_refusal : Activation → ℕ
-activation_refusal (ActivationAccepted p) = 0
-activation_refusal (ActivationRefused k p) = k
+unfoldable pub activation_refusal : Result Position Refused → ℕ
+activation_refusal (Ok p) = 0
+activation_refusal (Err r) = number r.refusal
 
 -- the position that it leaves, as it came where it is refused
-unfoldable pub activation_position : Activation → Position
-activation_position (ActivationAccepted p) = p
-activation_position (ActivationRefused k p) = p
+unfoldable pub activation_position : Result Position Refused → Position
+activation_position (Ok p) = p
+activation_position (Err r) = r.position
 
 -- an event: 'whether the call was accepted'
-unfoldable pub refresh_accepts : Refreshed → Bool
-refresh_accepts (RefreshAccepted v p) = true
-refresh_accepts (RefreshRefused k p) = false
+unfoldable pub refresh_accepts : Result Refreshed Refused → Bool
+refresh_accepts (Ok r) = true
+refresh_accepts (Err r) = false
 
 -- its number
-unfoldable pub refresh_refusal : Refreshed → ℕ
-refresh_refusal (RefreshAccepted v p) = 0
-refresh_refusal (RefreshRefused k p) = k
+unfoldable pub refresh_refusal : Result Refreshed Refused → ℕ
+refresh_refusal (Ok r) = 0
+refresh_refusal (Err r) = number r.refusal
 
 -- 'the number picked', 0 where it is refused
-unfoldable pub refresh_count : Refreshed → ℕ
-refresh_count (RefreshAccepted v p) = v
-refresh_count (RefreshRefused k p) = 0
+unfoldable pub refresh_count : Result Refreshed Refused → ℕ
+refresh_count (Ok r) = r.count
+refresh_count (Err r) = 0
 
 -- the position that it leaves
-unfoldable pub refresh_position : Refreshed → Position
-refresh_position (RefreshAccepted v p) = p
-refresh_position (RefreshRefused k p) = p
+unfoldable pub refresh_position : Result Refreshed Refused → Position
+refresh_position (Ok r) = r.position
+refresh_position (Err r) = r.position
 
 -- a call's answer with what it left in the lent tables and, of an event, in the 'lent list'
-unfoldable pub set_up_call : SetUp → List ℕ → List ℕ → SetUpCall
-set_up_call r rows counts = record { answer = set_up_outcome r; rows = rows; counts = counts }
+unfoldable pub set_up_call : Result Position Refusal → List ℕ → List ℕ → SetUpCall
+set_up_call r rows counts = record { answer = outcome r; rows = rows; counts = counts }
 
-unfoldable pub activation_call : Activation → List ℕ → List ℕ → ActivationCall
+unfoldable pub activation_call : Result Position Refused → List ℕ → List ℕ → ActivationCall
 activation_call r rows counts =
     record {
       accepts = activation_accepts r;
@@ -66,7 +57,7 @@ activation_call r rows counts =
       state = given rows counts (activation_position r);
     }
 
-unfoldable pub refresh_call : Refreshed → List ℕ → List ℕ → List ℕ → RefreshCall
+unfoldable pub refresh_call : Result Refreshed Refused → List ℕ → List ℕ → List ℕ → RefreshCall
 refresh_call r rows counts picks =
     record {
       accepts = refresh_accepts r;
@@ -77,14 +68,14 @@ refresh_call r rows counts picks =
     }
 
 -- the same of a call's parameters: setting up, an activation, an event, and an event that no test refuses
-abbrev pub set_up_left : SetUp → Lent → Lent → SetUpCall
+abbrev pub set_up_left : Result Position Refusal → Lent → Lent → SetUpCall
 set_up_left r rows counts = set_up_call r rows.exit.now counts.exit.now
 
-abbrev pub activation_left : Activation → Lent → Lent → ActivationCall
+abbrev pub activation_left : Result Position Refused → Lent → Lent → ActivationCall
 activation_left r rows counts = activation_call r rows.exit.now counts.exit.now
 
-abbrev pub refresh_left : Refreshed → Lent → Lent → Lent → RefreshCall
+abbrev pub refresh_left : Result Refreshed Refused → Lent → Lent → Lent → RefreshCall
 refresh_left r rows counts picks = refresh_call r rows.exit.now counts.exit.now picks.exit.now
 
-abbrev pub event_left : AfterEvent → Lent → Lent → Lent → RefreshCall
-event_left r rows counts picks = refresh_left (RefreshAccepted r.count r.position) rows counts picks
+abbrev pub event_left : Refreshed → Lent → Lent → Lent → RefreshCall
+event_left r rows counts picks = refresh_left (Ok r) rows counts picks

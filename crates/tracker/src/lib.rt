@@ -6,68 +6,53 @@ mod event;
 mod victims;
 
 ghost use Rattle.std.specs.Prelude.{◌≡◌, ◌≤◌};
-ghost use Rattle.device.specs.Refusal.{first_failed};
+ghost use Rattle.device.specs.Refusal.{first_failed, refusal_number};
 ghost use Rattle.state.specs.State.{lent};
 ghost use Rattle.tracker.specs.Calls.{next_event, set_up_tests, activation_tests, refresh_tests, set_up, activation_on, refresh_on};
 ghost use Rattle.tracker.specs.InnerContracts.{tables_tests};
 ghost use Rattle.tracker.specs.Answers.{set_up_left, activation_left, refresh_left, event_left};
 
-use device::Settings;
+use device::{Refusal, Settings};
 pub use state::Position;
 use summary::Tally;
 
-// What setting up answers: the position to begin with, or the refusal.
+// A call that was refused: the refusal, and the position as it came.
 #[derive(Clone, Copy)]
-pub enum SetUp {
-    Ready(Position),
-    Refused(u32),
+pub struct Refused {
+    pub refusal: Refusal,
+    pub position: Position,
 }
 
-// What an activation answers: the position after it, or the refusal and the position as it came.
+// A refresh event that was accepted: the number picked, and the position after it.
 #[derive(Clone, Copy)]
-pub enum Activation {
-    Accepted(Position),
-    Refused(u32, Position),
+pub struct Refreshed {
+    pub count: u32,
+    pub position: Position,
 }
 
-// What a refresh event answers: the number picked and the position after it, or the refusal and the position as it came.
-#[derive(Clone, Copy)]
-pub enum Refreshed {
-    Accepted(u32, Position),
-    Refused(u32, Position),
-}
-
-// What a refresh event that is accepted leaves: the number picked and the position after it.
-#[derive(Clone, Copy)]
-struct AfterEvent {
-    count: u32,
-    position: Position,
-}
-
-// The refusal of settings and lent tables, or 0.
-fn tables_refusal(s: Settings, rows: &[u32], counts: &[u32]) -> u32
-    ensures { result ≡ first_failed (tables_tests s rows.now counts.now) }
+// The tests of settings and lent tables.
+fn test_tables(s: Settings, rows: &[u32], counts: &[u32]) -> Result<(), Refusal>
+    ensures { refusal_number result ≡ first_failed (tables_tests s rows.now counts.now) }
 {
-    let k = device::settings_refusal(s);
-    if k != 0 {
-        return k;
-    }
-    device::refuse_unless(state::tables_long(s, rows, counts), 8, 0)
+    device::test_settings(s)?;
+    device::test(state::tables_long(s, rows, counts), Refusal::Tables)
 }
 
-// The refusal of setting up, or 0.
-fn set_up_refusal(s: Settings, remap: [u32; 16], rows: &[u32], counts: &[u32]) -> u32
-    ensures { result ≡ first_failed (set_up_tests s remap rows.now counts.now) }
+// The tests of setting up.
+fn test_set_up(
+    s: Settings,
+    remap: [u32; 16],
+    rows: &[u32],
+    counts: &[u32],
+) -> Result<(), Refusal>
+    ensures { refusal_number result ≡ first_failed (set_up_tests s remap rows.now counts.now) }
 {
-    let k = tables_refusal(s, rows, counts);
-    if k != 0 {
-        return k;
-    }
-    device::refuse_unless(device::remap_allowed(remap), 14, 0)
+    test_tables(s, rows, counts)?;
+    device::test(device::remap_allowed(remap), Refusal::Remap)
 }
 
-// The refusal of an activation, or 0.
-fn activation_refusal(
+// The tests of an activation.
+fn test_activation(
     s: Settings,
     remap: [u32; 16],
     rows: &[u32],
@@ -75,53 +60,40 @@ fn activation_refusal(
     p: Position,
     row: u32,
     hold: u32,
-) -> u32
-    ensures { result ≡ first_failed (activation_tests s remap (lent rows.now counts.now p) row hold) }
+) -> Result<(), Refusal>
+    ensures { refusal_number result ≡ first_failed (activation_tests s remap (lent rows.now counts.now p) row hold) }
 {
-    let k = tables_refusal(s, rows, counts);
-    if k != 0 {
-        return k;
-    }
-    if s.rows <= row {
-        return 9;
-    }
-    if !device::hold_allowed(hold) {
-        return 15;
-    }
-    if !device::remap_allowed(remap) {
-        return 14;
-    }
-    if !state::valid_state(s, rows, counts, p) {
-        return 21;
-    }
-    device::refuse_unless(p.activations + hold <= s.interval, 22, 0)
+    test_tables(s, rows, counts)?;
+    device::test(row < s.rows, Refusal::Row)?;
+    device::test(device::hold_allowed(hold), Refusal::Hold)?;
+    device::test(device::remap_allowed(remap), Refusal::Remap)?;
+    device::test(state::valid_state(s, rows, counts, p), Refusal::State)?;
+    device::test(p.activations + hold <= s.interval, Refusal::IntervalFull)
 }
 
-// The refusal of a refresh event, or 0.
-fn refresh_refusal(s: Settings, rows: &[u32], counts: &[u32], p: Position, picks: &[u32]) -> u32
-    ensures { result ≡ first_failed (refresh_tests s (lent rows.now counts.now p) picks.now) }
+// The tests of a refresh event.
+fn test_refresh(
+    s: Settings,
+    rows: &[u32],
+    counts: &[u32],
+    p: Position,
+    picks: &[u32],
+) -> Result<(), Refusal>
+    ensures { refusal_number result ≡ first_failed (refresh_tests s (lent rows.now counts.now p) picks.now) }
 {
-    let k = tables_refusal(s, rows, counts);
-    if k != 0 {
-        return k;
-    }
-    if picks.len() < s.volume as usize {
-        return 10;
-    }
-    device::refuse_unless(state::valid_state(s, rows, counts, p), 21, 0)
+    test_tables(s, rows, counts)?;
+    device::test(s.volume as usize <= picks.len(), Refusal::Picks)?;
+    device::test(state::valid_state(s, rows, counts, p), Refusal::State)
 }
 
 // Sets up: 0 everywhere in both tables, and the position to begin with.
-pub fn set_up(s: Settings, remap: [u32; 16], rows: &mut [u32], counts: &mut [u32]) -> SetUp
+pub fn set_up(s: Settings, remap: [u32; 16], rows: &mut [u32], counts: &mut [u32]) -> Result<Position, Refusal>
     ensures { set_up_left result rows counts ≡ set_up s remap rows.old counts.old }
 {
-    let k = set_up_refusal(s, remap, rows, counts);
-    if k != 0 {
-        return SetUp::Refused(k);
-    }
+    test_set_up(s, remap, rows, counts)?;
     tables::clear(rows);
     tables::clear(counts);
-    SetUp::Ready(Position {
+    Ok(Position {
         events: 0,
         activations: 0,
         tracked: 0,
@@ -165,14 +137,16 @@ pub fn activate(
     p: Position,
     row: u32,
     hold: u32,
-) -> Activation
+) -> Result<Position, Refused>
     ensures { activation_left result rows counts ≡ activation_on s remap (lent rows.old counts.old p) row hold }
 {
-    let k = activation_refusal(s, remap, rows, counts, p, row, hold);
-    if k != 0 {
-        return Activation::Refused(k, p);
+    if let Err(refusal) = test_activation(s, remap, rows, counts, p, row, hold) {
+        return Err(Refused {
+            refusal,
+            position: p,
+        });
     }
-    Activation::Accepted(activate_accepted(s, remap, rows, counts, p, row, hold))
+    Ok(activate_accepted(s, remap, rows, counts, p, row, hold))
 }
 
 // The events in the window after one more.
@@ -190,7 +164,7 @@ fn refresh_accepted(
     counts: &mut [u32],
     p: Position,
     picks: &mut [u32],
-) -> AfterEvent
+) -> Refreshed
     requires { first_failed (refresh_tests s (lent rows.old counts.old p) picks.old) ≡ 0 }
     ensures { event_left result rows counts picks ≡ refresh_on s (lent rows.old counts.old p) picks.old }
 {
@@ -200,7 +174,7 @@ fn refresh_accepted(
     };
     let picked = event::event_tables(s, rows, counts, t, p.events, picks);
     let after = picked.tally;
-    AfterEvent {
+    Refreshed {
         count: picked.count as u32,
         position: Position {
             events: next_event(s, p.events),
@@ -218,14 +192,14 @@ pub fn refresh(
     counts: &mut [u32],
     p: Position,
     picks: &mut [u32],
-) -> Refreshed
+) -> Result<Refreshed, Refused>
     ensures { refresh_left result rows counts picks ≡ refresh_on s (lent rows.old counts.old p) picks.old }
 {
-    let k = refresh_refusal(s, rows, counts, p, picks);
-    if k != 0 {
-        return Refreshed::Refused(k, p);
+    if let Err(refusal) = test_refresh(s, rows, counts, p, picks) {
+        return Err(Refused {
+            refusal,
+            position: p,
+        });
     }
-    let after = refresh_accepted(s, rows, counts, p, picks);
-    let position = after.position;
-    Refreshed::Accepted(after.count, position)
+    Ok(refresh_accepted(s, rows, counts, p, picks))
 }

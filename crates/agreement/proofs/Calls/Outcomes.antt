@@ -7,7 +7,7 @@ use borrow.Author.Tests.{ne_eqb, eq-eqb}
 use Rattle.laws.specs.Same.{same}
 use Rattle.device.specs.declared.Settings.{Settings}
 use Rattle.device.specs.Refusal.{first_failed, refused, accepted, tested}
-use Rattle.device.proofs.Refusal.{tested_failed}
+use Rattle.device.proofs.Tests.{tested_failed}
 use Rattle.state.specs.State.{State, summary_of}
 use Rattle.agreement.specs.Calls.{same_settings, same_position, same_tracked, agreement_tests, agreement_to, agreement_of, estimates_tests, estimates_to, estimates_of, same_estimates}
 

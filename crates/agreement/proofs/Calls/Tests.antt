@@ -10,7 +10,7 @@ use Rattle.device.specs.declared.Settings.{Settings}
 use Rattle.device.specs.Refusal.{Test, unless, refuse, first_failed}
 use Rattle.device.specs.Acceptance.{settings_tests}
 use Rattle.device.specs.Remap.{remap_allowed}
-use Rattle.device.proofs.Refusal.{or_later, or_later_assoc, or_later_zero, or_later_none, later_test, refuse_passed}
+use Rattle.device.proofs.Tests.{or_later, or_later_assoc, or_later_zero, or_later_none, later_test, refuse_passed}
 use Rattle.device.proofs.Acceptance.{settings_then}
 use Rattle.summary.specs.InnerContracts.{Holds}
 use Rattle.summary.specs.Tables.{read}

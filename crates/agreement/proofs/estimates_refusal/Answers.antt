@@ -1,7 +1,7 @@
 -- `agreement::estimates_refusal` meets its contract.
 use mathlib.Core.Path.{sym, ◌∙◌}
 use Rattle.device.specs.Refusal.{refuse}
-use Rattle.device.proofs.Refusal.{or_later_first, or_later_zero}
+use Rattle.device.proofs.Tests.{or_later_first, or_later_zero}
 use Rattle.state.specs.State.{given}
 use Rattle.agreement.proofs.Calls.Tests.{estimates_tested, tables_passed}
 use Rattle.agreement.proofs.estimates_refusal.Goals as goal

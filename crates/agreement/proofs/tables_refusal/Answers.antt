@@ -1,7 +1,7 @@
 -- `agreement::tables_refusal` meets its contract.
 use mathlib.Core.Path.{sym, ◌∙◌}
 use Rattle.device.specs.Refusal.{refuse}
-use Rattle.device.proofs.Refusal.{or_later_first, or_later_zero}
+use Rattle.device.proofs.Tests.{or_later_first, or_later_zero}
 use Rattle.agreement.proofs.Calls.Tests.{both_tables_tested}
 use Rattle.agreement.proofs.tables_refusal.Goals as goal
 

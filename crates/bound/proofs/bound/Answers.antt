@@ -4,7 +4,7 @@ use native.Mathlib.Omega.{arith}
 use Rattle.device.specs.Refusal.{first_failed, accepted as accepted_with}
 use Rattle.device.specs.Acceptance.{settings_tests}
 use Rattle.device.proofs.Acceptance.{accepted_settings}
-use Rattle.device.proofs.Refusal.{tested_passed, tested_failed}
+use Rattle.device.proofs.Tests.{tested_passed, tested_failed}
 use Rattle.bound.specs.Totals.{bound_of}
 use Rattle.bound.specs.Answers.{outcome, bound_answer_to}
 use Rattle.bound.proofs.bound.Goals as goal

@@ -2,7 +2,7 @@
 use mathlib.Core.Path.{◌≡◌, ◌∙◌, sym}
 use Rattle.device.specs.Refusal.{first_failed}
 use Rattle.device.specs.Acceptance.{settings_tests_but_counters}
-use Rattle.device.proofs.Refusal.{tested_passed, tested_failed}
+use Rattle.device.proofs.Tests.{tested_passed, tested_failed}
 use Rattle.bound.specs.Least.{least_of}
 use Rattle.bound.specs.Answers.{outcome, least_answer_to}
 use Rattle.bound.proofs.least_counters.Goals as goal

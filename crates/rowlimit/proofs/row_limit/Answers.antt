@@ -4,7 +4,7 @@ use native.Mathlib.Omega.{arith}
 use Rattle.device.specs.Refusal.{first_failed, accepted as accepted_with, refused}
 use Rattle.device.specs.Remap.{physical}
 use Rattle.device.proofs.Acceptance.{accepted_settings}
-use Rattle.device.proofs.Refusal.{tested_passed, tested_failed}
+use Rattle.device.proofs.Tests.{tested_passed, tested_failed}
 use Rattle.device.proofs.Remap.{physical_below}
 use Rattle.bound.specs.Answers.{outcome}
 use Rattle.limit.specs.ByRow.{row_figure}

@@ -1,6 +1,6 @@
 -- `rowlimit::row_limit_refusal` meets its contract.
 use mathlib.Core.Path.{sym, ◌∙◌}
-use Rattle.device.proofs.Refusal.{or_later_first, or_later_zero}
+use Rattle.device.proofs.Tests.{or_later_first, or_later_zero}
 use Rattle.rowlimit.proofs.Tests.{row_limit_tested}
 use Rattle.rowlimit.proofs.row_limit_refusal.Goals as goal
 

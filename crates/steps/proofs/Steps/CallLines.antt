@@ -13,7 +13,7 @@ use Rattle.device.specs.Hold.{repeated}
 use Rattle.device.specs.Victims.{victims}
 use Rattle.device.proofs.Acceptance.{accepted_settings}
 use Rattle.device.proofs.Remap.{physical_below}
-use Rattle.device.proofs.Refusal.{refuse_passed}
+use Rattle.device.proofs.Tests.{refuse_passed}
 use Rattle.summary.specs.Steps.{Summary, activation, event}
 use Rattle.summary.specs.Rules.{Room, RoomFor}
 use Rattle.summary.specs.InnerContracts.{PickedFrom}

@@ -10,7 +10,7 @@ use Rattle.device.specs.declared.Settings.{Settings}
 use Rattle.device.specs.Refusal.{unless, first_failed, refuse, Outcome, accepted, refused}
 use Rattle.device.specs.Acceptance.{settings_tests}
 use Rattle.device.specs.Remap.{remap_allowed}
-use Rattle.device.proofs.Refusal.{or_later}
+use Rattle.device.proofs.Tests.{or_later}
 use Rattle.state.specs.declared.Position.{Position}
 use Rattle.state.specs.State.{tables_long}
 use Rattle.tracker.specs.Calls.{SetUpCall, set_up_tests, set_up, activation_on, refresh_on}

@@ -12,7 +12,7 @@ use Rattle.device.specs.declared.Settings.{Settings}
 use Rattle.device.specs.Refusal.{first_failed, Outcome, accepted, tested}
 use Rattle.device.specs.Acceptance.{settings_tests}
 use Rattle.device.specs.Remap.{remap_allowed}
-use Rattle.device.proofs.Refusal.{or_later}
+use Rattle.device.proofs.Tests.{or_later}
 use Rattle.bound.specs.Totals.{bound_of}
 use Rattle.bound.specs.declared.Answer.{Answer}
 use Rattle.bound.specs.Answers.{outcome, bound_answer_to, bound_answer}

@@ -15,7 +15,7 @@ use Rattle.device.specs.Remap.{remap_allowed}
 use Rattle.device.specs.Hold.{hold_allowed}
 use Rattle.device.proofs.Acceptance.{Between, Accepted, accepted_settings}
 use Rattle.device.proofs.Hold.{hold_between}
-use Rattle.device.proofs.Refusal.{or_later_zero, or_later_none, refuse_passed}
+use Rattle.device.proofs.Tests.{or_later_zero, or_later_none, refuse_passed}
 use Rattle.summary.specs.Entries.{Entry}
 use Rattle.summary.specs.Rules.{Ordered, ordered_none, ordered_more}
 use Rattle.summary.specs.InnerContracts.{Holds, Held}

@@ -10,7 +10,7 @@ use Rattle.device.specs.Refusal.{first_failed, unless, refuse}
 use Rattle.device.specs.Acceptance.{settings_tests}
 use Rattle.device.specs.Remap.{remap_allowed}
 use Rattle.device.specs.Hold.{hold_allowed}
-use Rattle.device.proofs.Refusal.{or_later}
+use Rattle.device.proofs.Tests.{or_later}
 use Rattle.device.proofs.Acceptance.{settings_then}
 use Rattle.summary.specs.Steps.{Summary}
 use Rattle.summary.specs.Rules.{Ceiling, Sound}

@@ -10,7 +10,7 @@ use Rattle.device.specs.Refusal.{Test, unless, refuse, first_failed}
 use Rattle.device.specs.Acceptance.{settings_tests}
 use Rattle.device.specs.Remap.{remap_allowed}
 use Rattle.device.specs.Hold.{hold_allowed}
-use Rattle.device.proofs.Refusal.{or_later, later_test}
+use Rattle.device.proofs.Tests.{or_later, later_test}
 use Rattle.device.proofs.Acceptance.{settings_then}
 use Rattle.state.specs.State.{State, valid, tables_long}
 use Rattle.tracker.specs.Calls.{set_up_tests_to, set_up_tests, activation_tests_to, activation_tests, refresh_tests_to, refresh_tests}

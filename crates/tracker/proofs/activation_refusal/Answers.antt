@@ -5,7 +5,7 @@ use borrow.Author.Tests.{lt-ltb, le-ltb}
 use Rattle.device.specs.Refusal.{refuse}
 use Rattle.device.proofs.Acceptance.{accepted_settings}
 use Rattle.device.proofs.Hold.{hold_between}
-use Rattle.device.proofs.Refusal.{or_later_first, or_later_zero}
+use Rattle.device.proofs.Tests.{or_later_first, or_later_zero}
 use Rattle.state.specs.State.{given}
 use Rattle.state.proofs.Valid.{valid_facts}
 use Rattle.tracker.proofs.Calls.Tests.{activation_tested}

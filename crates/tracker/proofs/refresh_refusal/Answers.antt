@@ -3,7 +3,7 @@ use mathlib.Core.Path.{sym, ◌∙◌}
 use borrow.Author.Tests.{le-leb, lt-leb}
 use lib.ListN.{length}
 use Rattle.device.specs.Refusal.{refuse}
-use Rattle.device.proofs.Refusal.{or_later_first, or_later_zero}
+use Rattle.device.proofs.Tests.{or_later_first, or_later_zero}
 use Rattle.state.specs.State.{given}
 use Rattle.tracker.proofs.Calls.Tests.{refresh_tested}
 use Rattle.tracker.proofs.Calls.Ready.{open_tables}

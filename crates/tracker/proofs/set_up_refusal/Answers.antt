@@ -1,6 +1,6 @@
 -- `tracker::set_up_refusal` meets its contract.
 use mathlib.Core.Path.{sym, ◌∙◌}
-use Rattle.device.proofs.Refusal.{or_later_first, or_later_zero}
+use Rattle.device.proofs.Tests.{or_later_first, or_later_zero}
 use Rattle.tracker.proofs.Calls.Tests.{set_up_tested}
 use Rattle.tracker.proofs.set_up_refusal.Goals as goal
 

@@ -1,6 +1,6 @@
 -- `tracker::tables_refusal` meets its contract.
 use mathlib.Core.Path.{sym, ◌∙◌}
-use Rattle.device.proofs.Refusal.{or_later_first, or_later_zero}
+use Rattle.device.proofs.Tests.{or_later_first, or_later_zero}
 use Rattle.tracker.proofs.Calls.Tests.{tables_tested}
 use Rattle.tracker.proofs.tables_refusal.Goals as goal
 

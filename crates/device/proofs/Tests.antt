@@ -1,9 +1,12 @@
 -- Refusals: an answer behind the tests stands where they say 0 and is refused with their number where they do not; tests behind others.
-use mathlib.Core.Path.{◌≡◌, refl}
+use mathlib.Core.Path.{◌≡◌, refl, sym}
 use mathlib.Core.Bool.{Bool, true, false, not}
 use Prim.Native.Nat.{ℕ, zero, suc, ◌≤◌}
 use native.Mathlib.Omega.{arith}
-use Rattle.device.specs.Refusal.{Outcome, refused, tested, refuse}
+use Rattle.std.specs.Prelude.{Result, Ok, Err}
+use Rattle.device.specs.declared.refusal.Refusal.{Refusal}
+use Rattle.device.specs.declared.refusal.Refusal.TheVariants.{Rows, BlastDiameter, Volume, Counters, Interval, Window, Block, Tables, Row, Picks, Line, NoCount, Room, Remap, Hold, State, IntervalFull}
+use Rattle.device.specs.Refusal.{Outcome, accepted, refused, tested, refuse, number, refusal_number, outcome}
 
 pub tested_passed : {A : Type 0} {k : ℕ} (answer : Outcome A) → k ≡ 0 → tested k answer ≡ answer
 unfolding tested
@@ -72,3 +75,30 @@ pub later_refuse : (failed : Bool) (k l later : ℕ) → or_later (refuse failed
 unfolding refuse or_later
 later_refuse true k l later = refl
 later_refuse false k l later = refl
+
+-- no refusal has the number 0
+pub number_not_0 : (r : Refusal) → number r ≡ 0 → ⊥
+number_not_0 Rows e = omega arith
+number_not_0 BlastDiameter e = omega arith
+number_not_0 Volume e = omega arith
+number_not_0 Counters e = omega arith
+number_not_0 Interval e = omega arith
+number_not_0 Window e = omega arith
+number_not_0 Block e = omega arith
+number_not_0 Tables e = omega arith
+number_not_0 Row e = omega arith
+number_not_0 Picks e = omega arith
+number_not_0 Line e = omega arith
+number_not_0 NoCount e = omega arith
+number_not_0 Room e = omega arith
+number_not_0 Remap e = omega arith
+number_not_0 Hold e = omega arith
+number_not_0 State e = omega arith
+number_not_0 IntervalFull e = omega arith
+
+-- what tests came to decides an answer: refused with their number, or what it is where they passed
+pub outcome_refused : {B : Type 0} {k : ℕ} (r : Refusal) (answer : Outcome B) → number r ≡ k → refused (number r) ≡ tested k answer
+outcome_refused r answer e = rw (sym e) (sym (tested_failed (number r) answer (number_not_0 r)))
+
+pub outcome_accepted : {B : Type 0} {k : ℕ} (answer : Outcome B) → 0 ≡ k → answer ≡ tested k answer
+outcome_accepted answer e = rw (sym e) (sym (tested_passed answer refl))
