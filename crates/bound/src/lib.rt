@@ -1,4 +1,4 @@
-// The bound on disturbance and the least counter count; crate bound_c exports them to C.
+// The bound on disturbance and the least counter count.
 #![tactic(auto)]
 
 mod search;
@@ -9,7 +9,7 @@ ghost use Rattle.device.specs.Refusal.{first_failed, outcome};
 ghost use Rattle.device.specs.Acceptance.{settings_tests, settings_tests_but_counters};
 ghost use Rattle.bound.specs.Totals.{disturbers, bound_at};
 ghost use Rattle.bound.specs.Least.{least_of};
-ghost use Rattle.bound.specs.Answers.{bound_answer, least_answer, signed, Small, settings_of};
+ghost use Rattle.bound.specs.Answers.{bound_answer, least_answer, signed, Small};
 
 use device::{Refusal, Settings};
 
@@ -77,53 +77,4 @@ pub fn signed_number(answer: Result<u64, Refusal>) -> i64
         Ok(v) => v as i64,
         Err(refusal) => -(refusal.number() as i64),
     }
-}
-
-// The bound for crate bound_c: H, or refusal k as -k.
-pub fn row_tracker_bound(
-    rows: u32,
-    blast_diameter: u32,
-    volume: u32,
-    counters: u32,
-    interval: u32,
-    window: u32,
-    block: u32,
-) -> i64
-    ensures { result ≡ signed (bound_answer (settings_of rows blast_diameter volume counters interval window block)) }
-{
-    signed_number(bound(Settings {
-        rows,
-        blast_diameter,
-        volume,
-        counters,
-        interval,
-        window,
-        block,
-    }))
-}
-
-// The least counter count for crate bound_c: the count, or refusal k as -k.
-pub fn row_tracker_least_counters(
-    rows: u32,
-    blast_diameter: u32,
-    volume: u32,
-    interval: u32,
-    window: u32,
-    block: u32,
-    threshold: u64,
-) -> i64
-    ensures { result ≡ signed (least_answer (settings_of rows blast_diameter volume 0 interval window block) threshold) }
-{
-    signed_number(least_counters(
-        Settings {
-            rows,
-            blast_diameter,
-            volume,
-            counters: 0,
-            interval,
-            window,
-            block,
-        },
-        threshold,
-    ))
 }

@@ -4,6 +4,8 @@
 ghost use Rattle.std.specs.Prelude.{◌≡◌};
 ghost use Rattle.bound.specs.Answers.{bound_answer, least_answer, signed, settings_of};
 
+use device::Settings;
+
 // The bound: H, or refusal k as -k.
 #[unsafe(no_mangle)]
 pub extern "C" fn row_tracker_bound(
@@ -17,7 +19,7 @@ pub extern "C" fn row_tracker_bound(
 ) -> i64
     ensures { result ≡ signed (bound_answer (settings_of rows blast_diameter volume counters interval window block)) }
 {
-    bound::row_tracker_bound(
+    bound::signed_number(bound::bound(Settings {
         rows,
         blast_diameter,
         volume,
@@ -25,7 +27,7 @@ pub extern "C" fn row_tracker_bound(
         interval,
         window,
         block,
-    )
+    }))
 }
 
 // The least counter count: the count, or refusal k as -k.
@@ -41,13 +43,16 @@ pub extern "C" fn row_tracker_least_counters(
 ) -> i64
     ensures { result ≡ signed (least_answer (settings_of rows blast_diameter volume 0 interval window block) threshold) }
 {
-    bound::row_tracker_least_counters(
-        rows,
-        blast_diameter,
-        volume,
-        interval,
-        window,
-        block,
+    bound::signed_number(bound::least_counters(
+        Settings {
+            rows,
+            blast_diameter,
+            volume,
+            counters: 0,
+            interval,
+            window,
+            block,
+        },
         threshold,
-    )
+    ))
 }

@@ -5,6 +5,9 @@ ghost use Rattle.std.specs.Prelude.{◌≡◌};
 ghost use Rattle.bound.specs.Answers.{signed, settings_of};
 ghost use Rattle.rowlimit.specs.Answers.{row_limit_answer, position_of};
 
+use device::Settings;
+use state::Position;
+
 // The figure, or refusal k as -k.
 #[unsafe(no_mangle)]
 pub extern "C" fn row_tracker_row_limit(
@@ -24,7 +27,7 @@ pub extern "C" fn row_tracker_row_limit(
 ) -> i64
     ensures { result ≡ signed (row_limit_answer (settings_of rows blast_diameter volume counters interval window block) remap.now row (position_of events activations tracked spillover)) }
 {
-    rowlimit::row_tracker_row_limit(
+    let s = Settings {
         rows,
         blast_diameter,
         volume,
@@ -32,11 +35,12 @@ pub extern "C" fn row_tracker_row_limit(
         interval,
         window,
         block,
-        remap,
-        row,
+    };
+    let p = Position {
         events,
         activations,
         tracked,
         spillover,
-    )
+    };
+    bound::signed_number(rowlimit::row_limit(s, *remap, row, p))
 }

@@ -1,11 +1,11 @@
--- `rowlimit::row_tracker_row_limit` meets its contract.
+-- `rowlimit_c::row_tracker_row_limit` meets its contract.
 use mathlib.Core.Path.{◌∙◌, ap}
 use mir.Syntax.{w64}
 use mir.ValLaws.{to_z-of_z}
 use Rattle.bound.specs.Answers.{signed, settings_of}
 use Rattle.rowlimit.specs.Answers.{position_of}
 use Rattle.rowlimit.proofs.Answers.{small_row_limit_answer}
-use Rattle.rowlimit.proofs.row_tracker_row_limit.Goals as goal
+use Rattle.rowlimit_c.proofs.row_tracker_row_limit.Goals as goal
 
 pub signed_number-requires : goal.signed_number-requires
 unfolding settings_of

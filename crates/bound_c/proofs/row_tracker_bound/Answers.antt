@@ -1,10 +1,10 @@
--- `bound::row_tracker_bound` meets its contract.
+-- `bound_c::row_tracker_bound` meets its contract.
 use mathlib.Core.Path.{◌∙◌, ap}
 use mir.Syntax.{w64}
 use mir.ValLaws.{to_z-of_z}
 use Rattle.bound.specs.Answers.{signed, settings_of}
 use Rattle.bound.proofs.Answers.{small_bound_answer}
-use Rattle.bound.proofs.row_tracker_bound.Goals as goal
+use Rattle.bound_c.proofs.row_tracker_bound.Goals as goal
 
 pub signed_number-requires : goal.signed_number-requires
 signed_number-requires c = rw c.bound.ensures (small_bound_answer _)
