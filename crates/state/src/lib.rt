@@ -89,15 +89,13 @@ pub fn position_in_range(s: Settings, p: Position) -> bool
 }
 
 // Whether a state of tables of the right length breaks no rule.
+#[tactic(auto, using(crate::proofs::PositionAllowed::position_facts), unfolding(crate::specs::State::valid))]
 pub fn valid_state(s: Settings, rows: &[u32], counts: &[u32], p: Position) -> bool
     requires { (length rows.now ≡ s.counters) × (length counts.now ≡ s.counters) }
     ensures { result ≡ valid s (record { rows = rows.entry.now; counts = counts.now; position = p }) }
 {
-    if !position_in_range(s, p) {
-        return false;
-    }
     let k = p.tracked as usize;
-    rows_laid(rows, k, s.rows) && counts_laid(counts, k, p.spillover)
+    position_in_range(s, p) && rows_laid(rows, k, s.rows) && counts_laid(counts, k, p.spillover)
 }
 
 // Whether tables and position may be a tracker's: both tables as long as there are counters, and no rule broken.
