@@ -14,6 +14,7 @@ ghost use Rattle.bound.specs.Answers.{bound_answer, least_answer, signed, Small}
 use device::{Refusal, Settings};
 
 // T': the rows that disturb their victims from one event to the next.
+#[tactic(auto, unfolding(crate::specs::Totals::disturbers))]
 pub fn disturbers_of(s: Settings) -> u64
     ensures { result ≡ disturbers s }
 {

@@ -8,6 +8,7 @@ use device::Settings;
 
 // The bound: H, or refusal k as -k.
 #[unsafe(no_mangle)]
+#[tactic(auto, using(bound::proofs::Answers::small_bound_answer), unfolding(bound::specs::Answers::settings_of))]
 pub extern "C" fn row_tracker_bound(
     rows: u32,
     blast_diameter: u32,
@@ -32,6 +33,7 @@ pub extern "C" fn row_tracker_bound(
 
 // The least counter count: the count, or refusal k as -k.
 #[unsafe(no_mangle)]
+#[tactic(auto, using(bound::proofs::Answers::small_least_answer), unfolding(bound::specs::Answers::settings_of))]
 pub extern "C" fn row_tracker_least_counters(
     rows: u32,
     blast_diameter: u32,
