@@ -136,17 +136,19 @@ fn refused(text: &[u8], at: usize) -> Read
 }
 
 // Seven numbers as settings.
+#[tactic(auto, unfolding(crate::specs::Records::as_settings))]
 fn as_settings(values: [u32; 7]) -> Settings
     ensures { result ≡ as_settings values }
 {
+    let [rows, blast_diameter, volume, counters, interval, window, block] = values;
     Settings {
-        rows: values[0],
-        blast_diameter: values[1],
-        volume: values[2],
-        counters: values[3],
-        interval: values[4],
-        window: values[5],
-        block: values[6],
+        rows,
+        blast_diameter,
+        volume,
+        counters,
+        interval,
+        window,
+        block,
     }
 }
 
@@ -161,27 +163,41 @@ fn read_settings(text: &[u8], at: usize) -> Read
     line(Record::Set(as_settings(values)), at + 43)
 }
 
-// Sixteen numbers as fields.
-fn as_sixteen(values: [u32; 16]) -> Sixteen
-    ensures { result ≡ as_sixteen values }
-{
-    Sixteen {
-        n0: values[0],
-        n1: values[1],
-        n2: values[2],
-        n3: values[3],
-        n4: values[4],
-        n5: values[5],
-        n6: values[6],
-        n7: values[7],
-        n8: values[8],
-        n9: values[9],
-        n10: values[10],
-        n11: values[11],
-        n12: values[12],
-        n13: values[13],
-        n14: values[14],
-        n15: values[15],
+impl From<[u32; 16]> for Sixteen {
+    #[tactic(auto, unfolding(crate::specs::Records::as_sixteen))]
+    fn from(values: [u32; 16]) -> Self
+        ensures { result ≡ as_sixteen values }
+    {
+        Sixteen {
+            n0: values[0],
+            n1: values[1],
+            n2: values[2],
+            n3: values[3],
+            n4: values[4],
+            n5: values[5],
+            n6: values[6],
+            n7: values[7],
+            n8: values[8],
+            n9: values[9],
+            n10: values[10],
+            n11: values[11],
+            n12: values[12],
+            n13: values[13],
+            n14: values[14],
+            n15: values[15],
+        }
+    }
+}
+
+impl From<Sixteen> for [u32; 16] {
+    #[tactic(auto, unfolding(crate::specs::Records::sixteen_of))]
+    fn from(t: Sixteen) -> Self
+        ensures { result ≡ sixteen_of t }
+    {
+        [
+            t.n0, t.n1, t.n2, t.n3, t.n4, t.n5, t.n6, t.n7, t.n8, t.n9, t.n10, t.n11, t.n12, t.n13,
+            t.n14, t.n15,
+        ]
     }
 }
 
@@ -189,10 +205,7 @@ fn as_sixteen(values: [u32; 16]) -> Sixteen
 pub fn sixteen_of(t: Sixteen) -> [u32; 16]
     ensures { result ≡ sixteen_of t }
 {
-    [
-        t.n0, t.n1, t.n2, t.n3, t.n4, t.n5, t.n6, t.n7, t.n8, t.n9, t.n10, t.n11, t.n12, t.n13,
-        t.n14, t.n15,
-    ]
+    <[u32; 16]>::from(t)
 }
 
 // A line of a remap, from behind its letter on.
@@ -203,7 +216,7 @@ fn read_remap(text: &[u8], at: usize) -> Read
     let Some(values) = line_fields::<16>(text, at) else {
         return refused(text, at);
     };
-    line(Record::Remap(as_sixteen(values)), at + 97)
+    line(Record::Remap(Sixteen::from(values)), at + 97)
 }
 
 // An activation's line, from behind its letter on.

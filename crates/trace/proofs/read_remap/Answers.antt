@@ -17,4 +17,4 @@ pub returns : goal.returns
 unfolding found remap
 returns c =
     let a = c.args in
-    c.line.ensures ∙ (rw c.as_sixteen.ensures (sym (reading_numbers 16 (λ numbers. Remap (as_sixteen numbers)) (drop a.at a.text.now) a.at c.in-Some.values c.in-Some.ensures)))
+    c.line.ensures ∙ (rw c.from.ensures (sym (reading_numbers 16 (λ numbers. Remap (as_sixteen numbers)) (drop a.at a.text.now) a.at c.in-Some.values c.in-Some.ensures)))
