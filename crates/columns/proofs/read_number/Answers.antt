@@ -1,5 +1,5 @@
 -- `columns::read_number` meets its contract. The last four columns are digits, so the two in front of them say what the field holds.
-use mathlib.Core.Path.{◌≡◌, refl, sym, ◌∙◌}
+use mathlib.Core.Path.{◌≡◌, sym, ◌∙◌}
 use mathlib.Core.Bool.{true, false}
 use mathlib.Core.List.{List}
 use mathlib.Core.Option.{none, some}
@@ -10,7 +10,7 @@ use lib.Seq.{length-take-le}
 use Rattle.std.proofs.lemmas.List.{take_rest}
 use Rattle.columns.specs.Answers.{found}
 use Rattle.columns.specs.Numbers.{is_digit, digits, number, field}
-use Rattle.columns.proofs.Numbers.Digits.{is_digit_range, number_of_rest, number_of_digit, number_of_other, room_zero, digits_lt}
+use Rattle.columns.proofs.Numbers.Digits.{number_of_rest, number_of_digit, number_of_other, room_zero, digits_lt}
 use Rattle.columns.proofs.read_number.Goals as goal
 
 module _ (text : List ℕ) (from : ℕ) (fits : from + 6 ≤ length text) where
