@@ -140,7 +140,15 @@ fn refused(text: &[u8], at: usize) -> Read
 fn as_settings(values: [u32; 7]) -> Settings
     ensures { result ≡ as_settings values }
 {
-    let [rows, blast_diameter, volume, counters, interval, window, block] = values;
+    let [
+        rows,
+        blast_diameter,
+        volume,
+        counters,
+        interval,
+        window,
+        block,
+    ] = values;
     Settings {
         rows,
         blast_diameter,
@@ -153,6 +161,7 @@ fn as_settings(values: [u32; 7]) -> Settings
 }
 
 // A line of settings, from behind its letter on.
+#[tactic(auto, using(crate::proofs::Reading::OneForm::reading_numbers, crate::proofs::Reading::OneForm::reading_no_numbers), unfolding(columns::specs::Answers::found, crate::specs::Records::settings))]
 fn read_settings(text: &[u8], at: usize) -> Read
     requires { at ≤ length text.now }
     ensures { said result ≡ reading_by settings (drop at text.now) at }
@@ -168,23 +177,41 @@ impl From<[u32; 16]> for Sixteen {
     fn from(values: [u32; 16]) -> Self
         ensures { result ≡ as_sixteen values }
     {
+        let [
+            n0,
+            n1,
+            n2,
+            n3,
+            n4,
+            n5,
+            n6,
+            n7,
+            n8,
+            n9,
+            n10,
+            n11,
+            n12,
+            n13,
+            n14,
+            n15,
+        ] = values;
         Sixteen {
-            n0: values[0],
-            n1: values[1],
-            n2: values[2],
-            n3: values[3],
-            n4: values[4],
-            n5: values[5],
-            n6: values[6],
-            n7: values[7],
-            n8: values[8],
-            n9: values[9],
-            n10: values[10],
-            n11: values[11],
-            n12: values[12],
-            n13: values[13],
-            n14: values[14],
-            n15: values[15],
+            n0,
+            n1,
+            n2,
+            n3,
+            n4,
+            n5,
+            n6,
+            n7,
+            n8,
+            n9,
+            n10,
+            n11,
+            n12,
+            n13,
+            n14,
+            n15,
         }
     }
 }
@@ -209,6 +236,7 @@ pub fn sixteen_of(t: Sixteen) -> [u32; 16]
 }
 
 // A line of a remap, from behind its letter on.
+#[tactic(auto, using(crate::proofs::Reading::OneForm::reading_numbers, crate::proofs::Reading::OneForm::reading_no_numbers), unfolding(columns::specs::Answers::found, crate::specs::Records::remap))]
 fn read_remap(text: &[u8], at: usize) -> Read
     requires { at ≤ length text.now }
     ensures { said result ≡ reading_by remap (drop at text.now) at }
@@ -234,6 +262,7 @@ fn read_activation(text: &[u8], at: usize) -> Read
 }
 
 // The line of an activation held open, from behind its letter on.
+#[tactic(auto, using(crate::proofs::Reading::OneForm::reading_numbers, crate::proofs::Reading::OneForm::reading_no_numbers), unfolding(columns::specs::Answers::found, crate::specs::Records::held_activation, crate::specs::Records::as_activation))]
 fn read_held_activation(text: &[u8], at: usize) -> Read
     requires { at ≤ length text.now }
     ensures { said result ≡ reading_by held_activation (drop at text.now) at }
@@ -246,6 +275,7 @@ fn read_held_activation(text: &[u8], at: usize) -> Read
 }
 
 // A refresh event's line, from behind its letter on.
+#[tactic(auto, using(crate::proofs::Reading::OneForm::refresh_read, crate::proofs::Reading::OneForm::refresh_refused))]
 fn read_refresh(text: &[u8], at: usize) -> Read
     requires { at ≤ length text.now }
     ensures { said result ≡ reading_by refresh (drop at text.now) at }
