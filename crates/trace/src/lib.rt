@@ -71,6 +71,7 @@ fn first_end(text: &[u8]) -> Option<usize>
 }
 
 // The place behind the line's end: behind its byte 10, or the text's end.
+#[tactic(auto, using(std::proofs::lemmas::List::take_rest, crate::proofs::Lines::extent_at, crate::proofs::Lines::extent_nowhere))]
 fn line_end(text: &[u8], place: usize) -> usize
     requires { place ≤ length text.now }
     ensures { result ≡ place + extent (drop place text.now) }
@@ -103,6 +104,7 @@ fn read_fields<const N: usize>(text: &[u8], at: usize) -> Option<[u32; N]>
 }
 
 // The numbers of a line of N fields, from behind its letter on.
+#[tactic(auto, using(crate::proofs::InnerContracts::ends_after_within), unfolding(columns::specs::Answers::found, crate::specs::InnerContracts::line_fields))]
 fn line_fields<const N: usize>(text: &[u8], at: usize) -> Option<[u32; N]>
     requires { (N ≤ 16) × (at ≤ length text.now) }
     ensures { found result ≡ line_fields N (drop at text.now) }
@@ -248,6 +250,7 @@ fn read_remap(text: &[u8], at: usize) -> Read
 }
 
 // An activation's line, from behind its letter on.
+#[tactic(auto, using(crate::proofs::InnerContracts::ends_after_within, crate::proofs::Reading::OneForm::activation_read, crate::proofs::Reading::OneForm::activation_without_number, crate::proofs::Reading::OneForm::activation_refused), unfolding(columns::specs::Answers::found))]
 fn read_activation(text: &[u8], at: usize) -> Read
     requires { at ≤ length text.now }
     ensures { said result ≡ reading_by activation (drop at text.now) at }
