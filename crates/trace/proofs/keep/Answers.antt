@@ -1,64 +1,38 @@
--- `trace::keep` meets its contract. The invariant: so many bytes are copied.
-use mathlib.Core.Path.{◌≡◌, refl, sym, ◌∙◌, ap}
-use mathlib.Core.List.{List, ◌++◌}
-use Prim.Native.Nat.{ℕ}
+-- `trace::keep` meets its contract.
+use mathlib.Core.Path.{◌≡◌, sym, ◌∙◌, ap}
+use mathlib.Core.List.{List}
+use Prim.Native.Nat.{ℕ, ◌+◌, ◌-◌, min}
+use native.Mathlib.Nat.{zero-add}
 use native.Mathlib.Omega.{arith}
-use lib.ListN.{length, drop}
-use Rattle.trace.proofs.Texts.KeptBytes.{kept_within, kept_is, copied_long, front_long, copied_on}
+use lib.ListN.{length, take, drop, length-drop}
+use lib.Seq.{length-take-le, take-take}
+use Rattle.std.proofs.lemmas.List.{take_min, drop_min, drop-take}
+use Rattle.trace.specs.Texts.{most_kept, kept_bytes}
 use Rattle.trace.proofs.keep.Goals as goal
 
-pub loop-i-init : goal.loop-i-init
-loop-i-init c = (refl, omega arith)
-
-pub bounds-text-begin : goal.bounds-text-begin
-bounds-text-begin c =
-    let smaller = c.smaller-end in
-    let l = c.loop-i in
-    let few = kept_within c.args.text.now c.args.from c.args.to smaller.ensures c.smaller-begin.ensures _ c.smaller-kept.ensures in
-    omega (arith, few, c.loop-i-test.true, copied_long c.args.text.now c.smaller-begin.result l.i (omega (arith, few, l.invariant.1)) l.invariant.0)
-
-pub bounds-text-i : goal.bounds-text-i
-bounds-text-i c =
-    let few = kept_within c.args.text.now c.args.from c.args.to c.smaller-end.ensures c.smaller-begin.ensures _ c.smaller-kept.ensures in
-    omega (arith, few, c.loop-i-test.true)
-
-pub loop-i-preserved : goal.loop-i-preserved
-loop-i-preserved c =
-    let smaller = c.smaller-end in
-    let l = c.loop-i in
-    let few = kept_within c.args.text.now c.args.from c.args.to smaller.ensures c.smaller-begin.ensures _ c.smaller-kept.ensures in
-    let less = c.loop-i-test.true in
-    (copied_on c.args.text.now c.smaller-begin.result l.i (omega (arith, few, l.invariant.1)) l.invariant.0 (omega (arith, few, less)), omega (arith, less))
-
-pub shape_of-text : goal.shape_of-text
-shape_of-text c =
-    let l = c.loop-i in
-    let few = kept_within c.args.text.now c.args.from c.args.to c.smaller-end.ensures c.smaller-begin.ensures _ c.smaller-kept.ensures in
-    copied_long c.args.text.now c.smaller-begin.result l.i (omega (arith, few, l.invariant.1)) l.invariant.0
+-- the bytes that are kept, by where they begin and how many they are
+kept_is : (t : List ℕ) (from to : ℕ) {end begin kept : ℕ} → end ≡ min to (length t) → begin ≡ min from end → kept ≡ min (end - begin) most_kept
+    → take kept (drop begin t) ≡ kept_bytes from to t
+unfolding kept_bytes
+kept_is t from to {end} {begin} {kept} e b k =
+    let part = take (end - begin) (drop begin t) in
+    let long = length-take-le end t (omega arith) in
+    let width = length-take-le (end - begin) (drop begin t) (omega (arith, length-drop begin t)) in
+    let first : min from (length (take end t)) ≡ begin = omega arith in
+    let all : begin + (end - begin) ≡ end = omega arith in
+    let few : min most_kept (length part) ≡ kept = omega arith in
+    let to_end : take to t ≡ take end t = rw e (sym (take_min to t)) in
+    let from_begin : drop from (take end t) ≡ part =
+    sym (drop_min from (take end t)) ∙ rw first (ap (λ (n : ℕ). drop begin (take n t)) (sym all) ∙ drop-take begin (end - begin) t) in
+    sym (rw (to_end, from_begin) (sym (take_min most_kept part) ∙ rw few (take-take kept (end - begin) (drop begin t) (omega arith))))
 
 pub returns : goal.returns
 returns c =
-    let l = c.loop-i in
     let a = c.args in
-    let begin = c.smaller-begin.result in
-    let kept = c.smaller-kept.result in
-    let few = kept_within a.text.now a.from a.to c.smaller-end.ensures c.smaller-begin.ensures _ c.smaller-kept.ensures in
-    let is = kept_is a.text.now a.from a.to c.smaller-end.ensures c.smaller-begin.ensures c.smaller-kept.ensures in
-    let done : l.i ≡ kept = omega (arith, l.invariant.1, c.loop-i-test.false) in (
-      sym (front_long a.text.now begin kept few) ∙ ap length is,
-      (rw done at l.invariant.0) ∙ ap (λ (front : List ℕ). front ++ drop kept a.text.now) is,
+    let begin = c.min-begin.result in
+    let kept = c.min-kept.result in
+    let is = kept_is a.text.now a.from a.to c.min-end.ensures c.min-begin.ensures c.min-kept.ensures in
+    let width : begin + kept - begin ≡ kept = omega arith in (
+      sym (length-take-le kept (drop begin a.text.now) (omega (arith, length-drop begin a.text.now))) ∙ ap length is,
+      rw (width, zero-add kept) at c.copy_within.ensures.after ∙ rw is,
     )
-
-pub overflow_sub-end : goal.overflow_sub-end
-overflow_sub-end c = omega (arith, c.smaller-begin.ensures)
-
-pub overflow_add-text : goal.overflow_add-text
-overflow_add-text c =
-    let a = c.args in
-    omega (arith, kept_within a.text.now a.from a.to c.smaller-end.ensures c.smaller-begin.ensures _ c.smaller-kept.ensures, c.loop-i-test.true)
-
-pub overflow_add-i : goal.overflow_add-i
-overflow_add-i c = omega (arith, c.loop-i-test.true)
-
-pub loop-i-smaller : goal.loop-i-smaller
-loop-i-smaller c = omega (arith, c.loop-i-test.true)
