@@ -71,12 +71,12 @@ module _ (s : Settings) (st : State) (s' : Settings) (st' : State) where
   passed_estimates p = rw (estimates_tested, or_later_zero _ _ p.tables, p.sound)
 
 -- both tables of both sides are long
-pub tables_passed : (s : Settings) (rows counts : List ℕ) (s' : Settings) (rows' counts' : List ℕ) → first_failed (both_tables_tests s rows counts s' rows' counts') ≡ 0 → (tables_long s rows counts && tables_long s' rows' counts') ≡ true
+pub tables_passed : (s : Settings) (rows counts : List ℕ) (s' : Settings) (rows' counts' : List ℕ) → 0 ≡ first_failed (both_tables_tests s rows counts s' rows' counts') → (tables_long s rows counts ≡ true) × (tables_long s' rows' counts' ≡ true)
 tables_passed s rows counts s' rows' counts' e =
     let long = tables_long s rows counts && tables_long s' rows' counts' in
-    let one = or_later_none (first_failed (settings_tests s)) _ (sym (both_tables_tested s rows counts s' rows' counts') ∙ e) in
+    let one = or_later_none (first_failed (settings_tests s)) _ (sym (e ∙ both_tables_tested s rows counts s' rows' counts')) in
     let two = or_later_none (first_failed (settings_tests s')) (refuse (not long) 8 0) one.1 in
-    (refuse_passed long 7 0 two.1).0
+    and_both _ _ (refuse_passed long 7 0 two.1).0
 
 -- both states are valid
 pub record Compared (s : Settings) (st : State) (s' : Settings) (st' : State) : Type 0 where
@@ -85,7 +85,7 @@ pub record Compared (s : Settings) (st : State) (s' : Settings) (st' : State) : 
 
 pub compared : (s : Settings) (st : State) (s' : Settings) (st' : State) → Passed s st s' st' → Compared s st s' st'
 compared s st s' st' p =
-    let longs = and_both _ _ (tables_passed s st.rows st.counts s' st'.rows st'.counts p.tables) in
+    let longs = tables_passed s st.rows st.counts s' st'.rows st'.counts (sym p.tables) in
     let valids = and_both (valid s st) (valid s' st') p.sound in
     record { first = valid_facts s st longs.0 valids.0; second = valid_facts s' st' longs.1 valids.1 }
 
