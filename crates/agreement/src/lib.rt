@@ -69,6 +69,7 @@ fn test_estimates(s: Settings, m: Memory, s2: Settings, m2: Memory) -> Result<()
 }
 
 // Whether the tracked rows are the same, and their counts.
+#[tactic(auto, using(crate::proofs::Alike::same_compared), unfolding(crate::specs::Calls::same_tracked, state::specs::State::given))]
 fn same_tracked(m: Memory, m2: Memory) -> bool
     requires tracked_in_bounds { (m.position.tracked ≤ length m.rows.now) × (m.position.tracked ≤ length m.counts.now) }
     requires tracked_in_bounds_2 { (m2.position.tracked ≤ length m2.rows.now) × (m2.position.tracked ≤ length m2.counts.now) }
@@ -80,6 +81,7 @@ fn same_tracked(m: Memory, m2: Memory) -> bool
 }
 
 // Whether two trackers agree: the same settings, remap and position, and the same tracked rows with the same counts.
+#[tactic(auto, using(crate::proofs::Calls::Outcomes::agreement_refused, crate::proofs::Calls::Outcomes::agreement_answered, crate::proofs::Calls::Tests::agreement_in_bounds, crate::proofs::Alike::same_compared), unfolding(device::specs::Refusal::outcome, crate::specs::Calls::same_settings, crate::specs::Calls::same_position, state::specs::State::given))]
 pub fn agree(
     s: Settings,
     remap: [u32; 16],
@@ -105,13 +107,11 @@ pub fn agree(
         position: p2,
     };
     test_agreement(s, remap, m, s2, remap2, m2)?;
-    if s != s2 || remap != remap2 || p != p2 {
-        return Ok(false);
-    }
-    Ok(same_tracked(m, m2))
+    Ok(s == s2 && remap == remap2 && p == p2 && same_tracked(m, m2))
 }
 
 // Whether two summaries give every row the same estimate, in banks of as many rows.
+#[tactic(auto, using(crate::proofs::Calls::Outcomes::estimates_refused, crate::proofs::Calls::Outcomes::estimates_differ, crate::proofs::Calls::Outcomes::estimates_alike, crate::proofs::Calls::Tests::estimates_tracks), unfolding(device::specs::Refusal::outcome, state::specs::State::summary_of, state::specs::State::given))]
 pub fn estimates_agree(
     s: Settings,
     rows: &[u32],
