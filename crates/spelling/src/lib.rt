@@ -77,6 +77,7 @@ fn activation_width(hold: u32) -> usize
 }
 
 // The bytes of an answer's spelling.
+#[tactic(auto, using(canonical::proofs::Spelling::Lengths::length_settings_line, canonical::proofs::Spelling::Lengths::length_remap_line, canonical::proofs::Spelling::Lengths::length_activation_line, canonical::proofs::Spelling::Lengths::length_event_line), unfolding(canonical::specs::Spelling::answer_spelling, canonical::specs::Spelling::record_spelling, trace::specs::Reading::said, device::specs::Refusal::outcome))]
 pub fn width(answer: Read) -> usize
     ensures { result ≡ length (answer_spelling (said answer).outcome) }
 {
