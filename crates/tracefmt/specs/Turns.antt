@@ -13,9 +13,9 @@ use Rattle.input.specs.AtHand.{Within, Came, brought}
 use Rattle.input.specs.Runs.{Ran, Whole}
 use Rattle.tracefmt.specs.declared.Place.{Place}
 use Rattle.tracefmt.specs.declared.Next.{Next}
-use Rattle.tracefmt.specs.declared.Next.TheVariants.{Read, Stop, Failed as ReadFailed}
+use Rattle.tracefmt.specs.declared.Next.TheVariants.{More, Done, Broken}
 use Rattle.tracefmt.specs.declared.Failure.{Failure}
-use Rattle.tracefmt.specs.declared.Failure.TheVariants as failure
+use Rattle.tracefmt.specs.declared.Failure.TheVariants.{Read, Write}
 use Rattle.tracefmt.specs.declared.Turn.{Turn}
 use Rattle.tracefmt.specs.declared.Ended.{Ended}
 use Rattle.tracefmt.specs.Rewriting.{Progress, rewriting, after, end_of}
@@ -49,14 +49,14 @@ pub record Moves (g : Progress) (text written : List ℕ) (g' : Progress) (left 
 
 -- whether there is more to read, and whether the last read failed
 unfoldable pub reads_on_by : Next → Bool
-reads_on_by Read = true
-reads_on_by Stop = false
-reads_on_by ReadFailed = false
+reads_on_by More = true
+reads_on_by Done = false
+reads_on_by Broken = false
 
 unfoldable pub read_failed_by : Next → Bool
-read_failed_by Read = false
-read_failed_by Stop = false
-read_failed_by ReadFailed = true
+read_failed_by More = false
+read_failed_by Done = false
+read_failed_by Broken = true
 
 abbrev pub reads_on : Turn → Bool
 reads_on r = reads_on_by r.next
@@ -100,7 +100,7 @@ first_turn =
       place = record { rows = None; lines = 0; refusal = None };
       kept = 0;
       end = 0;
-      next = Read;
+      next = More;
     }
 
 unfoldable pub first_state : List ℕ → List ℕ → State
@@ -143,10 +143,10 @@ abbrev pub state_left : Turn → Lent → Lent → State
 state_left r text out = record { turn = r; text = text.exit.now; buffer = out.exit.now }
 
 -- whether all was written that was to be
-unfoldable pub written_by : Result Unit Failure → Bool
+unfoldable pub written_by : Result (Unit {0}) Failure → Bool
 written_by (Ok u) = true
-written_by (Err (failure.Read reason)) = true
-written_by (Err (failure.Write reason)) = false
+written_by (Err (Read reason)) = true
+written_by (Err (Write reason)) = false
 
 abbrev pub all_written : Ended → Bool
 all_written r = written_by r.outcome

@@ -53,9 +53,9 @@ struct Chunk {
 // What comes next: another read, or the end of the run, where the input ended, a line was faulty, or the read failed.
 #[derive(Clone, Copy)]
 enum Next {
-    Read,
-    Stop,
-    Failed,
+    More,
+    Done,
+    Broken,
 }
 
 // What lies between two reads left: where the rewriting is, how many bytes are kept at the text's front and how many are to be written, and what
@@ -198,9 +198,9 @@ fn between_reads(from: Turn, text: &mut [u8], input: Input, out: &mut [u8]) -> T
             let chunk = rewrite_chunk(place, text, len, out);
             let after = chunk.place;
             let next = if after.refusal.is_none() {
-                Next::Read
+                Next::More
             } else {
-                Next::Stop
+                Next::Done
             };
             Turn {
                 place: after,
@@ -215,14 +215,14 @@ fn between_reads(from: Turn, text: &mut [u8], input: Input, out: &mut [u8]) -> T
                 place: after,
                 kept,
                 end: 0,
-                next: Next::Stop,
+                next: Next::Done,
             }
         }
         Input::Failed => Turn {
             place,
             kept,
             end: 0,
-            next: Next::Failed,
+            next: Next::Broken,
         },
     }
 }
@@ -239,7 +239,7 @@ fn first_turn() -> Turn
         },
         kept: 0,
         end: 0,
-        next: Next::Read,
+        next: Next::More,
     }
 }
 
@@ -248,7 +248,7 @@ fn reads_on(turn: Turn) -> bool
     ensures { result ≡ reads_on turn }
 {
     match turn.next {
-        Next::Read => true,
+        Next::More => true,
         _ => false,
     }
 }
@@ -264,11 +264,11 @@ fn next_turn(from: Turn, file: &mut File, text: &mut [u8], out: &mut [u8]) -> Tu
 }
 
 // How a run ended of which all was written: its last read may have failed.
-fn ended(turn: Turn, file: &File) -> Ended
+fn conclude(turn: Turn, file: &File) -> Ended
     ensures { (result.turn ≡ turn) × (all_written result ≡ true) }
 {
     let outcome = match turn.next {
-        Next::Failed => Err(Failure::Read(input::reason(file))),
+        Next::Broken => Err(Failure::Read(input::reason(file))),
         _ => Ok(()),
     };
     Ended { turn, outcome }
@@ -293,7 +293,7 @@ fn run(rt: &HostRuntime, text: &mut [u8], out: &mut [u8]) -> Ended
             };
         }
     }
-    ended(turn, &file)
+    conclude(turn, &file)
 }
 
 // Says which line was faulty, if one was.
