@@ -2,12 +2,12 @@
 // says on standard error which it is, and so it does where something cannot be read or written.
 #![tactic(auto)]
 
-ghost use Rattle.std.specs.Prelude.{true, ◌≡◌, ◌+◌, ◌≤◌, length, take};
+ghost use Rattle.std.specs.Prelude.{true, false, ◌≡◌, ◌+◌, ◌≤◌, eqb, length, take};
 ghost use Rattle.trace.specs.Reading.{said};
 ghost use Rattle.columns.specs.Output.{PrintsInto};
 ghost use Rattle.canonical.specs.Spelling.{answer_spelling};
 ghost use Rattle.tracefmt.specs.Rewriting.{next, writes, end_of, fault_line};
-ghost use Rattle.tracefmt.specs.Turns.{progress_of, Rewrites, Moves, Readable, TurnLeaves, first_turn, reads_on, all_written, Stepped, state_before, state_left, RanIn};
+ghost use Rattle.tracefmt.specs.Turns.{progress_of, Rewrites, Moves, Readable, TurnLeaves, first_turn, reads_on, reads_on_by, read_failed_by, all_written, Stepped, state_before, state_left, RanIn};
 ghost use Rattle.tracefmt.specs.InnerContracts.{CarriedIn};
 
 use columns::LINES;
@@ -83,6 +83,7 @@ struct Ended {
 }
 
 // Behind a line, as it was read.
+#[tactic(auto, using(crate::proofs::OneLine::place_stopped, crate::proofs::OneLine::place_faulty, crate::proofs::OneLine::place_sound))]
 fn next_place(p: Place, answer: Read) -> Place
     ensures { progress_of result ≡ next (progress_of p) (said answer).outcome }
 {
@@ -162,6 +163,7 @@ fn rewrite_chunk(p: Place, text: &mut [u8], len: usize, out: &mut [u8]) -> Chunk
 }
 
 // The end of a trace: if bytes are left of it, they are a last line without byte 10, which is refused.
+#[tactic(auto, using(crate::proofs::OneLine::end_none, crate::proofs::OneLine::end_some), unfolding(crate::specs::Rewriting::end_of, trace::specs::Reading::said, device::specs::Refusal::outcome))]
 fn rewrite_end(p: Place, kept: usize) -> Place
     ensures { progress_of result ≡ end_of (progress_of p) kept }
 {
@@ -176,6 +178,7 @@ fn rewrite_end(p: Place, kept: usize) -> Place
 }
 
 // The line that stopped the rewriting, if one did.
+#[tactic(auto, using(columns::proofs::Output::prints_nothing, crate::proofs::OneLine::faulty), unfolding(crate::specs::Turns::progress_of, crate::specs::Turns::refusal_of, crate::specs::Rewriting::fault_line))]
 fn print_fault(p: Place, out: &mut [u8]) -> usize
     requires { 18 ≤ length out.old }
     ensures { PrintsInto out 0 (fault_line (progress_of p)) result }
@@ -183,6 +186,17 @@ fn print_fault(p: Place, out: &mut [u8]) -> usize
     match p.refusal {
         None => 0,
         Some(refusal) => columns::print_refusal(out, 0, p.lines % LINES + 1, refusal.number()),
+    }
+}
+
+// What comes next behind lines: another read, unless one was faulty.
+#[tactic(auto, using(crate::proofs::OneLine::faulty), unfolding(crate::specs::Turns::progress_of, crate::specs::Turns::refusal_of, crate::specs::Turns::reads_on_by, crate::specs::Turns::read_failed_by))]
+fn next_behind(p: Place) -> Next
+    ensures { (reads_on_by result ≡ eqb (progress_of p).refusal 0) × (read_failed_by result ≡ false) }
+{
+    match p.refusal {
+        None => Next::More,
+        Some(_) => Next::Done,
     }
 }
 
@@ -197,16 +211,11 @@ fn between_reads(from: Turn, text: &mut [u8], input: Input, out: &mut [u8]) -> T
         Input::Bytes(len) => {
             let chunk = rewrite_chunk(place, text, len, out);
             let after = chunk.place;
-            let next = if after.refusal.is_none() {
-                Next::More
-            } else {
-                Next::Done
-            };
             Turn {
                 place: after,
                 kept: chunk.kept,
                 end: chunk.end,
-                next,
+                next: next_behind(after),
             }
         }
         Input::End => {
@@ -228,6 +237,7 @@ fn between_reads(from: Turn, text: &mut [u8], input: Input, out: &mut [u8]) -> T
 }
 
 // Before the first read.
+#[tactic(auto, unfolding(crate::specs::Turns::first_turn))]
 fn first_turn() -> Turn
     ensures { result ≡ first_turn }
 {
@@ -244,6 +254,7 @@ fn first_turn() -> Turn
 }
 
 // Whether there is more to read.
+#[tactic(auto, unfolding(crate::specs::Turns::reads_on_by))]
 fn reads_on(turn: Turn) -> bool
     ensures { result ≡ reads_on turn }
 {
@@ -264,6 +275,7 @@ fn next_turn(from: Turn, file: &mut File, text: &mut [u8], out: &mut [u8]) -> Tu
 }
 
 // How a run ended of which all was written: its last read may have failed.
+#[tactic(auto, unfolding(crate::specs::Turns::written_by))]
 fn conclude(turn: Turn, file: &File) -> Ended
     ensures { (result.turn ≡ turn) × (all_written result ≡ true) }
 {
