@@ -26,7 +26,6 @@ fn length_at(buf: &[u8], at: usize, most: usize) -> usize
 // Puts x at a place.
 fn put_word(buf: &mut [u8], at: usize, x: u32)
     requires { (at ≤ 4) × (8 ≤ length buf.old) }
-    ensures { length buf.new ≡ length buf.old }
 {
     buf[at..at + 4].copy_from_slice(&x.to_le_bytes());
 }
