@@ -1,5 +1,5 @@
 -- One line, or the input's end: where the rewriting is behind it, and what it writes, by the fault that was found.
-use mathlib.Core.Path.{◌≡◌, refl, sym}
+use mathlib.Core.Path.{◌≡◌, refl, sym, ap}
 use mathlib.Core.Bool.{true, false}
 use mathlib.Core.List.{List}
 use Prim.Native.Nat.{ℕ, zero, suc, ◌+◌, ◌%◌, ◌≤◌}
@@ -15,7 +15,7 @@ use Rattle.device.specs.Refusal.{Outcome, refused, number}
 use Rattle.device.proofs.Tests.{number_not_0}
 use Rattle.trace.specs.declared.Record.{Record}
 use Rattle.trace.specs.declared.Read.{Read}
-use Rattle.trace.specs.Reading.{said}
+use Rattle.trace.specs.Reading.{Reading, said}
 use Rattle.canonical.specs.Spelling.{answer_spelling}
 use Rattle.canonical.specs.Writing.{fault}
 use Rattle.spelling.specs.Answers.{standing_of, stood}
@@ -24,6 +24,10 @@ use Rattle.tracefmt.specs.declared.Place.{Place}
 use Rattle.tracefmt.specs.Rewriting.{Progress, next, writes, end_of}
 use Rattle.tracefmt.specs.Turns.{refusal_of, progress_of}
 use Rattle.tracefmt.proofs.Faults.{gone_on, stopped_by, next_faultless, next_faulty}
+
+pub place_read : (answer : Read) (r : Reading) → said answer ≡ r → answer.place ≡ r.place
+unfolding said
+place_read answer r e = ap (λ (read : Reading). read.place) e
 
 pub faulty : (r : Refusal) → eqb (number r) 0 ≡ false
 faulty r = ne_eqb (number r) 0 (number_not_0 r)
