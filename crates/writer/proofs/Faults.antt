@@ -60,17 +60,17 @@ outcomes_behind : (ys : List Read) (k : ℕ) (d : Read) → k < length ys → ou
 unfolding outcomes_of outcome_of
 outcomes_behind ys k d h = rw (add-one, drop-cons ys k d)
 
-pub surveyed_next : {ys : List Read} {k : ℕ} {rows rows' : Maybe ℕ} {bytes bytes' : ℕ} (d : Read) → Surveyed ys k rows bytes → k < length ys
+pub surveyed_next : {ys : List Read} {k : ℕ} {rows rows' : Maybe ℕ} {bytes bytes' more : ℕ} (d : Read) → Surveyed ys k rows bytes → k < length ys
     → 0 ≡ fault (standing_of rows) (said (get_or ys k d)).outcome → rows' ≡ stood rows (said (get_or ys k d)).outcome
-    → bytes' ≡ kept (bytes + width (get_or ys k d)) → Surveyed ys (k + 1) rows' bytes'
+    → more ≡ width (get_or ys k d) → bytes' ≡ kept (bytes + more) → Surveyed ys (k + 1) rows' bytes'
 unfolding spelling
-surveyed_next {ys} {k} {rows} {rows'} {bytes} {bytes'} d s h f b w =
+surveyed_next {ys} {k} {rows} {rows'} {bytes} {bytes'} d s h f b m w =
     let o = (said (get_or ys k d)).outcome in
     let behind = outcomes_of (drop (k + 1) ys) in
     let all : width_behind k ys ≡ length (answer_spelling o) + length (spelling behind) = rw (outcomes_behind ys k d h) (length-append (answer_spelling o) (spelling behind)) in
     record {
       faults = rw (b, standing_stood rows o) (sym (first_behind (standing_of rows) o behind f)) ∙ rw (outcomes_behind ys k d h) at s.faults;
-      sums = omega (arith, w, all, s.sums);
+      sums = omega (arith, m, w, all, s.sums);
     }
 
 -- what the tests of all answers come to: at a faulty one, and behind the last

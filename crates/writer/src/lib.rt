@@ -13,6 +13,7 @@ use device::Refusal;
 use trace::Read;
 
 // The first pass: it tests the answers, and last whether their bytes fit a text of so many. The bytes stop at the highest number, which no text has.
+#[tactic(auto, using(crate::proofs::Faults::surveyed_none, crate::proofs::Faults::surveyed_fault, crate::proofs::Faults::surveyed_all))]
 fn survey(answers: &[Read], room: usize) -> Result<(), Refusal>
     requires { room ≤ 9223372036854775807 }
     ensures { refusal_number result ≡ writing_fault_to most_rows (outcomes_of answers.now) room }
@@ -28,6 +29,7 @@ fn survey(answers: &[Read], room: usize) -> Result<(), Refusal>
 }
 
 // The second pass: it writes the answers; the place behind them.
+#[tactic(auto, using(crate::proofs::Prints::printed_none, crate::proofs::Prints::printed_next))]
 fn print_answers(answers: &[Read], text: &mut [u8]) -> usize
     requires { length (spelling (outcomes_of answers.now)) ≤ length text.old }
     ensures { PrintsInto text 0 (spelling (outcomes_of answers.now)) result }
@@ -40,6 +42,7 @@ fn print_answers(answers: &[Read], text: &mut [u8]) -> usize
 }
 
 // Writes the one spelling of the reader's answers to the front of a lent text; the number of bytes written.
+#[tactic(auto, using(crate::proofs::Faults::fits, crate::proofs::Faults::writing_refused, crate::proofs::Faults::writing_done), unfolding(device::specs::Refusal::outcome))]
 pub fn write(answers: &[Read], text: &mut [u8]) -> Result<usize, Refusal>
     ensures { write_left result text ≡ writing (outcomes_of answers.now) text.old }
 {
