@@ -1,5 +1,4 @@
--- Laws of files, of what a read comes to, of whether there is another, and of runs.
-pub mod Files
+-- Laws of what a read comes to, of whether there is another, and of runs.
 pub mod AtHand
 pub mod Again
 pub mod Runs

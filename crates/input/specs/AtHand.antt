@@ -1,17 +1,18 @@
 -- What a read behind kept bytes comes to, and what it leaves at hand.
-use Rattle.std.specs.Prelude.{ℕ, zero, suc, ◌+◌, ◌≤◌, ◌<◌, min, ◌≡◌, List, [], ◌∷◌, ℤ, pos, negsuc, length, take, drop}
+use Rattle.std.specs.Prelude.{ℕ, zero, suc, ◌+◌, ◌≤◌, ◌<◌, ◌≡◌, List, [], ◌∷◌, length, take, drop, Result, Ok, Err}
 use Rattle.input.specs.declared.Input.{Input}
 use Rattle.input.specs.declared.Input.TheVariants.{Bytes, End, Failed}
+use Rattle.std.specs.declared.io.Error.{Error}
 
 -- so many bytes more than those kept are at hand; none: the input has ended
 unfoldable pub at_hand : ℕ → ℕ → Input
 at_hand kept zero = End
 at_hand kept (suc more) = Bytes (kept + suc more)
 
--- what a read's answer says: below 0 it failed; else so many bytes came, no more than there is room for
-unfoldable pub input_of : ℤ → ℕ → ℕ → Input
-input_of (negsuc k) kept room = Failed
-input_of (pos n) kept room = at_hand kept (min n room)
+-- what a read's answer says: so many bytes came, or it failed
+unfoldable pub input_of : Result ℕ Error → ℕ → Input
+input_of (Ok n) kept = at_hand kept n
+input_of (Err e) kept = Failed
 
 -- the bytes at hand are more than those kept, and no more than a text has
 unfoldable pub Within : Input → ℕ → ℕ → Type 0

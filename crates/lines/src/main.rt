@@ -17,8 +17,8 @@ fn print(word: &[u8], number: u64) {
 }
 
 // Prints what a record says.
-fn print_record(record: Record) {
-    match record {
+fn print_record(says: Record) {
+    match says {
         Record::Set(s) => print(b"settings, rows ", s.rows as u64),
         Record::Remap(t) => print(b"remap, row 0 to ", t.n0 as u64),
         Record::Activate(row, hold) => {
@@ -38,9 +38,9 @@ fn print_record(record: Record) {
 fn told<'a>(answer: Read, rest: &'a [u8]) -> &'a [u8]
     ensures { result.now ≡ rest.now }
 {
-    match answer {
-        Read::Line(record, _) => print_record(record),
-        Read::Refused(_) => print(b"refused ", 11),
+    match answer.outcome {
+        Ok(says) => print_record(says),
+        Err(refusal) => print(b"refused ", refusal.number() as u64),
     }
     print(b"; bytes behind: ", rest.len() as u64);
     io::write_all(STDOUT_FILENO, b"\n");
@@ -61,7 +61,7 @@ fn all_lines(text: &[u8]) -> usize
 {
     let mut left = text;
     let mut count: usize = 0;
-    while left.len() > 0 {
+    while !left.is_empty() {
         let behind = first_line(left);
         left = behind;
         count += 1;

@@ -16,6 +16,7 @@ use device::{Refusal, Settings};
 use trace::{Read, Record, Sixteen};
 
 // The tests of a remap.
+#[tactic(auto, unfolding(device::specs::Refusal::first_failed, device::specs::Refusal::unless))]
 fn test_remap(t: Sixteen) -> Result<(), Refusal>
     ensures { refusal_number result ≡ first_failed (unless (remap_allowed (sixteen_of t)) 14 ∷ []) }
 {
@@ -23,6 +24,7 @@ fn test_remap(t: Sixteen) -> Result<(), Refusal>
 }
 
 // The tests of an activation behind settings with so many rows, if any stand.
+#[tactic(auto, unfolding(device::specs::Refusal::first_failed, device::specs::Refusal::unless, device::specs::Refusal::refuse, canonical::specs::Writing::activation_fault, crate::specs::Answers::standing_of))]
 fn test_activation(rows: Option<u32>, row: u32, hold: u32) -> Result<(), Refusal>
     ensures { refusal_number result ≡ activation_fault (standing_of rows) row hold }
 {
@@ -32,6 +34,7 @@ fn test_activation(rows: Option<u32>, row: u32, hold: u32) -> Result<(), Refusal
 }
 
 // The tests of an event.
+#[tactic(auto, unfolding(device::specs::Refusal::refuse, canonical::specs::Writing::event_fault, crate::specs::Answers::standing_of))]
 fn test_event(rows: Option<u32>) -> Result<(), Refusal>
     ensures { refusal_number result ≡ event_fault (standing_of rows) }
 {
@@ -39,6 +42,7 @@ fn test_event(rows: Option<u32>) -> Result<(), Refusal>
 }
 
 // What an answer earns where it is to be written, behind settings with so many rows, if any stand.
+#[tactic(auto, unfolding(canonical::specs::Writing::fault_to, trace::specs::Reading::said, device::specs::Refusal::outcome))]
 pub fn test(rows: Option<u32>, answer: Read) -> Result<(), Refusal>
     ensures { refusal_number result ≡ fault (standing_of rows) (said answer).outcome }
 {
@@ -55,6 +59,7 @@ pub fn test(rows: Option<u32>, answer: Read) -> Result<(), Refusal>
 }
 
 // The rows of the settings that stand behind an answer, if any do.
+#[tactic(auto, unfolding(crate::specs::Answers::stood, trace::specs::Reading::said, device::specs::Refusal::outcome))]
 pub fn rows_behind(rows: Option<u32>, answer: Read) -> Option<u32>
     ensures { result ≡ stood rows (said answer).outcome }
 {
@@ -72,6 +77,7 @@ fn activation_width(hold: u32) -> usize
 }
 
 // The bytes of an answer's spelling.
+#[tactic(auto, using(canonical::proofs::Spelling::Lengths::length_settings_line, canonical::proofs::Spelling::Lengths::length_remap_line, canonical::proofs::Spelling::Lengths::length_activation_line, canonical::proofs::Spelling::Lengths::length_event_line), unfolding(canonical::specs::Spelling::answer_spelling, canonical::specs::Spelling::record_spelling, trace::specs::Reading::said, device::specs::Refusal::outcome))]
 pub fn width(answer: Read) -> usize
     ensures { result ≡ length (answer_spelling (said answer).outcome) }
 {
@@ -98,6 +104,7 @@ fn print_line(out: &mut [u8], at: usize, letter: u8, numbers: &[u32], count: usi
 }
 
 // The line of settings.
+#[tactic(auto, unfolding(canonical::specs::Spelling::settings_numbers))]
 fn print_settings(out: &mut [u8], at: usize, s: Settings) -> usize
     requires { at + 44 ≤ length out.old }
     ensures { PrintsInto out at (spelled_line letter_S (settings_numbers s)) result }
@@ -143,6 +150,7 @@ fn print_held(out: &mut [u8], at: usize, row: u32, hold: u32) -> usize
 }
 
 // The line of an activation.
+#[tactic(auto, using(canonical::proofs::Spelling::Lengths::length_activation_line), unfolding(canonical::specs::Spelling::activation_spelling))]
 fn print_activation(out: &mut [u8], at: usize, row: u32, hold: u32) -> usize
     requires { at + length (activation_spelling row hold) ≤ length out.old }
     ensures { PrintsInto out at (activation_spelling row hold) result }
@@ -163,6 +171,7 @@ fn print_event(out: &mut [u8], at: usize) -> usize
 }
 
 // The spelling of a record.
+#[tactic(auto, using(columns::proofs::Output::prints_nothing, canonical::proofs::Spelling::Lengths::length_settings_line, canonical::proofs::Spelling::Lengths::length_remap_line, canonical::proofs::Spelling::Lengths::length_event_line), unfolding(canonical::specs::Spelling::record_spelling))]
 fn print_record(out: &mut [u8], at: usize, line: Record) -> usize
     requires { at + length (record_spelling line) ≤ length out.old }
     ensures { PrintsInto out at (record_spelling line) result }
@@ -177,6 +186,7 @@ fn print_record(out: &mut [u8], at: usize, line: Record) -> usize
 }
 
 // The spelling of an answer, at a place; the place behind it.
+#[tactic(auto, using(columns::proofs::Output::prints_nothing), unfolding(canonical::specs::Spelling::answer_spelling, trace::specs::Reading::said, device::specs::Refusal::outcome))]
 pub fn print_answer(out: &mut [u8], at: usize, answer: Read) -> usize
     requires { at + length (answer_spelling (said answer).outcome) ≤ length out.old }
     ensures { PrintsInto out at (answer_spelling (said answer).outcome) result }

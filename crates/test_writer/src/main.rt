@@ -2,64 +2,38 @@
 // which has the layout of both. All numbers are words of four bytes, the lowest first.
 #![tactic(auto)]
 
-ghost use Rattle.std.specs.Prelude.{◌≡◌, ◌≤◌, length, take};
+ghost use Rattle.std.specs.Prelude.{◌≡◌, ◌≤◌, ◌+◌, length, take};
 ghost use Rattle.canonical.specs.Writing.{writing};
 ghost use Rattle.writer.specs.Answers.{outcomes_of, write_left};
 
+use device::Refusal;
 use trace::Read;
-use writer::Written;
 
 // The numbers of standard input and output.
 const STDIN_FILENO: i32 = 0;
 
 const STDOUT_FILENO: i32 = 1;
 
-// The byte at a place, or 0 behind the end.
-fn byte(buf: &[u8], at: usize) -> u32
-    ensures { result ≤ 255 }
-{
-    if at < buf.len() {
-        return buf[at] as u32;
-    }
-    0
-}
-
-// Puts the lowest byte of x at a place, or nothing behind the end.
-fn put_byte(buf: &mut [u8], at: usize, x: u32) {
-    if at < buf.len() {
-        buf[at] = (x % 256) as u8;
-    }
-}
-
 // The length at a place, cut to the most allowed.
 fn length_at(buf: &[u8], at: usize, most: usize) -> usize
-    requires { at ≤ 4 }
+    requires { (at ≤ 4) × (8 ≤ length buf.now) }
     ensures { result ≤ most }
 {
-    let word = byte(buf, at)
-        + 256 * byte(buf, at + 1)
-        + 65536 * byte(buf, at + 2)
-        + 16777216 * byte(buf, at + 3);
-    let n = word as usize;
-    if n < most { n } else { most }
+    let word = u32::from_le_bytes([buf[at], buf[at + 1], buf[at + 2], buf[at + 3]]);
+    (word as usize).min(most)
 }
 
 // Puts x at a place.
 fn put_word(buf: &mut [u8], at: usize, x: u32)
-    requires { at ≤ 4 }
+    requires { (at ≤ 4) × (8 ≤ length buf.old) }
 {
-    put_byte(buf, at, x);
-    put_byte(buf, at + 1, x / 256);
-    put_byte(buf, at + 2, x / 65536);
-    put_byte(buf, at + 3, x / 16777216);
+    buf[at..at + 4].copy_from_slice(&x.to_le_bytes());
 }
 
 // What the lent text holds before the call.
 fn fill(places: &mut [u8]) {
-    let mut i: usize = 0;
-    while i < places.len() {
-        places[i] = (i % 251) as u8;
-        i += 1;
+    for (i, place) in places.iter_mut().enumerate() {
+        *place = (i % 251) as u8;
     }
 }
 
@@ -68,30 +42,31 @@ fn line_count(text: &[u8]) -> usize
     ensures { result ≤ 64 }
 {
     let mut place: usize = 0;
-    let mut count: usize = 0;
-    while count < 64 && place < text.len() {
-        place = trace::place_behind(trace::read_line(text, place));
-        count += 1;
+    for count in 0..64 {
+        if text.len() <= place {
+            return count;
+        }
+        place = trace::read_line(text, place).place;
     }
-    count
+    64
 }
 
 // The reader's first 64 answers on a text; behind the text's end each is a refusal.
 fn answers_of(text: &[u8]) -> [Read; 64] {
-    let mut answers = [Read::Refused(0); 64];
+    let mut answers = [Read {
+        outcome: Err(Refusal::Line),
+        place: 0,
+    }; 64];
     let mut place: usize = 0;
-    let mut k: usize = 0;
-    while k < 64 {
-        let answer = trace::read_line(text, place);
-        answers[k] = answer;
-        place = trace::place_behind(answer);
-        k += 1;
+    for k in 0..64 {
+        answers[k] = trace::read_line(text, place);
+        place = answers[k].place;
     }
     answers
 }
 
 // Writes the first answers to the lent text.
-fn call(answers: [Read; 64], count: usize, text: &mut [u8]) -> Written
+fn call(answers: [Read; 64], count: usize, text: &mut [u8]) -> Result<usize, Refusal>
     requires { count ≤ 64 }
     ensures { write_left result text ≡ writing (outcomes_of (take count answers)) text.old }
 {
@@ -99,21 +74,25 @@ fn call(answers: [Read; 64], count: usize, text: &mut [u8]) -> Written
 }
 
 // The head of an answer: 0 and the bytes written, or 1 and the refusal.
-fn put_head(answer: &mut [u8], r: Written) {
-    match r {
-        Written::Bytes(n) => {
+fn put_head(answer: &mut [u8], written: Result<usize, Refusal>)
+    requires { 8 ≤ length answer.old }
+{
+    match written {
+        Ok(n) => {
             put_word(answer, 0, 0);
             put_word(answer, 4, (n % 4294967296) as u32);
         }
-        Written::Refused(k) => {
+        Err(refusal) => {
             put_word(answer, 0, 1);
-            put_word(answer, 4, k);
+            put_word(answer, 4, refusal.number());
         }
     }
 }
 
 // Makes the call on the parts of the trace and of the places that the request lends.
-fn call_on_parts(request: &[u8], trace: &[u8], places: &mut [u8]) -> Written {
+fn call_on_parts(request: &[u8], trace: &[u8], places: &mut [u8]) -> Result<usize, Refusal>
+    requires { 8 ≤ length request.now }
+{
     let n = length_at(request, 0, trace.len());
     let room = length_at(request, 4, places.len());
     let answers = answers_of(&trace[0..n]);
@@ -126,8 +105,8 @@ fn call_on_parts(request: &[u8], trace: &[u8], places: &mut [u8]) -> Written {
 fn serve(request: &[u8], answer: &mut [u8])
     requires { (2056 ≤ length request.now) × (4104 ≤ length answer.old) }
 {
-    let r = call_on_parts(request, &request[8..2056], &mut answer[8..4104]);
-    put_head(answer, r);
+    let written = call_on_parts(request, &request[8..2056], &mut answer[8..4104]);
+    put_head(answer, written);
 }
 
 // Reads one request and writes its answer; whether there was a whole one.
@@ -142,10 +121,11 @@ fn serve_next() -> bool {
     io::write_all(STDOUT_FILENO, &answer)
 }
 
-// A proved loop has to end, so it counts its turns down from a number that no run uses up.
+// A proved loop has to end, so it counts its turns to a number that no run comes to.
 fn main() {
-    let mut turns = u64::MAX;
-    while turns > 0 && serve_next() {
-        turns -= 1;
+    for _ in 0..u64::MAX {
+        if !serve_next() {
+            break;
+        }
     }
 }

@@ -25,13 +25,15 @@ use Rattle.input.specs.declared.Input.TheVariants.{Bytes, End, Failed}
 use Rattle.input.specs.AtHand.{Within, Came, brought}
 use Rattle.input.proofs.AtHand.{at_hand}
 use Rattle.tracefmt.specs.Rewriting.{Progress, start, passed, rewriting, after, end_of, fault_line, fault_said}
-use Rattle.tracefmt.specs.Turns.{progress_of, Moves, Turned, Held, State, first_turn, first_state, Stepped, Chain, none_yet, one_more, WholeFrom, Turns, goes_on, stops, ends}
+use Rattle.tracefmt.specs.Turns.{refusal_of, progress_of, reads_on, reads_on_by, read_failed, read_failed_by, Moves, Turned, Held, State, first_turn, first_state, Stepped, Chain, none_yet, one_more, WholeFrom, Turns, goes_on, stops, ends}
 use Rattle.tracefmt.specs.Claims.{RewrittenUpToFault, TurnsRewritten, ChainTurns, ChainRewritten, RunRewritten, ChainsExist, RewrittenAgain}
 use Rattle.tracefmt.proofs.Faults.{after_stopped, rewriting_stopped, rewritten_before, passed_fault, passed_count}
 use Rattle.tracefmt.proofs.WholePart.{moves_writes, moves_leaves, moves_unended}
 use Rattle.tracefmt.proofs.Ends.{rewriting_end, after_end}
-use Rattle.tracefmt.proofs.Chains.{chain_few, chain_goes_on, chain_ends, place_at, place_back}
-use Rattle.spelling.specs.Answers.{standing_of, no_settings}
+use Rattle.tracefmt.proofs.Chains.{chain_few, chain_goes_on, chain_ends, place_at, place_back, refusal_at_end}
+use Rattle.spelling.specs.Answers.{standing_of}
+use Rattle.std.specs.Prelude.{None}
+use Rattle.tracefmt.specs.declared.Next.TheVariants.{More, Done}
 
 said_of_fault : (os : List (Outcome Record)) → fault_line (passed start os) ≡ fault_said os
 unfolding fault_line fault_said start
@@ -83,7 +85,7 @@ turns_rewritten text parts out last run =
     (all.0 ∙ lines.0, ap fault_line all.1 ∙ lines.1)
 
 pub chain_turns : ChainTurns
-unfolding ChainTurns first_state first_turn progress_of start standing_of no_settings
+unfolding ChainTurns first_state first_turn progress_of start standing_of refusal_of reads_on_by
 chain_turns text buffer parts out w = chain_ends w.chain (omega arith) refl w.no_more w.none_failed
 
 -- while there is more to read, the input's end could be next, and it writes nothing
@@ -91,22 +93,23 @@ module _ (text buffer : List ℕ) where
   abbrev Written : List (List ℕ) → List ℕ → Type 0
   Written parts out = out ≡ spelling (before_fault none (outcomes (joined parts)))
 
-  written_open : {n : ℕ} {q : State} {parts : List (List ℕ)} {out : List ℕ} → Chain (first_state text buffer) n q parts out → q.turn.more ≡ true → Written parts out
-  unfolding first_state first_turn progress_of start standing_of no_settings TurnsRewritten Turned Within
+  written_open : {n : ℕ} {q : State} {parts : List (List ℕ)} {out : List ℕ} → Chain (first_state text buffer) n q parts out → reads_on q.turn ≡ true → Written parts out
+  unfolding first_state first_turn progress_of start standing_of refusal_of reads_on_by read_failed_by TurnsRewritten Turned Within
   written_open {q = q} {parts = parts} {out = out} chain on =
       let g : Progress = progress_of q.turn.place in
-      let stopped = ends {g = g} {text = q.text} {kept = q.turn.kept} q.text (record { place = place_at (end_of g q.turn.kept); kept = 0; end = 0; more = false; failed = false }) q.text [] (chain_few chain (omega arith)) (record { front = refl; within = tt }) (place_back (end_of g q.turn.kept), refl, refl, refl) in
+      let (r, at_end) = refusal_at_end q.turn.place q.turn.kept in
+      let stopped = ends {g = g} {text = q.text} {kept = q.turn.kept} q.text (record { place = place_at (end_of g q.turn.kept) r; kept = 0; end = 0; next = Done }) q.text [] (chain_few chain (omega arith)) (record { front = refl; within = tt }) (place_back (end_of g q.turn.kept) r at_end, refl, refl, refl) in
       rw (append-nil out, append-nil parts) at (turns_rewritten text _ _ _ (chain_goes_on chain on stopped)).0
 
-  whole_written : {n : ℕ} {last : State} {parts : List (List ℕ)} {out : List ℕ} → Chain (first_state text buffer) n last parts out → last.turn.more ≡ false → last.turn.failed ≡ false → Written parts out
-  unfolding first_state first_turn progress_of start standing_of no_settings TurnsRewritten
+  whole_written : {n : ℕ} {last : State} {parts : List (List ℕ)} {out : List ℕ} → Chain (first_state text buffer) n last parts out → reads_on last.turn ≡ false → read_failed last.turn ≡ false → Written parts out
+  unfolding first_state first_turn progress_of start standing_of refusal_of reads_on_by read_failed_by TurnsRewritten
   whole_written chain stopped whole = (turns_rewritten text _ _ _ (chain_ends chain (omega arith) refl stopped whole)).0
 
-  written_behind : {n : ℕ} {from : State} {parts : List (List ℕ)} {out : List ℕ} (to : State) (input : Input) (read : List ℕ) → Chain (first_state text buffer) n from parts out → from.turn.more ≡ true → Came input from.turn.kept from.text read → Turned (progress_of from.turn.place) read from.turn.kept input to.turn to.text to.buffer → Held to.turn to.text to.buffer → Written (parts ++ brought input from.turn.kept read) (out ++ take to.turn.end to.buffer)
+  written_behind : {n : ℕ} {from : State} {parts : List (List ℕ)} {out : List ℕ} (to : State) (input : Input) (read : List ℕ) → Chain (first_state text buffer) n from parts out → reads_on from.turn ≡ true → Came input from.turn.kept from.text read → Turned (progress_of from.turn.place) read from.turn.kept input to.turn to.text to.buffer → Held to.turn to.text to.buffer → Written (parts ++ brought input from.turn.kept read) (out ++ take to.turn.end to.buffer)
   unfolding first_state first_turn Turned brought
   written_behind to (Bytes len) read chain on came turned held =
       let further = one_more {to = to} chain on (record { input = Bytes len; text = read; came = came; turned = turned; held = held }) in
-      split to.turn.more (λ more. written_open further more) (λ stopped. whole_written further stopped turned.2)
+      split (reads_on to.turn) (λ more. written_open further more) (λ stopped. whole_written further stopped turned.2)
   written_behind to End read chain on came turned held =
       let further = one_more {to = to} chain on (record { input = End; text = read; came = came; turned = turned; held = held }) in
       whole_written further turned.2 turned.3
@@ -114,7 +117,7 @@ module _ (text buffer : List ℕ) where
       rw (turned.1, append-nil out, append-nil parts) (written_open chain on)
 
 pub chain_rewritten : ChainRewritten
-unfolding ChainRewritten first_state first_turn
+unfolding ChainRewritten first_state first_turn reads_on_by
 chain_rewritten text buffer reads last parts out none_yet = written_open text buffer none_yet refl
 chain_rewritten text buffer reads last parts out (one_more chain on s) =
     written_behind text buffer last s.input s.text chain on s.came s.turned s.held
@@ -135,7 +138,7 @@ module _ (text buffer part : List ℕ) (some_bytes : 0 < length part) (lines : w
   abbrev behind_part : State
   behind_part =
       record {
-        turn = record { place = place_at (after start part); kept = 0; end = length (rewriting start part); more = true; failed = false };
+        turn = record { place = place_at (after start part) None; kept = 0; end = length (rewriting start part); next = More };
         text = part;
         buffer = rewriting start part;
       }
@@ -143,12 +146,16 @@ module _ (text buffer part : List ℕ) (some_bytes : 0 < length part) (lines : w
   abbrev behind_end : State
   behind_end =
       record {
-        turn = record { place = place_at (after start part); kept = 0; end = 0; more = false; failed = false };
+        turn = record { place = place_at (after start part) None; kept = 0; end = 0; next = Done };
         text = part;
         buffer = [];
       }
 
-  moves_part : Moves start (take (length part) part) (take (length (rewriting start part)) (rewriting start part)) (progress_of (place_at (after start part))) []
+  clean_behind : refusal_of None ≡ (after start part).refusal
+  unfolding refusal_of start after
+  clean_behind = sym (passed_fault start (outcomes part) refl ∙ sound)
+
+  moves_part : Moves start (take (length part) part) (take (length (rewriting start part)) (rewriting start part)) (progress_of (place_at (after start part) None)) []
   unfolding ended
   moves_part =
       rw (take-length part)
@@ -156,7 +163,7 @@ module _ (text buffer part : List ℕ) (some_bytes : 0 < length part) (lines : w
         taken = length part;
         takes = record {
           lines = rw (take-length part) lines;
-          leaves = place_back (after start part) ∙ ap (after start) (sym (take-length part));
+          leaves = place_back (after start part) None clean_behind ∙ ap (after start) (sym (take-length part));
           all = λ clean. rw (drop-length part);
         };
         writes = take-length (rewriting start part) ∙ ap (rewriting start) (sym (take-length part));
@@ -164,18 +171,18 @@ module _ (text buffer part : List ℕ) (some_bytes : 0 < length part) (lines : w
       })
 
   reads_part : Stepped (first_state text buffer) behind_part
-  unfolding first_state first_turn Turned Within progress_of start standing_of no_settings place_at after
+  unfolding first_state first_turn Turned Within progress_of start standing_of refusal_of reads_on_by read_failed_by place_at after
   reads_part =
       record {
         input = Bytes (length part);
         text = part;
         came = record { front = refl; within = (some_bytes, omega arith) };
-        turned = (moves_part, sym (eq-eqb _ _ (passed_fault start (outcomes part) refl ∙ sound)), refl);
+        turned = (moves_part, refl, refl);
         held = record { few = omega arith; fits = omega arith };
       }
 
   reads_end : Stepped behind_part behind_end
-  unfolding Turned Within end_of
+  unfolding Turned Within end_of reads_on_by read_failed_by
   reads_end =
       record {
         input = End;

@@ -11,7 +11,7 @@ use Rattle.input.specs.Runs.{Ran}
 use Rattle.input.proofs.Again.{more_left, none_left}
 use Rattle.input.proofs.Runs.{Steps, steps_further, ran_written}
 use Rattle.tracefmt.specs.declared.Turn.{Turn}
-use Rattle.tracefmt.specs.Turns.{State, first_turn, Stepped, Chain, one_more, more_in}
+use Rattle.tracefmt.specs.Turns.{State, reads_on, first_turn, Stepped, Chain, one_more, more_in}
 use Rattle.tracefmt.specs.InnerContracts.{Carried}
 
 pub record Going (first : State) (text out : List ℕ) (turn : Turn) (left : ℕ) : Type 0 where
@@ -24,18 +24,21 @@ carried_first text_long out_long =
     record { text_long = text_long; out_long = out_long; kept_few = omega arith; end_few = omega arith }
 
 -- while the test on it holds, reads are left, and a step goes on from there
-module _ {first : State} {text out : List ℕ} {turn : Turn} {left : ℕ} {again : Bool} (going : Going first text out turn left) (tested : again ≡ (turn.more && ltb 0 left)) where
+module _ {first : State} {text out : List ℕ} {turn : Turn} {left : ℕ} {again more : Bool} (going : Going first text out turn left) (is_more : more ≡ reads_on turn) (tested : again ≡ (more && ltb 0 left)) where
+  test_is : again ≡ (reads_on turn && ltb 0 left)
+  test_is = rw is_more at tested
+
   pub some_left : again ≡ true → 1 ≤ left
-  some_left on = omega (arith, (more_left turn.more left tested on).1)
+  some_left on = omega (arith, (more_left (reads_on turn) left test_is on).1)
 
   pub goes_further : {text' out' : List ℕ} {turn' : Turn} → again ≡ true → Carried turn' text' out' → Stepped (record { turn = turn; text = text; buffer = out }) (record { turn = turn'; text = text'; buffer = out' }) → Going first text' out' turn' (left - 1)
   goes_further {out' = out'} {turn' = turn'} on carried step =
       record {
         carried = carried;
         steps = steps_further (brought step.input turn.kept step.text) (take turn'.end out') going.steps (some_left on)
-            (λ n parts out chain. one_more chain (more_left turn.more left tested on).0 step);
+            (λ n parts out chain. one_more chain (more_left (reads_on turn) left test_is on).0 step);
       }
 
   -- and where it does not, the run is over
   pub goes_no_further : again ≡ false → Ran more_in (Chain first) (record { turn = turn; text = text; buffer = out }) true
-  goes_no_further off = ran_written more_in going.steps (none_left turn.more left tested off)
+  goes_no_further off = ran_written more_in going.steps (none_left (reads_on turn) left test_is off)

@@ -1,22 +1,33 @@
 -- The program's turns: what lies between two reads, a read with what lies behind it, and what all turns write.
-use Rattle.std.specs.Prelude.{ℕ, suc, ◌≤◌, ◌≡◌, Bool, true, false, List, [], ◌∷◌, ◌++◌, eqb, length, take, drop}
+use Rattle.std.specs.Prelude.{ℕ, suc, ◌≤◌, ◌≡◌, Bool, true, false, cond, Option as Maybe, Some, None, Result, Ok, Err, List, [], ◌∷◌, ◌++◌, eqb, length, take, drop}
 use Rattle.laws.specs.Lent.{Lent}
 use Rattle.trace.specs.Lines.{ended}
 use Rattle.trace.specs.Texts.{whole, most_kept}
 use Rattle.columns.specs.Output.{Prints}
-use Rattle.spelling.specs.Answers.{standing_of, no_settings}
+use Rattle.device.specs.declared.refusal.Refusal.{Refusal}
+use Rattle.device.specs.Refusal.{number}
+use Rattle.spelling.specs.Answers.{standing_of}
 use Rattle.input.specs.declared.Input.{Input}
 use Rattle.input.specs.declared.Input.TheVariants.{Bytes, End, Failed}
 use Rattle.input.specs.AtHand.{Within, Came, brought}
 use Rattle.input.specs.Runs.{Ran, Whole}
 use Rattle.tracefmt.specs.declared.Place.{Place}
+use Rattle.tracefmt.specs.declared.Next.{Next}
+use Rattle.tracefmt.specs.declared.Next.TheVariants.{More, Done, Broken}
+use Rattle.tracefmt.specs.declared.Failure.{Failure}
+use Rattle.tracefmt.specs.declared.Failure.TheVariants.{Read, Write}
 use Rattle.tracefmt.specs.declared.Turn.{Turn}
 use Rattle.tracefmt.specs.declared.Ended.{Ended}
 use Rattle.tracefmt.specs.Rewriting.{Progress, rewriting, after, end_of}
 
+-- the number of a refusal, 0 where there is none
+unfoldable pub refusal_of : Maybe Refusal → ℕ
+refusal_of (Some r) = number r
+refusal_of None = 0
+
 -- where the rewriting is, as the code holds it
 unfoldable pub progress_of : Place → Progress
-progress_of p = record { standing = standing_of p.standing; count = p.lines; refusal = p.refusal }
+progress_of p = record { standing = standing_of p.rows; count = p.lines; refusal = refusal_of p.refusal }
 
 -- lines at the front of a text are taken, so many bytes: where none was faulty, all that have ended
 pub record Takes (g : Progress) (text : List ℕ) (g' : Progress) (taken : ℕ) : Type 0 where
@@ -36,12 +47,29 @@ pub record Moves (g : Progress) (text written : List ℕ) (g' : Progress) (left 
   pub writes : written ≡ rewriting g (take taken text)
   pub keeps : left ≡ take most_kept (drop taken text)
 
+-- whether there is more to read, and whether the last read failed
+unfoldable pub reads_on_by : Next → Bool
+reads_on_by More = true
+reads_on_by Done = false
+reads_on_by Broken = false
+
+unfoldable pub read_failed_by : Next → Bool
+read_failed_by More = false
+read_failed_by Done = false
+read_failed_by Broken = true
+
+abbrev pub reads_on : Turn → Bool
+reads_on r = reads_on_by r.next
+
+abbrev pub read_failed : Turn → Bool
+read_failed r = read_failed_by r.next
+
 -- what a turn leaves, by what the read before it came to: it goes on while no line was faulty
 unfoldable pub Turned : Progress → List ℕ → ℕ → Input → Turn → List ℕ → List ℕ → Type 0
 Turned g text kept (Bytes len) r text' out =
-    Moves g (take len text) (take r.end out) (progress_of r.place) (take r.kept text') × (r.more ≡ eqb r.place.refusal 0) × (r.failed ≡ false)
-Turned g text kept End r text' out = (progress_of r.place ≡ end_of g kept) × (r.end ≡ 0) × (r.more ≡ false) × (r.failed ≡ false)
-Turned g text kept Failed r text' out = (progress_of r.place ≡ g) × (r.end ≡ 0) × (r.more ≡ false) × (r.failed ≡ true)
+    Moves g (take len text) (take r.end out) (progress_of r.place) (take r.kept text') × (reads_on r ≡ eqb (progress_of r.place).refusal 0) × (read_failed r ≡ false)
+Turned g text kept End r text' out = (progress_of r.place ≡ end_of g kept) × (r.end ≡ 0) × (reads_on r ≡ false) × (read_failed r ≡ false)
+Turned g text kept Failed r text' out = (progress_of r.place ≡ g) × (r.end ≡ 0) × (reads_on r ≡ false) × (read_failed r ≡ true)
 
 -- no more is kept than the text holds, and no more to be written than the buffer
 pub record Held (r : Turn) (text out : List ℕ) : Type 0 where
@@ -69,11 +97,10 @@ pub record State : Type 0 where
 unfoldable pub first_turn : Turn
 first_turn =
     record {
-      place = record { standing = no_settings; lines = 0; refusal = 0 };
+      place = record { rows = None; lines = 0; refusal = None };
       kept = 0;
       end = 0;
-      more = true;
-      failed = false;
+      next = More;
     }
 
 unfoldable pub first_state : List ℕ → List ℕ → State
@@ -91,15 +118,15 @@ pub record Stepped (from to : State) : Type 0 where
 pub data Chain (first : State) : ℕ → State → List (List ℕ) → List ℕ → Type 0 where
   none_yet : Chain first 0 first [] []
   one_more : {n : ℕ} {from to : State} {parts : List (List ℕ)} {out : List ℕ}
-      → Chain first n from parts out → from.turn.more ≡ true → (s : Stepped from to)
+      → Chain first n from parts out → reads_on from.turn ≡ true → (s : Stepped from to)
       → Chain first (suc n) to (parts ++ brought s.input from.turn.kept s.text) (out ++ take to.turn.end to.buffer)
 
--- whether there is more to read, and whether the last read failed
+-- the same of a state
 abbrev pub more_in : State → Bool
-more_in q = q.turn.more
+more_in q = reads_on q.turn
 
 abbrev pub failed_in : State → Bool
-failed_in q = q.turn.failed
+failed_in q = read_failed q.turn
 
 -- a run from the first read on, to such a last state, and all was written or not; and steps that came to a faulty line or to the input's end
 abbrev pub RanFrom : List ℕ → List ℕ → State → Bool → Type 0
@@ -115,20 +142,29 @@ state_before from text out = record { turn = from; text = text.entry.now; buffer
 abbrev pub state_left : Turn → Lent → Lent → State
 state_left r text out = record { turn = r; text = text.exit.now; buffer = out.exit.now }
 
+-- whether all was written that was to be
+unfoldable pub written_by : Result (Unit {0}) Failure → Bool
+written_by (Ok u) = true
+written_by (Err (Read reason)) = true
+written_by (Err (Write reason)) = false
+
+abbrev pub all_written : Ended → Bool
+all_written r = written_by r.outcome
+
 abbrev pub RanIn : Ended → Lent → Lent → Type 0
-RanIn r text out = RanFrom text.entry.now out.entry.now (state_left r.turn text out) r.written
+RanIn r text out = RanFrom text.entry.now out.entry.now (state_left r.turn text out) (all_written r)
 
 -- turns, each on what the one before left: the parts that the reads brought, all that is to be written, and where the rewriting has come to. Of a
 -- read and of what lies behind it only the contracts of `read_from` and `between_reads` are known
 pub data Turns : Progress → List ℕ → ℕ → List (List ℕ) → List ℕ → Progress → Type 0 where
   -- a read brought a part, and the program goes on
   goes_on : {g : Progress} {text : List ℕ} {kept : ℕ} (text₁ : List ℕ) (len : ℕ) (r : Turn) (text₂ buffer : List ℕ) {parts : List (List ℕ)} {out : List ℕ} {last : Progress}
-      → Came (Bytes len) kept text text₁ → Turned g text₁ kept (Bytes len) r text₂ buffer → r.more ≡ true
+      → Came (Bytes len) kept text text₁ → Turned g text₁ kept (Bytes len) r text₂ buffer → reads_on r ≡ true
       → Turns (progress_of r.place) text₂ r.kept parts out last
       → Turns g text kept (drop kept (take len text₁) ∷ parts) (take r.end buffer ++ out) last
   -- a line was faulty, and the program reads no further, whatever is still to come
   stops : {g : Progress} {text : List ℕ} {kept : ℕ} (text₁ : List ℕ) (len : ℕ) (r : Turn) (text₂ buffer : List ℕ) (parts : List (List ℕ))
-      → Came (Bytes len) kept text text₁ → Turned g text₁ kept (Bytes len) r text₂ buffer → r.more ≡ false
+      → Came (Bytes len) kept text text₁ → Turned g text₁ kept (Bytes len) r text₂ buffer → reads_on r ≡ false
       → Turns g text kept (drop kept (take len text₁) ∷ parts) (take r.end buffer) (progress_of r.place)
   -- a read found the input's end
   ends : {g : Progress} {text : List ℕ} {kept : ℕ} (text₁ : List ℕ) (r : Turn) (text₂ buffer : List ℕ)

@@ -2,28 +2,29 @@
 // says on standard error which it is, and so it does where something cannot be read or written.
 #![tactic(auto)]
 
-ghost use Rattle.std.specs.Prelude.{◌≡◌, ◌+◌, ◌≤◌, length, take};
+ghost use Rattle.std.specs.Prelude.{true, false, ◌≡◌, ◌+◌, ◌≤◌, eqb, length, take};
 ghost use Rattle.trace.specs.Reading.{said};
 ghost use Rattle.columns.specs.Output.{PrintsInto};
 ghost use Rattle.canonical.specs.Spelling.{answer_spelling};
 ghost use Rattle.tracefmt.specs.Rewriting.{next, writes, end_of, fault_line};
-ghost use Rattle.tracefmt.specs.Turns.{progress_of, Rewrites, Moves, Readable, TurnLeaves, first_turn, Stepped, state_before, state_left, RanIn};
+ghost use Rattle.tracefmt.specs.Turns.{progress_of, Rewrites, Moves, Readable, TurnLeaves, first_turn, reads_on, reads_on_by, read_failed_by, all_written, Stepped, state_before, state_left, RanIn};
 ghost use Rattle.tracefmt.specs.InnerContracts.{CarriedIn};
 
 use columns::LINES;
+use device::Refusal;
 use input::{File, Input};
-use spelling::Standing;
 use trace::Read;
 
 // The bytes of a read, and of what they write: no line's spelling is longer than the line.
 const TEXT: usize = 65_536;
 
-// Where a rewriting is: what stands, the lines so far, which count modulo 10,000,000,000, and the refusal that stopped it, or 0.
+// Where a rewriting is: N of the settings that stand, if any do; the lines so far, which count modulo 10,000,000,000; and the refusal that stopped
+// it, if one did.
 #[derive(Clone, Copy)]
 struct Place {
-    standing: Standing,
+    rows: Option<u32>,
     lines: u64,
-    refusal: u32,
+    refusal: Option<Refusal>,
 }
 
 // Where the rewriting is behind a line, and the place behind what was written.
@@ -49,46 +50,57 @@ struct Chunk {
     kept: usize,
 }
 
-// What lies between two reads left: where the rewriting is, how many bytes are kept at the text's front and how many are to be written, whether
-// to read again, and whether the read failed.
+// What comes next: another read, or the end of the run, where the input ended, a line was faulty, or the read failed.
+#[derive(Clone, Copy)]
+enum Next {
+    More,
+    Done,
+    Broken,
+}
+
+// What lies between two reads left: where the rewriting is, how many bytes are kept at the text's front and how many are to be written, and what
+// comes next.
 #[derive(Clone, Copy)]
 struct Turn {
     place: Place,
     kept: usize,
     end: usize,
-    more: bool,
-    failed: bool,
+    next: Next,
 }
 
-// How a run ended: what its last step left, whether all that was to be written was, and why not, or why the last read failed.
+// What failed, with the system's number.
+#[derive(Clone, Copy)]
+enum Failure {
+    Read(i32),
+    Write(i32),
+}
+
+// How a run ended: what its last step left, and whether anything failed.
 #[derive(Clone, Copy)]
 struct Ended {
     turn: Turn,
-    written: bool,
-    reason: i32,
+    outcome: Result<(), Failure>,
 }
 
 // Behind a line, as it was read.
+#[tactic(auto, using(crate::proofs::OneLine::place_stopped, crate::proofs::OneLine::place_faulty, crate::proofs::OneLine::place_sound))]
 fn next_place(p: Place, answer: Read) -> Place
     ensures { progress_of result ≡ next (progress_of p) (said answer).outcome }
 {
-    if p.refusal != 0 {
+    if p.refusal.is_some() {
         return p;
     }
-    let standing = p.standing;
-    let refusal = spelling::fault(standing, answer);
-    if refusal != 0 {
-        return Place {
-            standing,
+    match spelling::test(p.rows, answer) {
+        Ok(()) => Place {
+            rows: spelling::rows_behind(p.rows, answer),
+            lines: p.lines % LINES + 1,
+            refusal: None,
+        },
+        Err(refusal) => Place {
+            rows: p.rows,
             lines: p.lines,
-            refusal,
-        };
-    }
-    let behind = spelling::standing_behind(standing, answer);
-    Place {
-        standing: behind,
-        lines: p.lines % LINES + 1,
-        refusal: 0,
+            refusal: Some(refusal),
+        },
     }
 }
 
@@ -98,7 +110,7 @@ fn rewrite_line(p: Place, answer: Read, out: &mut [u8], at: usize) -> Rewritten
     ensures { (progress_of result.place ≡ next (progress_of p) (said answer).outcome) × PrintsInto out at (writes (progress_of p) (said answer).outcome) result.end }
 {
     let place = next_place(p, answer);
-    if place.refusal != 0 {
+    if place.refusal.is_some() {
         return Rewritten { place, end: at };
     }
     let end = spelling::print_answer(out, at, answer);
@@ -113,9 +125,9 @@ fn rewrite_part(p: Place, text: &[u8], out: &mut [u8]) -> Part
     let mut place = p;
     let mut at: usize = 0;
     let mut end: usize = 0;
-    while at < text.len() && place.refusal == 0 {
+    'lines: while at < text.len() && place.refusal.is_none() {
         let answer = trace::read_line(text, at);
-        let next = trace::place_behind(answer);
+        let next = answer.place;
         if text[next - 1] != b'\n' {
             return Part {
                 place,
@@ -151,24 +163,41 @@ fn rewrite_chunk(p: Place, text: &mut [u8], len: usize, out: &mut [u8]) -> Chunk
 }
 
 // The end of a trace: if bytes are left of it, they are a last line without byte 10, which is refused.
+#[tactic(auto, using(crate::proofs::OneLine::end_none, crate::proofs::OneLine::end_some), unfolding(crate::specs::Rewriting::end_of, trace::specs::Reading::said, device::specs::Refusal::outcome))]
 fn rewrite_end(p: Place, kept: usize) -> Place
     ensures { progress_of result ≡ end_of (progress_of p) kept }
 {
     if kept == 0 {
         return p;
     }
-    next_place(p, Read::Refused(0))
+    let unended = Read {
+        outcome: Err(Refusal::Line),
+        place: 0,
+    };
+    next_place(p, unended)
 }
 
 // The line that stopped the rewriting, if one did.
+#[tactic(auto, using(columns::proofs::Output::prints_nothing, crate::proofs::OneLine::faulty), unfolding(crate::specs::Turns::progress_of, crate::specs::Turns::refusal_of, crate::specs::Rewriting::fault_line))]
 fn print_fault(p: Place, out: &mut [u8]) -> usize
     requires { 18 ≤ length out.old }
     ensures { PrintsInto out 0 (fault_line (progress_of p)) result }
 {
-    if p.refusal == 0 {
-        return 0;
+    match p.refusal {
+        None => 0,
+        Some(refusal) => columns::print_refusal(out, 0, p.lines % LINES + 1, refusal.number()),
     }
-    columns::print_refusal(out, 0, p.lines % LINES + 1, p.refusal)
+}
+
+// What comes next behind lines: another read, unless one was faulty.
+#[tactic(auto, using(crate::proofs::OneLine::faulty), unfolding(crate::specs::Turns::progress_of, crate::specs::Turns::refusal_of, crate::specs::Turns::reads_on_by, crate::specs::Turns::read_failed_by))]
+fn next_behind(p: Place) -> Next
+    ensures { (reads_on_by result ≡ eqb (progress_of p).refusal 0) × (read_failed_by result ≡ false) }
+{
+    match p.refusal {
+        None => Next::More,
+        Some(_) => Next::Done,
+    }
 }
 
 // What lies between two reads: what came in is rewritten, up to the last line's end or to a faulty line.
@@ -186,8 +215,7 @@ fn between_reads(from: Turn, text: &mut [u8], input: Input, out: &mut [u8]) -> T
                 place: after,
                 kept: chunk.kept,
                 end: chunk.end,
-                more: after.refusal == 0,
-                failed: false,
+                next: next_behind(after),
             }
         }
         Input::End => {
@@ -196,35 +224,43 @@ fn between_reads(from: Turn, text: &mut [u8], input: Input, out: &mut [u8]) -> T
                 place: after,
                 kept,
                 end: 0,
-                more: false,
-                failed: false,
+                next: Next::Done,
             }
         }
         Input::Failed => Turn {
             place,
             kept,
             end: 0,
-            more: false,
-            failed: true,
+            next: Next::Broken,
         },
     }
 }
 
 // Before the first read.
+#[tactic(auto, unfolding(crate::specs::Turns::first_turn))]
 fn first_turn() -> Turn
     ensures { result ≡ first_turn }
 {
-    let standing = spelling::no_settings();
     Turn {
         place: Place {
-            standing,
+            rows: None,
             lines: 0,
-            refusal: 0,
+            refusal: None,
         },
         kept: 0,
         end: 0,
-        more: true,
-        failed: false,
+        next: Next::More,
+    }
+}
+
+// Whether there is more to read.
+#[tactic(auto, unfolding(crate::specs::Turns::reads_on_by))]
+fn reads_on(turn: Turn) -> bool
+    ensures { result ≡ reads_on turn }
+{
+    match turn.next {
+        Next::More => true,
+        _ => false,
     }
 }
 
@@ -238,6 +274,18 @@ fn next_turn(from: Turn, file: &mut File, text: &mut [u8], out: &mut [u8]) -> Tu
     between_reads(from, text, input, out)
 }
 
+// How a run ended of which all was written: its last read may have failed.
+#[tactic(auto, unfolding(crate::specs::Turns::written_by))]
+fn conclude(turn: Turn, file: &File) -> Ended
+    ensures { (result.turn ≡ turn) × (all_written result ≡ true) }
+{
+    let outcome = match turn.next {
+        Next::Broken => Err(Failure::Read(input::reason(file))),
+        _ => Ok(()),
+    };
+    Ended { turn, outcome }
+}
+
 // Reads, rewrites and writes, until the input ends, a line is faulty, or a read or write fails.
 fn run(rt: &HostRuntime, text: &mut [u8], out: &mut [u8]) -> Ended
     requires { (length text.old ≡ 65536) × (length out.old ≡ 65536) }
@@ -246,23 +294,18 @@ fn run(rt: &HostRuntime, text: &mut [u8], out: &mut [u8]) -> Ended
     let mut file = input::standard_input(rt.stdin());
     let mut turn = first_turn();
     let mut left = u64::MAX;
-    'reads: while input::reads_again(turn.more, left) {
+    'reads: while input::reads_again(reads_on(turn), left) {
         turn = next_turn(turn, &mut file, text, out);
         left -= 1;
         let end = turn.end;
         if let Err(reason) = input::write(rt, &out[..end]) {
             return Ended {
                 turn,
-                written: false,
-                reason,
+                outcome: Err(Failure::Write(reason)),
             };
         }
     }
-    Ended {
-        turn,
-        written: true,
-        reason: input::reason(&file),
-    }
+    conclude(turn, &file)
 }
 
 // Says which line was faulty, if one was.
@@ -277,16 +320,15 @@ fn tell_fault(rt: &HostRuntime, p: Place, out: &mut [u8])
 fn tell(rt: &HostRuntime, ended: Ended, out: &mut [u8])
     requires { 18 ≤ length out.old }
 {
-    if !ended.written {
-        input::tell(rt, b"tracefmt: cannot write the spelling", ended.reason);
-        return;
+    match ended.outcome {
+        Ok(()) => tell_fault(rt, ended.turn.place, out),
+        Err(Failure::Read(reason)) => {
+            input::tell(rt, b"tracefmt: cannot read the trace", reason);
+        }
+        Err(Failure::Write(reason)) => {
+            input::tell(rt, b"tracefmt: cannot write the spelling", reason);
+        }
     }
-    let turn = ended.turn;
-    if turn.failed {
-        input::tell(rt, b"tracefmt: cannot read the trace", ended.reason);
-        return;
-    }
-    tell_fault(rt, turn.place, out);
 }
 
 fn main(rt: HostRuntime) {

@@ -1,5 +1,3 @@
--- Laws of the writer: of its first pass and what it comes to, and of its second pass.
-pub mod FirstPass
-pub mod Surveys
-pub mod Conclusion
+-- Laws of the writer: what its first pass finds, and what its second has written.
+pub mod Faults
 pub mod Prints

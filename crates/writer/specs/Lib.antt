@@ -1,3 +1,2 @@
--- The writer: what its answer says, and what its functions promise each other. All else is the trace's.
+-- The writer: what it is given and what its answer says. All else is the trace's.
 pub mod Answers
-pub mod InnerContracts

@@ -5,8 +5,8 @@ use Rattle.tracefmt.specs.Turns.{progress_of}
 use Rattle.tracefmt.proofs.Lines.{Taken}
 use Rattle.tracefmt.proofs.rewrite_part.Given as goal
 
-abbrev pub invariant-loop-at : goal.invariant-loop-at
-invariant-loop-at l = Taken (progress_of l.initial.place) l.text l.initial.out (progress_of l.place) l.out l.at l.end
+abbrev pub invariant-lines : goal.invariant-lines
+invariant-lines l = Taken (progress_of l.initial.place) l.text l.initial.out (progress_of l.place) l.out l.at l.end
 
-abbrev pub decreases-loop-at : goal.decreases-loop-at
-decreases-loop-at l = length l.text - l.at
+abbrev pub decreases-lines : goal.decreases-lines
+decreases-lines l = length l.text - l.at
