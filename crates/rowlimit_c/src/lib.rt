@@ -10,6 +10,7 @@ use state::Position;
 
 // The figure, or refusal k as -k.
 #[unsafe(no_mangle)]
+#[tactic(auto, using(rowlimit::proofs::Answers::small_row_limit_answer), unfolding(bound::specs::Answers::settings_of, rowlimit::specs::Answers::position_of))]
 pub extern "C" fn row_tracker_row_limit(
     rows: u32,
     blast_diameter: u32,
