@@ -12,6 +12,7 @@ ghost use Rattle.bound.specs.Least.{least_of};
 ghost use Rattle.bound.specs.Answers.{bound_answer, least_answer, signed, Small};
 
 use device::{Refusal, Settings};
+use total::Sizes;
 
 // T': the rows that disturb their victims from one event to the next.
 #[tactic(auto, unfolding(crate::specs::Totals::disturbers))]
@@ -35,8 +36,11 @@ pub fn bound_at(s: Settings, events: u32) -> u64
     requires events_nonzero { (0 < events) × (events ≤ 16384) }
     ensures { result ≡ bound_at s events }
 {
-    let added = added_of(s);
-    let total = total::total_of(s.volume as u64, s.counters as u64, added, events as u64 - 1);
+    let sizes = Sizes {
+        volume: s.volume as u64,
+        counters: s.counters as u64,
+    };
+    let total = sizes.total(added_of(s), events as u64 - 1);
     total + disturbers_of(s)
 }
 

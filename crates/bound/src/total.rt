@@ -4,21 +4,14 @@ ghost use Rattle.std.specs.Int.{div_ceil};
 ghost use Rattle.device.specs.Acceptance.{most_counters};
 ghost use Rattle.bound.specs.Totals.{size, total};
 
-// The size D(j).
-#[tactic(auto, unfolding(crate::specs::Totals::size))]
-fn size_at(volume: u64, counters: u64, j: u64) -> u64
-    requires { (volume ≤ 16) × (counters ≤ most_counters) × (j ≤ 16384) }
-    ensures { result ≡ size volume counters j }
-{
-    (j * volume + 1).min(counters + 1)
-}
-
-// How many of so many steps, the last ones, go from one size to a smaller one: C / V, rounded up.
-fn rising_steps(volume: u64, counters: u64, steps: u64) -> u64
-    requires { (0 < volume) × (volume ≤ 16) × (counters ≤ most_counters) }
-    ensures { result ≡ min steps (div_ceil counters volume) }
-{
-    steps.min(counters.div_ceil(volume))
+// What the sizes of a total's steps are made of: V and C.
+#[derive(Clone, Copy)]
+pub struct Sizes {
+    pub volume: u64,
+    pub counters: u64,
+    ghost volume_positive: { 0 < volume },
+    ghost volume_few: { volume ≤ 16 },
+    ghost counters_few: { counters ≤ most_counters },
 }
 
 // One step of the total: a number is added, and the total replaced by total × below / at, rounded down.
@@ -29,18 +22,36 @@ fn step(t: u64, added: u64, below: u64, at: u64) -> u64
     (t + added) * below / at
 }
 
-// The total of so many steps, from 0.
-pub fn total_of(volume: u64, counters: u64, added: u64, steps: u64) -> u64
-    requires { (0 < volume) × (volume ≤ 16) × (counters ≤ most_counters) × (added ≤ 16704) × (steps ≤ 16383) }
-    ensures { result ≡ total (size volume counters) added steps 0 }
-{
-    let rising = rising_steps(volume, counters, steps);
-    let mut t = (steps - rising) * added;
-    let mut at = size_at(volume, counters, rising);
-    for j in (0..rising).rev() {
-        let below = j * volume + 1;
-        t = step(t, added, below, at);
-        at = below;
+impl Sizes {
+    // The size D(j).
+    #[tactic(auto, unfolding(crate::specs::Totals::size))]
+    fn at(self, j: u64) -> u64
+        requires { j ≤ 16384 }
+        ensures { result ≡ size self.volume self.counters j }
+    {
+        (j * self.volume + 1).min(self.counters + 1)
     }
-    t
+
+    // How many of so many steps, the last ones, go from one size to a smaller one: C / V, rounded up.
+    fn rising(self, steps: u64) -> u64
+        ensures { result ≡ min steps (div_ceil self.counters self.volume) }
+    {
+        steps.min(self.counters.div_ceil(self.volume))
+    }
+
+    // The total of so many steps, from 0.
+    pub fn total(self, added: u64, steps: u64) -> u64
+        requires { (added ≤ 16704) × (steps ≤ 16383) }
+        ensures { result ≡ total (size self.volume self.counters) added steps 0 }
+    {
+        let rising = self.rising(steps);
+        let mut t = (steps - rising) * added;
+        let mut at = self.at(rising);
+        for j in (0..rising).rev() {
+            let below = j * self.volume + 1;
+            t = step(t, added, below, at);
+            at = below;
+        }
+        t
+    }
 }

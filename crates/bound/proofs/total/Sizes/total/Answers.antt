@@ -1,4 +1,4 @@
--- `total::total_of` meets its contract. The invariant: the steps that are left, taken from t, give what all the steps give from 0,
+-- `total::Sizes::total` meets its contract. The invariant: the steps that are left, taken from t, give what all the steps give from 0,
 -- their lower sizes are not cut, and t with what they can add is at most what all of them can.
 use mathlib.Core.Path.{◌≡◌, refl, ◌∙◌, sym}
 use Prim.Native.Nat.{ℕ, zero, suc, ◌+◌, ◌-◌, ◌*◌, ◌/◌, ◌^◌, ◌≤◌, ◌<◌}
@@ -9,8 +9,8 @@ use Rattle.bound.specs.Totals.{size, total}
 use Rattle.bound.proofs.Totals.Size.{size_positive, size_grows, size_rising}
 use Rattle.bound.proofs.Totals.Total.{total_next, step_le}
 use Rattle.bound.proofs.Totals.Flat.{rising, rising_low, flat_first}
-use Rattle.bound.proofs.total.total_of.Invariants.{Left}
-use Rattle.bound.proofs.total.total_of.Goals as goal
+use Rattle.bound.proofs.total.Sizes.total.Invariants.{Left}
+use Rattle.bound.proofs.total.Sizes.total.Goals as goal
 
 -- how far the total gets
 below : {v k a n j t at : ℕ} → Left v k a n j t at → 0 < j → a ≤ 16704 → n ≤ 16383 → t + a < 2 ^ 29
@@ -62,7 +62,7 @@ small_size {j = j} l h = l.low (j - 1) (omega arith)
 pub overflow_mul-t : goal.overflow_mul-t
 overflow_mul-t c =
     let a = c.args in
-    let n : a.steps - c.rising_steps-rising.result ≤ 16383 = omega arith in
+    let n : a.steps - c.rising-rising.result ≤ 16383 = omega arith in
     let few : a.added ≤ 16704 = omega arith in
     omega (arith, mul-le-mul n few)
 
@@ -70,7 +70,7 @@ pub loop-j-init : goal.loop-j-init
 unfolding rising
 loop-j-init c =
     let a = c.args in
-    rw (c.size_at-at.ensures, c.rising_steps-rising.ensures) (begins a.volume a.counters a.added a.steps (omega arith))
+    rw (c.at-at.ensures, c.rising-rising.ensures) (begins a.self.volume a.self.counters a.added a.steps (omega arith))
 
 pub overflow_mul-below : goal.overflow_mul-below
 overflow_mul-below c = omega (arith, small_size c.loop-j.invariant (omega arith))
@@ -86,7 +86,7 @@ step-t-requires c =
     let low = small_size l.invariant (omega arith) in (
       omega arith,
       product small (omega arith),
-      rw l.invariant.size_is (size_positive a.volume a.counters l.j),
+      rw l.invariant.size_is (size_positive a.self.volume a.self.counters l.j),
     )
 
 pub loop-j-preserved : goal.loop-j-preserved
