@@ -126,7 +126,7 @@ fn line(says: Record, place: usize) -> Read
     }
 }
 
-#[tactic(auto, unfolding(crate::specs::Reading::said, device::specs::Refusal::outcome, device::specs::Refusal::number))]
+#[tactic(auto, unfolding(crate::specs::Reading::said, device::specs::Refusal::outcome))]
 fn refused(text: &[u8], at: usize) -> Read
     requires { at ≤ length text.now }
     ensures { said result ≡ record { outcome = refused 11; place = at + extent (drop at text.now) } }
