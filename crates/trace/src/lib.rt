@@ -71,7 +71,7 @@ fn first_end(text: &[u8]) -> Option<usize>
 }
 
 // The place behind the line's end: behind its byte 10, or the text's end.
-#[tactic(auto, using(std::proofs::lemmas::List::take_rest, crate::proofs::Lines::extent_at, crate::proofs::Lines::extent_nowhere))]
+#[tactic(auto, using(crate::proofs::Lines::extents))]
 fn line_end(text: &[u8], place: usize) -> usize
     requires { place ≤ length text.now }
     ensures { result ≡ place + extent (drop place text.now) }
@@ -126,7 +126,7 @@ fn line(says: Record, place: usize) -> Read
     }
 }
 
-#[tactic(auto, unfolding(crate::specs::Reading::said, device::specs::Refusal::outcome, device::specs::Refusal::number))]
+#[tactic(auto, unfolding(crate::specs::Reading::said, device::specs::Refusal::outcome))]
 fn refused(text: &[u8], at: usize) -> Read
     requires { at ≤ length text.now }
     ensures { said result ≡ record { outcome = refused 11; place = at + extent (drop at text.now) } }
@@ -163,7 +163,7 @@ fn as_settings(values: [u32; 7]) -> Settings
 }
 
 // A line of settings, from behind its letter on.
-#[tactic(auto, using(crate::proofs::Reading::OneForm::reading_numbers, crate::proofs::Reading::OneForm::reading_no_numbers), unfolding(columns::specs::Answers::found, crate::specs::Records::settings))]
+#[tactic(auto, using(crate::proofs::Reading::OneForm::by_fields), unfolding(columns::specs::Answers::found, crate::specs::Records::settings))]
 fn read_settings(text: &[u8], at: usize) -> Read
     requires { at ≤ length text.now }
     ensures { said result ≡ reading_by settings (drop at text.now) at }
@@ -179,41 +179,23 @@ impl From<[u32; 16]> for Sixteen {
     fn from(values: [u32; 16]) -> Self
         ensures { result ≡ as_sixteen values }
     {
-        let [
-            n0,
-            n1,
-            n2,
-            n3,
-            n4,
-            n5,
-            n6,
-            n7,
-            n8,
-            n9,
-            n10,
-            n11,
-            n12,
-            n13,
-            n14,
-            n15,
-        ] = values;
         Sixteen {
-            n0,
-            n1,
-            n2,
-            n3,
-            n4,
-            n5,
-            n6,
-            n7,
-            n8,
-            n9,
-            n10,
-            n11,
-            n12,
-            n13,
-            n14,
-            n15,
+            n0: values[0],
+            n1: values[1],
+            n2: values[2],
+            n3: values[3],
+            n4: values[4],
+            n5: values[5],
+            n6: values[6],
+            n7: values[7],
+            n8: values[8],
+            n9: values[9],
+            n10: values[10],
+            n11: values[11],
+            n12: values[12],
+            n13: values[13],
+            n14: values[14],
+            n15: values[15],
         }
     }
 }
@@ -238,7 +220,7 @@ pub fn sixteen_of(t: Sixteen) -> [u32; 16]
 }
 
 // A line of a remap, from behind its letter on.
-#[tactic(auto, using(crate::proofs::Reading::OneForm::reading_numbers, crate::proofs::Reading::OneForm::reading_no_numbers), unfolding(columns::specs::Answers::found, crate::specs::Records::remap))]
+#[tactic(auto, using(crate::proofs::Reading::OneForm::by_fields), unfolding(columns::specs::Answers::found, crate::specs::Records::remap))]
 fn read_remap(text: &[u8], at: usize) -> Read
     requires { at ≤ length text.now }
     ensures { said result ≡ reading_by remap (drop at text.now) at }
@@ -250,7 +232,7 @@ fn read_remap(text: &[u8], at: usize) -> Read
 }
 
 // An activation's line, from behind its letter on.
-#[tactic(auto, using(crate::proofs::InnerContracts::ends_after_within, crate::proofs::Reading::OneForm::activation_read, crate::proofs::Reading::OneForm::activation_without_number, crate::proofs::Reading::OneForm::activation_refused), unfolding(columns::specs::Answers::found))]
+#[tactic(auto, using(crate::proofs::Reading::OneForm::activations), unfolding(columns::specs::Answers::found))]
 fn read_activation(text: &[u8], at: usize) -> Read
     requires { at ≤ length text.now }
     ensures { said result ≡ reading_by activation (drop at text.now) at }
@@ -265,7 +247,7 @@ fn read_activation(text: &[u8], at: usize) -> Read
 }
 
 // The line of an activation held open, from behind its letter on.
-#[tactic(auto, using(crate::proofs::Reading::OneForm::reading_numbers, crate::proofs::Reading::OneForm::reading_no_numbers), unfolding(columns::specs::Answers::found, crate::specs::Records::held_activation, crate::specs::Records::as_activation))]
+#[tactic(auto, using(crate::proofs::Reading::OneForm::by_fields), unfolding(columns::specs::Answers::found, crate::specs::Records::held_activation, crate::specs::Records::as_activation))]
 fn read_held_activation(text: &[u8], at: usize) -> Read
     requires { at ≤ length text.now }
     ensures { said result ≡ reading_by held_activation (drop at text.now) at }
@@ -278,7 +260,7 @@ fn read_held_activation(text: &[u8], at: usize) -> Read
 }
 
 // A refresh event's line, from behind its letter on.
-#[tactic(auto, using(crate::proofs::Reading::OneForm::refresh_read, crate::proofs::Reading::OneForm::refresh_refused))]
+#[tactic(auto, using(crate::proofs::Reading::OneForm::refreshes))]
 fn read_refresh(text: &[u8], at: usize) -> Read
     requires { at ≤ length text.now }
     ensures { said result ≡ reading_by refresh (drop at text.now) at }
@@ -310,7 +292,7 @@ pub fn activation_row(text: &[u8], place: usize) -> Option<u32>
 }
 
 // The line at a place of the text.
-#[tactic(auto, using(crate::proofs::Reading::ByLetter::reading_behind_end, crate::proofs::Reading::ByLetter::reading_blank, crate::proofs::Reading::ByLetter::reading_activation, crate::proofs::Reading::ByLetter::reading_refresh, crate::proofs::Reading::ByLetter::reading_held, crate::proofs::Reading::ByLetter::reading_settings, crate::proofs::Reading::ByLetter::reading_remap), unfolding(crate::specs::Reading::said, device::specs::Refusal::outcome))]
+#[tactic(auto, using(crate::proofs::Reading::ByLetter::letters), unfolding(crate::specs::Reading::said, device::specs::Refusal::outcome))]
 pub fn read_line(text: &[u8], place: usize) -> Read
     ensures { said result ≡ reading text.now place }
 {
@@ -341,6 +323,7 @@ pub fn rest(text: &[u8], place: usize) -> &[u8]
 }
 
 // The line at a place of the text, with the text behind it as a part of the caller's.
+#[tactic(auto, unfolding(crate::specs::Reading::said))]
 pub fn next_line<'a>(text: &'a [u8], place: usize) -> Parsed<'a>
     ensures { (said result.answer ≡ reading text.now place) × HandedOn text.entry (reading text.now place).place result.rest }
 {

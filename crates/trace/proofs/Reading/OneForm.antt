@@ -16,7 +16,7 @@ use Rattle.columns.specs.Numbers.{field, fields}
 use Rattle.trace.specs.Records.{numbered, activation, refresh}
 use Rattle.trace.specs.Lines.{line, ended, extent}
 use Rattle.trace.specs.Reading.{or_refused, reading_by}
-use Rattle.trace.proofs.InnerContracts.{ends_after_lt, ends_after_true, ends_after_rest}
+use Rattle.trace.proofs.InnerContracts.{ends_after_within, ends_after_lt, ends_after_true, ends_after_rest}
 use Rattle.trace.proofs.Lines.{line_append_end, ended_append_end, extent_append_end, line_end_rest}
 use Rattle.trace.proofs.Records.{Form, refresh_form, activation_form, activation_take, numbered_form, numbered_take}
 
@@ -84,6 +84,8 @@ module _ (count : ℕ) (says : List ℕ → Record) (text : List ℕ) (at : ℕ)
       (numbered_take count says text (omega arith) ∙ rw (sym (rw ends at e))))
       (λ elsewhere. reading_by_other_width (numbered_form count says) text at elsewhere)
 
+pub ruleset by_fields = (reading_numbers, reading_no_numbers)
+
 -- a refresh event's line
 pub refresh_read : (text : List ℕ) (at : ℕ) → ends_after 0 text ≡ true → reading_by refresh text at ≡ record { outcome = accepted Refresh; place = at + 1 }
 unfolding refresh
@@ -91,6 +93,8 @@ refresh_read text at h = reading_by_accepted refresh_form text at Refresh h refl
 
 pub refresh_refused : (text : List ℕ) (at : ℕ) → ends_after 0 text ≡ false → reading_by refresh text at ≡ record { outcome = refused 11; place = at + extent text }
 refresh_refused text at h = reading_by_other_width refresh_form text at h
+
+pub ruleset refreshes = (refresh_read, refresh_refused)
 
 -- an activation's line, by its byte 10 and its field
 module _ (text : List ℕ) (at : ℕ) where
@@ -108,3 +112,5 @@ module _ (text : List ℕ) (at : ℕ) where
     pub activation_without_number : none ≡ field at text → reading_by activation (drop at text) at ≡ record { outcome = refused 11; place = at + extent (drop at text) }
     unfolding bind field
     activation_without_number e = reading_by_other_bytes activation_form (drop at text) at (activation_take (drop at text) within ∙ rw (sym e))
+
+pub ruleset activations = (ends_after_within, activation_refused, activation_read, activation_without_number)
