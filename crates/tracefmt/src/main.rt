@@ -12,7 +12,7 @@ ghost use Rattle.tracefmt.specs.InnerContracts.{CarriedIn};
 
 use columns::LINES;
 use device::Refusal;
-use input::{File, Input};
+use input::{Errno, File, Input};
 use trace::Read;
 
 // The bytes of a read, and of what they write: no line's spelling is longer than the line.
@@ -68,11 +68,11 @@ struct Turn {
     next: Next,
 }
 
-// What failed, with the system's number.
+// What failed, and why.
 #[derive(Clone, Copy)]
 enum Failure {
-    Read(i32),
-    Write(i32),
+    Read(Errno),
+    Write(Errno),
 }
 
 // How a run ended: what its last step left, and whether anything failed.
