@@ -10,7 +10,6 @@ use Rattle.laws.proofs.Cases.{split, clash}
 use Rattle.std.specs.Prelude.{Option as Maybe, Some, None}
 use Rattle.device.specs.declared.refusal.Refusal.{Refusal}
 use Rattle.device.specs.declared.refusal.Refusal.TheVariants.{Line}
-use Rattle.device.specs.Refusal.{refused}
 use Rattle.canonical.specs.Writing.{fault_to}
 use Rattle.spelling.specs.Answers.{standing_of}
 use Rattle.input.specs.declared.Input.{Input}
