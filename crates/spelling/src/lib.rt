@@ -1,8 +1,8 @@
 // One of the reader's answers: what it earns where it is to be written, and its spelling.
 #![tactic(auto)]
 
-ghost use Rattle.std.specs.Prelude.{◌≡◌, cond, [], ◌∷◌, eqb, ◌+◌, ◌*◌, ◌≤◌, length, take};
-ghost use Rattle.trace.specs.Bytes.{letter_A, letter_F, letter_H, letter_R, letter_S};
+ghost use Rattle.std.specs.Prelude.{◌≡◌, cond, [], ◌∷◌, eqb, ◌+◌, ◌*◌, ◌≤◌, length};
+ghost use Rattle.trace.specs.Bytes.{letter_S};
 ghost use Rattle.device.specs.Refusal.{unless, first_failed, refusal_number};
 ghost use Rattle.device.specs.Remap.{remap_allowed};
 ghost use Rattle.trace.specs.Records.{sixteen_of};
@@ -93,13 +93,13 @@ pub fn width(answer: Read) -> usize
     }
 }
 
-// A letter, the first numbers of a list and byte 10, at a place; the place behind them.
-fn print_line(out: &mut [u8], at: usize, letter: u8, numbers: &[u32], count: usize) -> usize
-    requires { (count ≤ length numbers.now) × (at + 6 * count + 2 ≤ length out.old) }
-    ensures { PrintsInto out at (spelled_line letter (take count numbers.now)) result }
+// A letter, numbers and byte 10, at a place; the place behind them.
+fn print_line(out: &mut [u8], at: usize, letter: u8, numbers: &[u32]) -> usize
+    requires { at + 6 * length numbers.now + 2 ≤ length out.old }
+    ensures { PrintsInto out at (spelled_line letter numbers.now) result }
 {
     let place = columns::print_byte(out, at, letter);
-    let end = columns::print_numbers(out, place, numbers, count);
+    let end = columns::print_numbers(out, place, numbers, numbers.len());
     columns::print_byte(out, end, b'\n')
 }
 
@@ -118,35 +118,7 @@ fn print_settings(out: &mut [u8], at: usize, s: Settings) -> usize
         s.window,
         s.block,
     ];
-    print_line(out, at, b'S', &numbers, 7)
-}
-
-// The line of a remap.
-fn print_remap(out: &mut [u8], at: usize, t: Sixteen) -> usize
-    requires { at + 98 ≤ length out.old }
-    ensures { PrintsInto out at (spelled_line letter_F (sixteen_of t)) result }
-{
-    let numbers = trace::sixteen_of(t);
-    print_line(out, at, b'F', &numbers, 16)
-}
-
-// The line of an activation of one unit.
-fn print_one_unit(out: &mut [u8], at: usize, row: u32) -> usize
-    requires { at + 8 ≤ length out.old }
-    ensures { PrintsInto out at (spelled_line letter_A (row ∷ [])) result }
-{
-    let place = columns::print_byte(out, at, b'A');
-    let end = columns::print_columns(out, place, 6, row as u64);
-    columns::print_byte(out, end, b'\n')
-}
-
-// The line of an activation held open.
-fn print_held(out: &mut [u8], at: usize, row: u32, hold: u32) -> usize
-    requires { at + 14 ≤ length out.old }
-    ensures { PrintsInto out at (spelled_line letter_H (row ∷ hold ∷ [])) result }
-{
-    let numbers = [row, hold];
-    print_line(out, at, b'H', &numbers, 2)
+    print_line(out, at, b'S', &numbers)
 }
 
 // The line of an activation.
@@ -156,18 +128,9 @@ fn print_activation(out: &mut [u8], at: usize, row: u32, hold: u32) -> usize
     ensures { PrintsInto out at (activation_spelling row hold) result }
 {
     if hold == 1 {
-        return print_one_unit(out, at, row);
+        return print_line(out, at, b'A', &[row]);
     }
-    print_held(out, at, row, hold)
-}
-
-// The line of a refresh event.
-fn print_event(out: &mut [u8], at: usize) -> usize
-    requires { at + 2 ≤ length out.old }
-    ensures { PrintsInto out at (spelled_line letter_R []) result }
-{
-    let end = columns::print_byte(out, at, b'R');
-    columns::print_byte(out, end, b'\n')
+    print_line(out, at, b'H', &[row, hold])
 }
 
 // The spelling of a record.
@@ -178,9 +141,9 @@ fn print_record(out: &mut [u8], at: usize, line: Record) -> usize
 {
     match line {
         Record::Set(s) => print_settings(out, at, s),
-        Record::Remap(t) => print_remap(out, at, t),
+        Record::Remap(t) => print_line(out, at, b'F', &trace::sixteen_of(t)),
         Record::Activate(row, hold) => print_activation(out, at, row, hold),
-        Record::Refresh => print_event(out, at),
+        Record::Refresh => print_line(out, at, b'R', &[]),
         Record::Blank => at,
     }
 }

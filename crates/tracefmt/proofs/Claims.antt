@@ -6,7 +6,7 @@ use mathlib.Core.List.{List, [], ◌∷◌, ◌++◌, append-nil, append_assoc}
 use mathlib.Core.Option.{none}
 use Prim.Native.Nat.{ℕ, ◌<◌}
 use native.Mathlib.Omega.{arith}
-use borrow.Author.Tests.{eqb-true, eq-eqb}
+use borrow.Author.Tests.{eqb-true}
 use lib.Dec.{eqb}
 use lib.ListN.{length, take, drop}
 use lib.Seq.{length-take-le, take-length, drop-length}
@@ -25,7 +25,8 @@ use Rattle.input.specs.declared.Input.TheVariants.{Bytes, End, Failed}
 use Rattle.input.specs.AtHand.{Within, Came, brought}
 use Rattle.input.proofs.AtHand.{at_hand}
 use Rattle.tracefmt.specs.Rewriting.{Progress, start, passed, rewriting, after, end_of, fault_line, fault_said}
-use Rattle.tracefmt.specs.Turns.{refusal_of, progress_of, reads_on, reads_on_by, read_failed, read_failed_by, Moves, Turned, Held, State, first_turn, first_state, Stepped, Chain, none_yet, one_more, WholeFrom, Turns, goes_on, stops, ends}
+use Rattle.tracefmt.specs.Next.{reads_on, has_failed}
+use Rattle.tracefmt.specs.Turns.{refusal_of, progress_of, Moves, Turned, Held, State, first_turn, first_state, Stepped, Chain, none_yet, one_more, WholeFrom, Turns, goes_on, stops, ends}
 use Rattle.tracefmt.specs.Claims.{RewrittenUpToFault, TurnsRewritten, ChainTurns, ChainRewritten, RunRewritten, ChainsExist, RewrittenAgain}
 use Rattle.tracefmt.proofs.Faults.{after_stopped, rewriting_stopped, rewritten_before, passed_fault, passed_count}
 use Rattle.tracefmt.proofs.WholePart.{moves_writes, moves_leaves, moves_unended}
@@ -85,7 +86,7 @@ turns_rewritten text parts out last run =
     (all.0 ∙ lines.0, ap fault_line all.1 ∙ lines.1)
 
 pub chain_turns : ChainTurns
-unfolding ChainTurns first_state first_turn progress_of start standing_of refusal_of reads_on_by
+unfolding ChainTurns first_state first_turn progress_of start standing_of refusal_of
 chain_turns text buffer parts out w = chain_ends w.chain (omega arith) refl w.no_more w.none_failed
 
 -- while there is more to read, the input's end could be next, and it writes nothing
@@ -93,23 +94,23 @@ module _ (text buffer : List ℕ) where
   abbrev Written : List (List ℕ) → List ℕ → Type 0
   Written parts out = out ≡ spelling (before_fault none (outcomes (joined parts)))
 
-  written_open : {n : ℕ} {q : State} {parts : List (List ℕ)} {out : List ℕ} → Chain (first_state text buffer) n q parts out → reads_on q.turn ≡ true → Written parts out
-  unfolding first_state first_turn progress_of start standing_of refusal_of reads_on_by read_failed_by TurnsRewritten Turned Within
+  written_open : {n : ℕ} {q : State} {parts : List (List ℕ)} {out : List ℕ} → Chain (first_state text buffer) n q parts out → reads_on q.turn.next ≡ true → Written parts out
+  unfolding first_state first_turn progress_of start standing_of refusal_of TurnsRewritten Turned Within
   written_open {q = q} {parts = parts} {out = out} chain on =
       let g : Progress = progress_of q.turn.place in
       let (r, at_end) = refusal_at_end q.turn.place q.turn.kept in
       let stopped = ends {g = g} {text = q.text} {kept = q.turn.kept} q.text (record { place = place_at (end_of g q.turn.kept) r; kept = 0; end = 0; next = Done }) q.text [] (chain_few chain (omega arith)) (record { front = refl; within = tt }) (place_back (end_of g q.turn.kept) r at_end, refl, refl, refl) in
       rw (append-nil out, append-nil parts) at (turns_rewritten text _ _ _ (chain_goes_on chain on stopped)).0
 
-  whole_written : {n : ℕ} {last : State} {parts : List (List ℕ)} {out : List ℕ} → Chain (first_state text buffer) n last parts out → reads_on last.turn ≡ false → read_failed last.turn ≡ false → Written parts out
-  unfolding first_state first_turn progress_of start standing_of refusal_of reads_on_by read_failed_by TurnsRewritten
+  whole_written : {n : ℕ} {last : State} {parts : List (List ℕ)} {out : List ℕ} → Chain (first_state text buffer) n last parts out → reads_on last.turn.next ≡ false → has_failed last.turn.next ≡ false → Written parts out
+  unfolding first_state first_turn progress_of start standing_of refusal_of TurnsRewritten
   whole_written chain stopped whole = (turns_rewritten text _ _ _ (chain_ends chain (omega arith) refl stopped whole)).0
 
-  written_behind : {n : ℕ} {from : State} {parts : List (List ℕ)} {out : List ℕ} (to : State) (input : Input) (read : List ℕ) → Chain (first_state text buffer) n from parts out → reads_on from.turn ≡ true → Came input from.turn.kept from.text read → Turned (progress_of from.turn.place) read from.turn.kept input to.turn to.text to.buffer → Held to.turn to.text to.buffer → Written (parts ++ brought input from.turn.kept read) (out ++ take to.turn.end to.buffer)
+  written_behind : {n : ℕ} {from : State} {parts : List (List ℕ)} {out : List ℕ} (to : State) (input : Input) (read : List ℕ) → Chain (first_state text buffer) n from parts out → reads_on from.turn.next ≡ true → Came input from.turn.kept from.text read → Turned (progress_of from.turn.place) read from.turn.kept input to.turn to.text to.buffer → Held to.turn to.text to.buffer → Written (parts ++ brought input from.turn.kept read) (out ++ take to.turn.end to.buffer)
   unfolding first_state first_turn Turned brought
   written_behind to (Bytes len) read chain on came turned held =
       let further = one_more {to = to} chain on (record { input = Bytes len; text = read; came = came; turned = turned; held = held }) in
-      split (reads_on to.turn) (λ more. written_open further more) (λ stopped. whole_written further stopped turned.2)
+      split (reads_on to.turn.next) (λ more. written_open further more) (λ stopped. whole_written further stopped turned.2)
   written_behind to End read chain on came turned held =
       let further = one_more {to = to} chain on (record { input = End; text = read; came = came; turned = turned; held = held }) in
       whole_written further turned.2 turned.3
@@ -117,7 +118,7 @@ module _ (text buffer : List ℕ) where
       rw (turned.1, append-nil out, append-nil parts) (written_open chain on)
 
 pub chain_rewritten : ChainRewritten
-unfolding ChainRewritten first_state first_turn reads_on_by
+unfolding ChainRewritten first_state first_turn
 chain_rewritten text buffer reads last parts out none_yet = written_open text buffer none_yet refl
 chain_rewritten text buffer reads last parts out (one_more chain on s) =
     written_behind text buffer last s.input s.text chain on s.came s.turned s.held
@@ -171,7 +172,7 @@ module _ (text buffer part : List ℕ) (some_bytes : 0 < length part) (lines : w
       })
 
   reads_part : Stepped (first_state text buffer) behind_part
-  unfolding first_state first_turn Turned Within progress_of start standing_of refusal_of reads_on_by read_failed_by place_at after
+  unfolding first_state first_turn Turned Within progress_of start standing_of refusal_of place_at after
   reads_part =
       record {
         input = Bytes (length part);
@@ -182,7 +183,7 @@ module _ (text buffer part : List ℕ) (some_bytes : 0 < length part) (lines : w
       }
 
   reads_end : Stepped behind_part behind_end
-  unfolding Turned Within end_of reads_on_by read_failed_by
+  unfolding Turned Within end_of
   reads_end =
       record {
         input = End;

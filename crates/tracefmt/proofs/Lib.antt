@@ -4,6 +4,7 @@ pub mod OneLine
 pub mod Lines
 pub mod WholePart
 pub mod Ends
+pub mod ReadsOn
 pub mod Runs
 pub mod Chains
 pub mod Claims

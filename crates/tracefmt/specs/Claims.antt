@@ -7,7 +7,8 @@ use Rattle.trace.specs.Texts.{outcomes, joined, whole}
 use Rattle.canonical.specs.Spelling.{spelling}
 use Rattle.canonical.specs.Writing.{first_fault, before_fault}
 use Rattle.tracefmt.specs.Rewriting.{Progress, start, rewritten, passed, fault_line, fault_said}
-use Rattle.tracefmt.specs.Turns.{progress_of, reads_on, read_failed, State, first_state, Chain, RanFrom, WholeFrom, Turns}
+use Rattle.tracefmt.specs.Next.{reads_on, has_failed}
+use Rattle.tracefmt.specs.Turns.{progress_of, State, first_state, Chain, RanFrom, WholeFrom, Turns}
 
 -- what lines write is 'the spelling of the lines before' the first faulty one, and what is said is of that one
 unfoldable pub RewrittenUpToFault : Type 0
@@ -39,7 +40,7 @@ unfoldable pub RunRewritten : Type 0
 RunRewritten =
     (text buffer : List ℕ) (last : State) (written : Bool) (ran : RanFrom text buffer last written) →
     (ran.out ≡ spelling (before_fault none (outcomes (joined ran.parts)))) ×
-    (reads_on last.turn ≡ false → read_failed last.turn ≡ false → fault_line (progress_of last.turn.place) ≡ fault_said (outcomes (joined ran.parts)))
+    (reads_on last.turn.next ≡ false → has_failed last.turn.next ≡ false → fault_line (progress_of last.turn.place) ≡ fault_said (outcomes (joined ran.parts)))
 
 -- there are such chains: of any text of whole lines, none of them faulty, that a read brings whole
 unfoldable pub ChainsExist : Type 0

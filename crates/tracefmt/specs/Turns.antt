@@ -1,5 +1,5 @@
 -- The program's turns: what lies between two reads, a read with what lies behind it, and what all turns write.
-use Rattle.std.specs.Prelude.{ℕ, suc, ◌≤◌, ◌≡◌, Bool, true, false, cond, Option as Maybe, Some, None, Result, Ok, Err, List, [], ◌∷◌, ◌++◌, eqb, length, take, drop}
+use Rattle.std.specs.Prelude.{ℕ, suc, ◌≤◌, ◌≡◌, Bool, true, false, Option as Maybe, Some, None, Result, Ok, Err, is_ok, List, [], ◌∷◌, ◌++◌, eqb, length, take, drop}
 use Rattle.laws.specs.Lent.{Lent}
 use Rattle.trace.specs.Lines.{ended}
 use Rattle.trace.specs.Texts.{whole, most_kept}
@@ -12,12 +12,10 @@ use Rattle.input.specs.declared.Input.TheVariants.{Bytes, End, Failed}
 use Rattle.input.specs.AtHand.{Within, Came, brought}
 use Rattle.input.specs.Runs.{Ran, Whole}
 use Rattle.tracefmt.specs.declared.Place.{Place}
-use Rattle.tracefmt.specs.declared.Next.{Next}
-use Rattle.tracefmt.specs.declared.Next.TheVariants.{More, Done, Broken}
-use Rattle.tracefmt.specs.declared.Failure.{Failure}
-use Rattle.tracefmt.specs.declared.Failure.TheVariants.{Read, Write}
+use Rattle.tracefmt.specs.declared.Next.TheVariants.{More}
 use Rattle.tracefmt.specs.declared.Turn.{Turn}
-use Rattle.tracefmt.specs.declared.Ended.{Ended}
+use Rattle.tracefmt.specs.declared.Unwritten.{Unwritten}
+use Rattle.tracefmt.specs.Next.{reads_on, has_failed}
 use Rattle.tracefmt.specs.Rewriting.{Progress, rewriting, after, end_of}
 
 -- the number of a refusal, 0 where there is none
@@ -47,29 +45,12 @@ pub record Moves (g : Progress) (text written : List ℕ) (g' : Progress) (left 
   pub writes : written ≡ rewriting g (take taken text)
   pub keeps : left ≡ take most_kept (drop taken text)
 
--- whether there is more to read, and whether the last read failed
-unfoldable pub reads_on_by : Next → Bool
-reads_on_by More = true
-reads_on_by Done = false
-reads_on_by Broken = false
-
-unfoldable pub read_failed_by : Next → Bool
-read_failed_by More = false
-read_failed_by Done = false
-read_failed_by Broken = true
-
-abbrev pub reads_on : Turn → Bool
-reads_on r = reads_on_by r.next
-
-abbrev pub read_failed : Turn → Bool
-read_failed r = read_failed_by r.next
-
 -- what a turn leaves, by what the read before it came to: it goes on while no line was faulty
 unfoldable pub Turned : Progress → List ℕ → ℕ → Input → Turn → List ℕ → List ℕ → Type 0
 Turned g text kept (Bytes len) r text' out =
-    Moves g (take len text) (take r.end out) (progress_of r.place) (take r.kept text') × (reads_on r ≡ eqb (progress_of r.place).refusal 0) × (read_failed r ≡ false)
-Turned g text kept End r text' out = (progress_of r.place ≡ end_of g kept) × (r.end ≡ 0) × (reads_on r ≡ false) × (read_failed r ≡ false)
-Turned g text kept Failed r text' out = (progress_of r.place ≡ g) × (r.end ≡ 0) × (reads_on r ≡ false) × (read_failed r ≡ true)
+    Moves g (take len text) (take r.end out) (progress_of r.place) (take r.kept text') × (reads_on r.next ≡ eqb (progress_of r.place).refusal 0) × (has_failed r.next ≡ false)
+Turned g text kept End r text' out = (progress_of r.place ≡ end_of g kept) × (r.end ≡ 0) × (reads_on r.next ≡ false) × (has_failed r.next ≡ false)
+Turned g text kept Failed r text' out = (progress_of r.place ≡ g) × (r.end ≡ 0) × (reads_on r.next ≡ false) × (has_failed r.next ≡ true)
 
 -- no more is kept than the text holds, and no more to be written than the buffer
 pub record Held (r : Turn) (text out : List ℕ) : Type 0 where
@@ -118,15 +99,15 @@ pub record Stepped (from to : State) : Type 0 where
 pub data Chain (first : State) : ℕ → State → List (List ℕ) → List ℕ → Type 0 where
   none_yet : Chain first 0 first [] []
   one_more : {n : ℕ} {from to : State} {parts : List (List ℕ)} {out : List ℕ}
-      → Chain first n from parts out → reads_on from.turn ≡ true → (s : Stepped from to)
+      → Chain first n from parts out → reads_on from.turn.next ≡ true → (s : Stepped from to)
       → Chain first (suc n) to (parts ++ brought s.input from.turn.kept s.text) (out ++ take to.turn.end to.buffer)
 
--- the same of a state
+-- whether there is more to read, and whether the last read failed
 abbrev pub more_in : State → Bool
-more_in q = reads_on q.turn
+more_in q = reads_on q.turn.next
 
 abbrev pub failed_in : State → Bool
-failed_in q = read_failed q.turn
+failed_in q = has_failed q.turn.next
 
 -- a run from the first read on, to such a last state, and all was written or not; and steps that came to a faulty line or to the input's end
 abbrev pub RanFrom : List ℕ → List ℕ → State → Bool → Type 0
@@ -142,29 +123,25 @@ state_before from text out = record { turn = from; text = text.entry.now; buffer
 abbrev pub state_left : Turn → Lent → Lent → State
 state_left r text out = record { turn = r; text = text.exit.now; buffer = out.exit.now }
 
--- whether all was written that was to be
-unfoldable pub written_by : Result (Unit {0}) Failure → Bool
-written_by (Ok u) = true
-written_by (Err (Read reason)) = true
-written_by (Err (Write reason)) = false
+-- what the last step left, whether all was written or not
+abbrev pub last_turn : Result Turn Unwritten → Turn
+last_turn (Ok turn) = turn
+last_turn (Err last) = last.turn
 
-abbrev pub all_written : Ended → Bool
-all_written r = written_by r.outcome
-
-abbrev pub RanIn : Ended → Lent → Lent → Type 0
-RanIn r text out = RanFrom text.entry.now out.entry.now (state_left r.turn text out) (all_written r)
+abbrev pub RanIn : Result Turn Unwritten → Lent → Lent → Type 0
+RanIn r text out = RanFrom text.entry.now out.entry.now (state_left (last_turn r) text out) (is_ok r)
 
 -- turns, each on what the one before left: the parts that the reads brought, all that is to be written, and where the rewriting has come to. Of a
 -- read and of what lies behind it only the contracts of `read_from` and `between_reads` are known
 pub data Turns : Progress → List ℕ → ℕ → List (List ℕ) → List ℕ → Progress → Type 0 where
   -- a read brought a part, and the program goes on
   goes_on : {g : Progress} {text : List ℕ} {kept : ℕ} (text₁ : List ℕ) (len : ℕ) (r : Turn) (text₂ buffer : List ℕ) {parts : List (List ℕ)} {out : List ℕ} {last : Progress}
-      → Came (Bytes len) kept text text₁ → Turned g text₁ kept (Bytes len) r text₂ buffer → reads_on r ≡ true
+      → Came (Bytes len) kept text text₁ → Turned g text₁ kept (Bytes len) r text₂ buffer → reads_on r.next ≡ true
       → Turns (progress_of r.place) text₂ r.kept parts out last
       → Turns g text kept (drop kept (take len text₁) ∷ parts) (take r.end buffer ++ out) last
   -- a line was faulty, and the program reads no further, whatever is still to come
   stops : {g : Progress} {text : List ℕ} {kept : ℕ} (text₁ : List ℕ) (len : ℕ) (r : Turn) (text₂ buffer : List ℕ) (parts : List (List ℕ))
-      → Came (Bytes len) kept text text₁ → Turned g text₁ kept (Bytes len) r text₂ buffer → reads_on r ≡ false
+      → Came (Bytes len) kept text text₁ → Turned g text₁ kept (Bytes len) r text₂ buffer → reads_on r.next ≡ false
       → Turns g text kept (drop kept (take len text₁) ∷ parts) (take r.end buffer) (progress_of r.place)
   -- a read found the input's end
   ends : {g : Progress} {text : List ℕ} {kept : ℕ} (text₁ : List ℕ) (r : Turn) (text₂ buffer : List ℕ)

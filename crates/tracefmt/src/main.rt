@@ -2,17 +2,18 @@
 // says on standard error which it is, and so it does where something cannot be read or written.
 #![tactic(auto)]
 
-ghost use Rattle.std.specs.Prelude.{true, false, ◌≡◌, ◌+◌, ◌≤◌, eqb, length, take};
+ghost use Rattle.std.specs.Prelude.{false, ◌≡◌, ◌+◌, ◌≤◌, eqb, length, take};
 ghost use Rattle.trace.specs.Reading.{said};
 ghost use Rattle.columns.specs.Output.{PrintsInto};
 ghost use Rattle.canonical.specs.Spelling.{answer_spelling};
 ghost use Rattle.tracefmt.specs.Rewriting.{next, writes, end_of, fault_line};
-ghost use Rattle.tracefmt.specs.Turns.{progress_of, Rewrites, Moves, Readable, TurnLeaves, first_turn, reads_on, reads_on_by, read_failed_by, all_written, Stepped, state_before, state_left, RanIn};
+ghost use Rattle.tracefmt.specs.Next.{reads_on, has_failed};
+ghost use Rattle.tracefmt.specs.Turns.{progress_of, Rewrites, Moves, Readable, TurnLeaves, first_turn, Stepped, state_before, state_left, RanIn};
 ghost use Rattle.tracefmt.specs.InnerContracts.{CarriedIn};
 
 use columns::LINES;
 use device::Refusal;
-use input::{File, Input};
+use input::{Errno, File, Input};
 use trace::Read;
 
 // The bytes of a read, and of what they write: no line's spelling is longer than the line.
@@ -51,7 +52,7 @@ struct Chunk {
 }
 
 // What comes next: another read, or the end of the run, where the input ended, a line was faulty, or the read failed.
-#[derive(Clone, Copy)]
+#[derive(Clone, Copy, PartialEq, Eq)]
 enum Next {
     More,
     Done,
@@ -68,18 +69,11 @@ struct Turn {
     next: Next,
 }
 
-// What failed, with the system's number.
+// A run that ended where a write failed: what its last step left, and why.
 #[derive(Clone, Copy)]
-enum Failure {
-    Read(i32),
-    Write(i32),
-}
-
-// How a run ended: what its last step left, and whether anything failed.
-#[derive(Clone, Copy)]
-struct Ended {
+struct Unwritten {
     turn: Turn,
-    outcome: Result<(), Failure>,
+    reason: Errno,
 }
 
 // Behind a line, as it was read.
@@ -190,9 +184,9 @@ fn print_fault(p: Place, out: &mut [u8]) -> usize
 }
 
 // What comes next behind lines: another read, unless one was faulty.
-#[tactic(auto, using(crate::proofs::OneLine::faulty), unfolding(crate::specs::Turns::progress_of, crate::specs::Turns::refusal_of, crate::specs::Turns::reads_on_by, crate::specs::Turns::read_failed_by))]
+#[tactic(auto, using(crate::proofs::OneLine::faulty), unfolding(crate::specs::Turns::progress_of, crate::specs::Turns::refusal_of))]
 fn next_behind(p: Place) -> Next
-    ensures { (reads_on_by result ≡ eqb (progress_of p).refusal 0) × (read_failed_by result ≡ false) }
+    ensures { (reads_on result ≡ eqb (progress_of p).refusal 0) × (has_failed result ≡ false) }
 {
     match p.refusal {
         None => Next::More,
@@ -253,17 +247,6 @@ fn first_turn() -> Turn
     }
 }
 
-// Whether there is more to read.
-#[tactic(auto, unfolding(crate::specs::Turns::reads_on_by))]
-fn reads_on(turn: Turn) -> bool
-    ensures { result ≡ reads_on turn }
-{
-    match turn.next {
-        Next::More => true,
-        _ => false,
-    }
-}
-
 // A read of the trace, and what lies behind it.
 fn next_turn(from: Turn, file: &mut File, text: &mut [u8], out: &mut [u8]) -> Turn
     requires { CarriedIn from text.old out.old }
@@ -274,38 +257,27 @@ fn next_turn(from: Turn, file: &mut File, text: &mut [u8], out: &mut [u8]) -> Tu
     between_reads(from, text, input, out)
 }
 
-// How a run ended of which all was written: its last read may have failed.
-#[tactic(auto, unfolding(crate::specs::Turns::written_by))]
-fn conclude(turn: Turn, file: &File) -> Ended
-    ensures { (result.turn ≡ turn) × (all_written result ≡ true) }
-{
-    let outcome = match turn.next {
-        Next::Broken => Err(Failure::Read(input::reason(file))),
-        _ => Ok(()),
-    };
-    Ended { turn, outcome }
-}
-
-// Reads, rewrites and writes, until the input ends, a line is faulty, or a read or write fails.
-fn run(rt: &HostRuntime, text: &mut [u8], out: &mut [u8]) -> Ended
+// Reads, rewrites and writes, until the input ends, a line is faulty, or a read or write fails; what the last step left.
+fn run(
+    rt: &HostRuntime,
+    file: &mut File,
+    text: &mut [u8],
+    out: &mut [u8],
+) -> Result<Turn, Unwritten>
     requires { (length text.old ≡ 65536) × (length out.old ≡ 65536) }
     ensures { RanIn result text out }
 {
-    let mut file = input::standard_input(rt.stdin());
     let mut turn = first_turn();
-    let mut left = u64::MAX;
-    'reads: while input::reads_again(reads_on(turn), left) {
-        turn = next_turn(turn, &mut file, text, out);
-        left -= 1;
-        let end = turn.end;
-        if let Err(reason) = input::write(rt, &out[..end]) {
-            return Ended {
-                turn,
-                outcome: Err(Failure::Write(reason)),
-            };
+    'reads: for _ in 0..u64::MAX {
+        if turn.next != Next::More {
+            break;
+        }
+        turn = next_turn(turn, file, text, out);
+        if let Err(reason) = input::write(rt, &out[..turn.end]) {
+            return Err(Unwritten { turn, reason });
         }
     }
-    conclude(turn, &file)
+    Ok(turn)
 }
 
 // Says which line was faulty, if one was.
@@ -316,24 +288,22 @@ fn tell_fault(rt: &HostRuntime, p: Place, out: &mut [u8])
     input::say(rt, &out[..end]);
 }
 
-// What went wrong, on standard error: something could not be written or read, or a line was faulty.
-fn tell(rt: &HostRuntime, ended: Ended, out: &mut [u8])
-    requires { 18 ≤ length out.old }
-{
-    match ended.outcome {
-        Ok(()) => tell_fault(rt, ended.turn.place, out),
-        Err(Failure::Read(reason)) => {
-            input::tell(rt, b"tracefmt: cannot read the trace", reason);
-        }
-        Err(Failure::Write(reason)) => {
-            input::tell(rt, b"tracefmt: cannot write the spelling", reason);
-        }
-    }
-}
-
+// Rewrites standard input; what went wrong is said on standard error: something could not be written or read, or a line was faulty.
 fn main(rt: HostRuntime) {
     let mut text = [0u8; TEXT];
     let mut out = [0u8; TEXT];
-    let ended = run(&rt, &mut text, &mut out);
-    tell(&rt, ended, &mut out);
+    let mut file = input::standard_input(rt.stdin());
+    match run(&rt, &mut file, &mut text, &mut out) {
+        Ok(last) if last.next == Next::Broken => {
+            input::tell(
+                &rt,
+                b"tracefmt: cannot read the trace",
+                input::reason(&file),
+            );
+        }
+        Ok(last) => tell_fault(&rt, last.place, &mut out),
+        Err(last) => {
+            input::tell(&rt, b"tracefmt: cannot write the spelling", last.reason);
+        }
+    }
 }

@@ -2,7 +2,7 @@
 use native.Mathlib.Omega.{arith}
 use mathlib.Core.Path.{refl}
 use Rattle.input.specs.AtHand.{Within}
-use Rattle.tracefmt.specs.Turns.{Turned, reads_on_by, read_failed_by}
+use Rattle.tracefmt.specs.Turns.{Turned}
 use Rattle.tracefmt.proofs.between_reads.Goals as goal
 
 pub rewrite_chunk-chunk-requires : goal.rewrite_chunk-chunk-requires
@@ -18,9 +18,9 @@ returns-in-Bytes c =
     rw c.in-Bytes.is ((chunk.ensures.0, c.next_behind.ensures.0, c.next_behind.ensures.1), record { few = chunk.ensures.1; fits = chunk.ensures.2 })
 
 pub returns-in-End : goal.returns-in-End
-unfolding Turned reads_on_by read_failed_by
+unfolding Turned
 returns-in-End c = rw c.in-End.is ((c.rewrite_end-after.ensures, refl, refl, refl), record { few = c.requires.few; fits = omega arith })
 
 pub returns-in-Failed : goal.returns-in-Failed
-unfolding Turned reads_on_by read_failed_by
+unfolding Turned
 returns-in-Failed c = rw c.in-Failed.is ((refl, refl, refl, refl), record { few = c.requires.few; fits = omega arith })

@@ -4,7 +4,4 @@ use Rattle.tracefmt.proofs.Runs.{Going}
 use Rattle.tracefmt.proofs.run.Given as goal
 
 abbrev pub invariant-reads : goal.invariant-reads
-invariant-reads l = Going (first_state l.initial.text l.initial.out) l.text l.out l.turn l.left
-
-abbrev pub decreases-reads : goal.decreases-reads
-decreases-reads l = l.left
+invariant-reads l = Going (first_state l.initial.text l.initial.out) l.text l.out l.turn l.counter
