@@ -4,11 +4,11 @@
 
 mod estimates;
 
-ghost use Rattle.std.specs.Prelude.{◌≡◌, ◌≤◌, length};
-ghost use Rattle.device.specs.Refusal.{first_failed, refusal_number, outcome};
+ghost use Rattle.std.specs.Prelude.{◌≡◌, ◌≤◌, ◌&&◌, not, length};
+ghost use Rattle.device.specs.Refusal.{refuse, first_failed, refusal_number, outcome};
 ghost use Rattle.state.specs.State.{lent};
 ghost use Rattle.agreement.specs.Calls.{same_tracked, agreement_tests, estimates_tests, agreement_of, estimates_of};
-ghost use Rattle.agreement.specs.InnerContracts.{both_tables_tests, memory};
+ghost use Rattle.agreement.specs.InnerContracts.{both_tables_tests, memory, valid_memory};
 
 use device::{Refusal, Settings};
 use state::Position;
@@ -33,6 +33,18 @@ fn test_tables(s: Settings, m: Memory, s2: Settings, m2: Memory) -> Result<(), R
     device::test(state::tables_long(s2, m2.rows, m2.counts), Refusal::Tables)
 }
 
+// The tests of both states.
+#[tactic(auto, unfolding(device::specs::Refusal::refuse, state::specs::State::given))]
+fn test_states(s: Settings, m: Memory, s2: Settings, m2: Memory) -> Result<(), Refusal>
+    ensures { refusal_number result ≡ refuse (not (valid_memory s m.entry && valid_memory s2 m2.entry)) 21 0 }
+{
+    device::test(state::valid_memory(s, m.rows, m.counts, m.position), Refusal::State)?;
+    device::test(
+        state::valid_memory(s2, m2.rows, m2.counts, m2.position),
+        Refusal::State,
+    )
+}
+
 // The tests of `agree`.
 #[tactic(auto, using(crate::proofs::Calls::Tests::agreement_tested, crate::proofs::Calls::Tests::tables_passed, device::proofs::Tests::or_later_first, device::proofs::Tests::number_not_0), unfolding(device::specs::Refusal::refuse, device::proofs::Tests::or_later, state::specs::State::given))]
 fn test_agreement(
@@ -48,11 +60,7 @@ fn test_agreement(
     test_tables(s, m, s2, m2)?;
     device::test(device::remap_allowed(remap), Refusal::Remap)?;
     device::test(device::remap_allowed(remap2), Refusal::Remap)?;
-    device::test(state::valid_memory(s, m.rows, m.counts, m.position), Refusal::State)?;
-    device::test(
-        state::valid_memory(s2, m2.rows, m2.counts, m2.position),
-        Refusal::State,
-    )
+    test_states(s, m, s2, m2)
 }
 
 // The tests of `estimates_agree`.
@@ -61,11 +69,7 @@ fn test_estimates(s: Settings, m: Memory, s2: Settings, m2: Memory) -> Result<()
     ensures { refusal_number result ≡ first_failed (estimates_tests s (memory m.entry) s2 (memory m2.entry)) }
 {
     test_tables(s, m, s2, m2)?;
-    device::test(state::valid_memory(s, m.rows, m.counts, m.position), Refusal::State)?;
-    device::test(
-        state::valid_memory(s2, m2.rows, m2.counts, m2.position),
-        Refusal::State,
-    )
+    test_states(s, m, s2, m2)
 }
 
 // Whether the tracked rows are the same, and their counts.
