@@ -14,12 +14,31 @@ use device::{Refusal, Settings};
 use state::Position;
 use summary::Tally;
 
+use estimates::Tracked;
+
 // The memory that a tracker is lent.
 #[derive(Clone, Copy)]
 struct Memory<'a> {
     rows: &'a [u32],
     counts: &'a [u32],
     position: Position,
+}
+
+impl<'a> Memory<'a> {
+    // Its summary.
+    fn tracked(self) -> Tracked<'a>
+        requires { (self.position.tracked ≤ length self.rows.now) × (self.position.tracked ≤ length self.counts.now) }
+        ensures { (result.rows ≡ self.entry.rows) × (result.counts ≡ self.entry.counts) × (result.tally.tracked ≡ self.entry.position.tracked) × (result.tally.spillover ≡ self.entry.position.spillover) }
+    {
+        Tracked {
+            rows: self.rows,
+            counts: self.counts,
+            tally: Tally {
+                tracked: self.position.tracked as usize,
+                spillover: self.position.spillover,
+            },
+        }
+    }
 }
 
 // The tests of both settings and of the lent tables.
@@ -115,7 +134,7 @@ pub fn agree(
 }
 
 // Whether two summaries give every row the same estimate, in banks of as many rows.
-#[tactic(auto, using(crate::proofs::Calls::Outcomes::estimates_refused, crate::proofs::Calls::Outcomes::estimates_differ, crate::proofs::Calls::Outcomes::estimates_alike, crate::proofs::Calls::Tests::estimates_tracks), unfolding(device::specs::Refusal::outcome, state::specs::State::summary_of, state::specs::State::given))]
+#[tactic(auto, using(crate::proofs::Calls::Outcomes::estimates_refused, crate::proofs::Calls::Outcomes::estimates_differ, crate::proofs::Calls::Outcomes::estimates_alike, crate::proofs::Calls::Tests::estimates_in_bounds, crate::proofs::Calls::Tests::estimates_tracks), unfolding(device::specs::Refusal::outcome, state::specs::State::summary_of, state::specs::State::given))]
 pub fn estimates_agree(
     s: Settings,
     rows: &[u32],
@@ -142,13 +161,5 @@ pub fn estimates_agree(
     if s.rows != s2.rows {
         return Ok(false);
     }
-    let t = Tally {
-        tracked: p.tracked as usize,
-        spillover: p.spillover,
-    };
-    let t2 = Tally {
-        tracked: p2.tracked as usize,
-        spillover: p2.spillover,
-    };
-    Ok(estimates::same_estimates(rows, counts, t, rows2, counts2, t2, s.rows))
+    Ok(estimates::same_estimates(m.tracked(), m2.tracked(), s.rows))
 }
