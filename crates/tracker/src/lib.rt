@@ -2,8 +2,8 @@
 // Every call refuses what document 01 refuses, in its order, and then leaves everything as it came.
 #![tactic(auto)]
 
-mod event;
-mod victims;
+pub mod event;
+pub mod victims;
 
 ghost use Rattle.std.specs.Prelude.{◌≡◌, ◌≤◌};
 ghost use Rattle.device.specs.Refusal.{first_failed, refusal_number};
@@ -14,7 +14,7 @@ ghost use Rattle.tracker.specs.Answers.{set_up_left, activation_left, refresh_le
 
 use device::{Refusal, Settings};
 pub use state::Position;
-use summary::Tally;
+use summary::{Table, Tally};
 
 // A call that was refused: the refusal, and the position as it came.
 #[derive(Clone, Copy)]
@@ -119,17 +119,21 @@ fn activate_accepted(
     requires { first_failed (activation_tests s remap (lent rows.old counts.old p) row hold) ≡ 0 }
     ensures { lent rows.new counts.new result ≡ (activation_on s remap (lent rows.old counts.old p) row hold).state }
 {
-    let t = Tally {
-        tracked: p.tracked as usize,
-        spillover: p.spillover,
-    };
     let physical = device::physical_row(remap, row);
-    let after = victims::activate_units(s, rows, counts, t, physical, hold);
+    let mut t = Table {
+        rows,
+        counts,
+        tally: Tally {
+            tracked: p.tracked as usize,
+            spillover: p.spillover,
+        },
+    };
+    victims::activate(s, &mut t, physical, hold);
     Position {
         events: p.events,
         activations: p.activations + hold,
-        tracked: after.tracked as u32,
-        spillover: after.spillover,
+        tracked: t.tally.tracked as u32,
+        spillover: t.tally.spillover,
     }
 }
 
@@ -174,19 +178,22 @@ fn refresh_accepted(
     requires { first_failed (refresh_tests s (lent rows.old counts.old p) picks.old) ≡ 0 }
     ensures { event_left result rows counts picks ≡ refresh_on s (lent rows.old counts.old p) picks.old }
 {
-    let t = Tally {
-        tracked: p.tracked as usize,
-        spillover: p.spillover,
+    let mut t = Table {
+        rows,
+        counts,
+        tally: Tally {
+            tracked: p.tracked as usize,
+            spillover: p.spillover,
+        },
     };
-    let picked = event::event_tables(s, rows, counts, t, p.events, picks);
-    let after = picked.tally;
+    let count = event::refresh(s, &mut t, p.events, picks);
     Refreshed {
-        count: picked.count as u32,
+        count: count as u32,
         position: Position {
             events: next_event(s, p.events),
             activations: 0,
-            tracked: after.tracked as u32,
-            spillover: after.spillover,
+            tracked: t.tally.tracked as u32,
+            spillover: t.tally.spillover,
         },
     }
 }
