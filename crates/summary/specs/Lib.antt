@@ -4,4 +4,5 @@ pub mod Steps
 pub mod Rules
 pub mod Tables
 pub mod InnerContracts
+pub mod Ledger
 pub mod Claims

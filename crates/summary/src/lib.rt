@@ -2,6 +2,8 @@
 // An internal layer: its callers keep the tables as `Held` says; the tracker's calls refuse any other state.
 #![tactic(auto)]
 
+pub mod ledger;
+
 ghost use Rattle.std.specs.Prelude.{◌≡◌, false, ◌∷◌, [], ◌-◌, ◌≤◌, ◌<◌, length, take};
 ghost use Rattle.device.specs.Victims.{rows_between};
 ghost use Rattle.tables.specs.InnerContracts.{Rising, equal_place, taken_at};

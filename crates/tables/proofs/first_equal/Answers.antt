@@ -1,42 +1,17 @@
--- `tables::first_equal` meets its contract. The invariant: i, and what the places from i on give, is what all the places give.
-use mathlib.Core.Path.{◌≡◌}
-use mathlib.Core.List.{List, []}
-use Prim.Native.Nat.{ℕ, ◌+◌, ◌≤◌, ◌<◌}
+-- `tables::first_equal` meets its contract: the places before the first that holds x hold other numbers.
+use Rattle.std.proofs.Common.{rules, tests, ◌≡◌, take, refl}
 use native.Mathlib.Omega.{arith}
-use lib.ListN.{length, get_or, take, drop, drop_of_length-le}
-use lib.Seq.{get_or-take, length-take-le}
+use lib.Seq.{length-take-le}
+use Rattle.std.proofs.lemmas.Iterator.{IsFirst-from_position, YieldsList-from_slice, index_from_first}
 use Rattle.tables.specs.InnerContracts.{equal_place}
-use Rattle.tables.proofs.Searches.{equal_place_here, equal_place_next}
-use Rattle.tables.proofs.first_equal.Invariants.{Left}
+use Rattle.tables.proofs.Searches.{equal_place_hit, equal_place_miss}
 use Rattle.tables.proofs.first_equal.Goals as goal
 
-found : {t : List ℕ} {used x i : ℕ} → Left t used x i → used ≤ length t → i < used → get_or t i 0 ≡ x → i ≡ equal_place x (take used t)
-found {t} {used} {x} {i} l fits h e =
-    let all = length-take-le used t fits in
-    let here : get_or (take used t) i 0 ≡ x = rw (get_or-take used t i 0 h) e in
-    omega (arith, l.same, equal_place_here x (take used t) i (omega arith) here)
-
-again : {t : List ℕ} {used x i : ℕ} → Left t used x i → used ≤ length t → i < used → (get_or t i 0 ≡ x → ⊥) → Left t used x (i + 1)
-again {t} {used} {x} {i} l fits h e =
-    let all = length-take-le used t fits in
-    let first_from_next : get_or (take used t) i 0 ≡ x → ⊥ = rw (get_or-take used t i 0 h) e in
-    record { same = omega (arith, l.same, equal_place_next x (take used t) i (omega arith) first_from_next); most = omega arith }
-
-done : {t : List ℕ} {used x i : ℕ} → Left t used x i → used ≤ length t → used ≤ i → i ≡ equal_place x (take used t)
-unfolding equal_place
-done {t} {used} {x} {i} l fits h =
-    let all = length-take-le used t fits in
-    let gone : drop i (take used t) ≡ [] = drop_of_length-le (take used t) {i = i} (omega arith) in
-    omega (arith, rw gone at l.same)
-
-pub loop-i-init : goal.loop-i-init
-loop-i-init c = record { same = omega arith; most = omega arith }
-
-pub returns-then-t-i : goal.returns-then-t-i
-returns-then-t-i c = found c.loop-i.invariant (omega arith) (omega arith) (omega arith)
-
-pub loop-i-preserved : goal.loop-i-preserved
-loop-i-preserved c = again c.loop-i.invariant (omega arith) (omega arith) (λ e. omega arith)
-
 pub returns : goal.returns
-returns c = done c.loop-i.invariant (omega arith) (omega arith)
+unfolding equal_place
+returns c =
+    let x = c.args.x in
+    let xs = take c.args.used c.args.t.now in
+    let first = IsFirst-from_position _ _ c.position.result (λ y. y ≡ x) (λ y. y ≡ x → ⊥) c.position.ensures.ran (YieldsList-from_slice xs c.iter.ensures.rest) (λ y q k. search (rules, tests)) (λ y q k. search (rules, tests)) in
+    let place = index_from_first (equal_place x) (λ y. y ≡ x) (λ y. y ≡ x → ⊥) refl (equal_place_hit x) (equal_place_miss x) xs c.position.result first in
+    omega (arith, c.unwrap_or.ensures, rw (length-take-le c.args.used c.args.t.now c.requires) at place)
