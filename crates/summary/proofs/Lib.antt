@@ -5,3 +5,5 @@ pub mod Rules
 pub mod Tables
 pub mod InnerContracts
 pub mod Claims
+pub mod Turned
+pub mod Kept

@@ -33,15 +33,6 @@ summary rows counts t = read rows counts t.tracked t.spillover
 abbrev pub Tracks : List ℕ → List ℕ → Tally → Type 0
 Tracks rows counts t = Held rows counts t.tracked t.spillover
 
--- the places of a table that was lent
-abbrev pub places : Lent → ℕ
-places rows = length rows.entry.now
-
--- what a function makes of the summary that it was lent, in as many places
-abbrev pub Turns : Lent → Lent → Tally → (Summary → Summary) → Tally → Type 0
-Turns rows counts t step t' =
-    Left rows.entry.now (step (summary rows.entry.now counts.entry.now t)) rows.exit.now counts.exit.now t'.tracked t'.spillover
-
 -- the picked rows at the front of a list, whose other places keep what they had, and their number
 pub record PickedFrom (volume : ℕ) (sum : Summary) (list₀ list : List ℕ) (count : ℕ) : Type 0 where
   pub named : list ≡ picks volume sum.entries ++ drop (length (picks volume sum.entries)) list₀

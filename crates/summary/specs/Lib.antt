@@ -4,5 +4,7 @@ pub mod Steps
 pub mod Rules
 pub mod Tables
 pub mod InnerContracts
+pub mod Facts
 pub mod Ledger
+pub mod Kept
 pub mod Claims

@@ -3,7 +3,7 @@ ghost use Rattle.std.specs.Prelude.{◌∷◌, [], ◌++◌, ◌+◌, ◌-◌, �
 ghost use Rattle.device.specs.Victims.{rows_between};
 ghost use Rattle.summary.specs.Entries.{picks};
 ghost use Rattle.summary.specs.Steps.{Summary, empty, disturb, disturb_each, drop_rows};
-ghost use Rattle.summary.specs.Rules.{RoomFor};
+ghost use Rattle.summary.specs.Rules.{Ordered, RoomFor};
 ghost use Rattle.summary.specs.InnerContracts.{Names, picked_out};
 ghost use Rattle.summary.specs.Ledger.{Turned, named};
 
@@ -89,4 +89,6 @@ pub trait Ledger {
     ghost same_reflexive: { (a : Self) → same a a };
 
     ghost same_transitive: { (a b c : Self) → same a b → same b c → same a c };
+
+    ghost ordered: { (a : Self) → kept a → Ordered (bound a) 0 (summary a).entries };
 }

@@ -1,16 +1,17 @@
 // The Misra-Gries summary of disturbed rows, in two lent tables: look up, drop, enter, disturb, take out the highest.
-// An internal layer: its callers keep the tables as `Held` says; the tracker's calls refuse any other state.
+// An internal layer: its callers keep the tables as `Tracks` says; the tracker's calls refuse any other state.
 #![tactic(auto)]
 
 pub mod ledger;
 
-ghost use Rattle.std.specs.Prelude.{◌≡◌, false, ◌∷◌, [], ◌-◌, ◌≤◌, ◌<◌, length, take};
-ghost use Rattle.device.specs.Victims.{rows_between};
-ghost use Rattle.tables.specs.InnerContracts.{Rising, equal_place, taken_at};
-ghost use Rattle.summary.specs.Entries.{has, picks};
-ghost use Rattle.summary.specs.Steps.{disturb, disturb_each, drop_rows, enter, in_rows};
-ghost use Rattle.summary.specs.Rules.{RoomFor};
-ghost use Rattle.summary.specs.InnerContracts.{summary, places, Tracks, Turns, Names, picked_out};
+ghost use Rattle.std.specs.Prelude.{◌≡◌, false, ◌∷◌, [], ◌-◌, ◌≤◌, ◌<◌, length, take, get_or, replicate};
+ghost use Rattle.tables.specs.InnerContracts.{Rising, equal_place, put_in, taken_at};
+ghost use Rattle.summary.specs.Entries.{has};
+ghost use Rattle.summary.specs.Steps.{disturb, drop_rows, enter, in_rows};
+ghost use Rattle.summary.specs.InnerContracts.{Tracks};
+ghost use Rattle.summary.specs.Facts.{holds_prop};
+
+use crate::ledger::Ledger;
 
 // The number of tracked rows and the spillover, which go with the tables.
 #[derive(Clone, Copy)]
@@ -19,18 +20,13 @@ pub struct Tally {
     pub spillover: u32,
 }
 
-// A row that was taken out, and the tally then.
-#[derive(Clone, Copy)]
-pub struct Taken {
-    pub row: u32,
+// Two lent tables that hold a summary, with its tally.
+#[derive(Drop)]
+pub struct Table<'a> {
+    pub rows: &'a mut [u32],
+    pub counts: &'a mut [u32],
     pub tally: Tally,
-}
-
-// How many rows were picked, and the tally then.
-#[derive(Clone, Copy)]
-pub struct Picked {
-    pub count: usize,
-    pub tally: Tally,
+    ghost tracks: { Tracks rows.now counts.now tally } by { holds_prop _ _ _ _ _ _ _ },
 }
 
 // The place of a row among the tracked ones, or their number.
@@ -47,158 +43,167 @@ fn lookup(rows: &[u32], tracked: usize, row: u32) -> usize
 }
 
 // An entry is taken out of both tables.
-fn remove_entry(rows: &mut [u32], counts: &mut [u32], t: Tally, at: usize) -> Tally
-    requires { (at < t.tracked) × (t.tracked ≤ length rows.old) × (t.tracked ≤ length counts.old) }
-    ensures { (rows.new ≡ taken_at rows.old t.tracked at) ×
-        (counts.new ≡ taken_at counts.old t.tracked at) ×
-        (result.tracked ≡ t.tracked - 1) ×
-        (result.spillover ≡ t.spillover) }
+fn remove_entry(rows: &mut [u32], counts: &mut [u32], tracked: usize, at: usize)
+    requires { (at < tracked) × (tracked ≤ length rows.old) × (tracked ≤ length counts.old) }
+    ensures { (rows.new ≡ taken_at rows.old tracked at) × (counts.new ≡ taken_at counts.old tracked at) }
 {
-    let k = t.tracked;
-    tables::remove_at(rows, k, at);
-    tables::remove_at(counts, k, at);
-    Tally {
-        tracked: k - 1,
-        spillover: t.spillover,
-    }
+    tables::remove_at(rows, tracked, at);
+    tables::remove_at(counts, tracked, at);
 }
 
-// A row is dropped if it is tracked.
-pub fn drop_row(rows: &mut [u32], counts: &mut [u32], t: Tally, row: u32) -> Tally
-    requires { Tracks rows.old counts.old t }
-    ensures { Turns rows counts t (drop_rows (row ∷ [])) result }
+// An entry is put into both tables.
+fn insert_entry(
+    rows: &mut [u32],
+    counts: &mut [u32],
+    tracked: usize,
+    at: usize,
+    row: u32,
+    count: u32,
+)
+    requires { (at ≤ tracked) × (tracked < length rows.old) × (tracked < length counts.old) }
+    ensures { (rows.new ≡ put_in rows.old tracked at row) × (counts.new ≡ put_in counts.old tracked at count) }
 {
-    let p = lookup(rows, t.tracked, row);
-    if p < t.tracked {
-        remove_entry(rows, counts, t, p)
-    } else {
-        t
-    }
+    tables::insert_at(rows, tracked, at, row);
+    tables::insert_at(counts, tracked, at, count);
 }
 
-// A row that is not tracked is entered with one more than the spillover; a place is free.
-fn enter_row(rows: &mut [u32], counts: &mut [u32], t: Tally, row: u32) -> Tally
-    requires tracks { Tracks rows.old counts.old t }
-    requires tracked_in_bounds { (t.tracked < length rows.old) × (t.spillover < 4294967295) }
-    requires t_value { has row (summary rows.old counts.old t).entries ≡ false }
-    ensures { Turns rows counts t (enter row) result }
+// 0 everywhere in both tables.
+fn clear_entries(rows: &mut [u32], counts: &mut [u32])
+    ensures { (rows.new ≡ replicate (length rows.old) 0) × (counts.new ≡ replicate (length counts.old) 0) }
 {
-    let k = t.tracked;
-    let p = tables::lower_bound(rows, k, row);
-    tables::insert_at(rows, k, p, row);
-    tables::insert_at(counts, k, p, t.spillover + 1);
-    Tally {
-        tracked: k + 1,
-        spillover: t.spillover,
-    }
+    tables::clear(rows);
+    tables::clear(counts);
 }
 
-// No place is free: the lowest-numbered row at the spillover makes room, or the spillover rises.
-fn disturb_full(rows: &mut [u32], counts: &mut [u32], t: Tally, row: u32) -> Tally
-    requires tracks { Tracks rows.old counts.old t }
-    requires tracked_value { (t.tracked ≡ length rows.old) × (t.spillover < 4294967295) }
-    requires t_value { has row (summary rows.old counts.old t).entries ≡ false }
-    ensures { Turns rows counts t (disturb (places rows) row) result }
-{
-    let k = t.tracked;
-    let q = tables::first_equal(counts, k, t.spillover);
-    if q < k {
-        let less = remove_entry(rows, counts, t, q);
-        enter_row(rows, counts, less, row)
-    } else {
-        Tally {
-            tracked: k,
-            spillover: t.spillover + 1,
+impl<'a> Table<'a> {
+    ghost use Rattle.tables.specs.InnerContracts.{lower_place, equal_place, highest_place};
+    ghost use Rattle.summary.specs.Kept.{held, places_of, Turns};
+
+    // The place of a row among the tracked ones, or their number.
+    fn find(&self, row: u32) -> usize
+        ensures { result ≡ equal_place row (take self.now.tally.tracked self.now.rows.now) }
+    {
+        lookup(self.rows, self.tally.tracked, row)
+    }
+
+    // Where a row belongs among the tracked ones.
+    fn place(&self, row: u32) -> usize
+        ensures { result ≡ lower_place row (take self.now.tally.tracked self.now.rows.now) }
+    {
+        tables::lower_bound(self.rows, self.tally.tracked, row)
+    }
+
+    // The place of the lowest row at the spillover, or the number of tracked rows.
+    fn at_spillover(&self) -> usize
+        ensures { result ≡ equal_place self.now.tally.spillover (take self.now.tally.tracked self.now.counts.now) }
+    {
+        tables::first_equal(self.counts, self.tally.tracked, self.tally.spillover)
+    }
+
+    // The place of the first row of the highest count.
+    fn highest(&self) -> usize
+        requires { 0 < self.now.tally.tracked }
+        ensures { result ≡ highest_place (take self.now.tally.tracked self.now.counts.now) }
+    {
+        tables::first_highest(self.counts, self.tally.tracked)
+    }
+
+    // The row at a place is dropped.
+    fn remove(&mut self, at: usize)
+        requires { at < self.old.tally.tracked }
+        ensures turns { Turns (drop_rows (get_or self.old.rows.now at 0 ∷ [])) self.old self.new }
+        ensures one_less { (self.new.tally.tracked ≡ self.old.tally.tracked - 1) × (self.new.tally.spillover ≡ self.old.tally.spillover) }
+    {
+        let k = self.tally.tracked;
+        remove_entry(self.rows, self.counts, k, at);
+        self.tally.tracked = k - 1;
+    }
+
+    // A row that is not tracked is entered with one more than the spillover; a place is free.
+    fn enter_row(&mut self, row: u32)
+        requires room { (self.old.tally.tracked < length self.old.rows.now) × (self.old.tally.spillover < 4294967295) }
+        requires untracked { has row (held self.old).entries ≡ false }
+        ensures { Turns (enter row) self.old self.new }
+    {
+        let k = self.tally.tracked;
+        let count = self.tally.spillover + 1;
+        let p = self.place(row);
+        insert_entry(self.rows, self.counts, k, p, row, count);
+        self.tally.tracked = k + 1;
+    }
+
+    // No place is free: the lowest row at the spillover makes room, or the spillover rises.
+    fn disturb_full(&mut self, row: u32)
+        requires full { (self.old.tally.tracked ≡ length self.old.rows.now) × (self.old.tally.spillover < 4294967295) }
+        requires untracked { has row (held self.old).entries ≡ false }
+        ensures { Turns (disturb (places_of self.old) row) self.old self.new }
+    {
+        let q = self.at_spillover();
+        if q < self.tally.tracked {
+            self.remove(q);
+            self.enter_row(row);
+        } else {
+            self.tally.spillover += 1;
         }
     }
 }
 
-// 'Disturbing one row'.
-pub fn disturb_row(rows: &mut [u32], counts: &mut [u32], t: Tally, row: u32) -> Tally
-    requires tracks { Tracks rows.old counts.old t }
-    requires room_for { RoomFor 1 (summary rows.old counts.old t) }
-    ensures { Turns rows counts t (disturb (places rows) row) result }
-{
-    let k = t.tracked;
-    let p = lookup(rows, k, row);
-    if p < k {
-        counts[p] = counts[p] + 1;
-        return t;
-    }
-    if k < rows.len() {
-        enter_row(rows, counts, t, row)
-    } else {
-        disturb_full(rows, counts, t, row)
-    }
-}
+impl<'a> Ledger for Table<'a> {
+    ghost use Rattle.summary.specs.Kept.{always, held, places_of, all_rows, same_memory};
+    ghost use Rattle.std.specs.Prelude.{refl};
+    ghost use Rattle.std.proofs.Common.{rules};
 
-// The rows from one on and below another are disturbed, ascending.
-pub fn disturb_run(rows: &mut [u32], counts: &mut [u32], t: Tally, low: u32, high: u32) -> Tally
-    requires tracks { Tracks rows.old counts.old t }
-    requires low_bound { (high - low ≤ 64) × RoomFor 64 (summary rows.old counts.old t) }
-    ensures { Turns rows counts t (disturb_each (places rows) (rows_between low high)) result }
-{
-    let mut left = t;
-    let mut row = low;
-    while row < high {
-        left = disturb_row(rows, counts, left, row);
-        row += 1;
-    }
-    left
-}
+    ghost kept = { always };
 
-// The rows from one on and below another are dropped.
-pub fn drop_run(rows: &mut [u32], counts: &mut [u32], t: Tally, low: u32, high: u32) -> Tally
-    requires { Tracks rows.old counts.old t }
-    ensures { Turns rows counts t (drop_rows (rows_between low high)) result }
-{
-    let mut left = t;
-    let mut row = low;
-    while row < high {
-        left = drop_row(rows, counts, left, row);
-        row += 1;
-    }
-    left
-}
+    ghost summary = { held };
 
-// The first entry of the highest count is taken out.
-fn take_top(rows: &mut [u32], counts: &mut [u32], t: Tally) -> Taken
-    requires tracks { Tracks rows.old counts.old t }
-    requires tracked_nonzero { 0 < t.tracked }
-    ensures row_value { result.row ∷ [] ≡ picks 1 (summary rows.old counts.old t).entries }
-    ensures turns { Turns rows counts t (drop_rows (result.row ∷ [])) result.tally }
-{
-    let at = tables::first_highest(counts, t.tracked);
-    let row = rows[at];
-    let tally = remove_entry(rows, counts, t, at);
-    Taken { row, tally }
-}
+    ghost places = { places_of };
 
-// The rows of highest count are taken out and named at the front of a list, at most so many.
-pub fn pick(
-    rows: &mut [u32],
-    counts: &mut [u32],
-    t: Tally,
-    volume: usize,
-    list: &mut [u32],
-) -> Picked
-    requires tracks { Tracks rows.old counts.old t }
-    requires volume_in_bounds { volume ≤ length list.old }
-    ensures names { Names list volume (summary rows.old counts.old t) result.count }
-    ensures turns { Turns rows counts t (picked_out volume) result.tally }
-{
-    let mut left = t;
-    let mut i: usize = 0;
-    while i < volume && 0 < left.tracked {
-        let taken = take_top(rows, counts, left);
-        list[i] = taken.row;
-        left = taken.tally;
-        i += 1;
+    ghost bound = { all_rows };
+
+    ghost same = { same_memory };
+
+    fn drop_row(&mut self, row: u32) {
+        let p = self.find(row);
+        if p < self.tally.tracked {
+            self.remove(p);
+        }
     }
-    Picked {
-        count: i,
-        tally: left,
+
+    fn disturb_row(&mut self, row: u32) {
+        let p = self.find(row);
+        if p < self.tally.tracked {
+            self.counts[p] += 1;
+        } else if self.tally.tracked < self.rows.len() {
+            self.enter_row(row);
+        } else {
+            self.disturb_full(row);
+        }
     }
+
+    fn take_top(&mut self) -> Option<u32> {
+        if self.tally.tracked == 0 {
+            return None;
+        }
+        let at = self.highest();
+        let row = self.rows[at];
+        self.remove(at);
+        Some(row)
+    }
+
+    fn clear(&mut self) {
+        clear_entries(self.rows, self.counts);
+        self.tally = Tally {
+            tracked: 0,
+            spillover: 0,
+        };
+    }
+
+    ghost same_reflexive = { λ a. (refl, refl) };
+
+    ghost same_transitive = { λ a b c x y. Prim.search rules };
+
+    ghost ordered = { λ a k. a.tracks.sound.ordered };
 }
 
 // Whether a row is among the first of a list.

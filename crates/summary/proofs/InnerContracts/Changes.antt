@@ -3,21 +3,22 @@ use mathlib.Core.Path.{◌≡◌, refl, ap, sym, ◌∙◌}
 use mathlib.Core.Bool.{true, false}
 use mathlib.Core.List.{List, [], ◌∷◌}
 use Prim.Native.Nat.{ℕ, ◌+◌, ◌-◌, ◌≤◌, ◌<◌}
+use native.Mathlib.Nat.{sub-zero}
 use native.Mathlib.Omega.{arith}
 use borrow.Author.Tests.{lt-ltb, le-ltb}
-use lib.ListN.{length, get_or, take, set}
+use lib.ListN.{length, replicate, get_or, take, set}
 use Rattle.tables.specs.InnerContracts.{lower_place, equal_place, put_in, taken_at}
 use Rattle.tables.proofs.Searches.{lower_place_le}
 use Rattle.summary.specs.Entries.{rows_of, counts_of, has, without_all, has_count, without_count}
-use Rattle.summary.specs.Steps.{Summary, disturb, drop_rows, enter, raise, make_room, spill}
-use Rattle.summary.specs.Tables.{read}
+use Rattle.summary.specs.Steps.{Summary, disturb, drop_rows, empty, enter, raise, make_room, spill}
+use Rattle.summary.specs.Tables.{table}
 use Rattle.summary.specs.InnerContracts.{Holds, Held}
-use Rattle.summary.proofs.InnerContracts.Holds.{held_again, held_read, long_rows, used_rows, used_counts, count_at_place, holds_taken, holds_put, holds_set}
+use Rattle.summary.proofs.InnerContracts.Holds.{held_again, held_read, long_rows, used_rows, used_counts, row_at_place, count_at_place, holds_taken, holds_put, holds_set}
 use Rattle.summary.proofs.Steps.Disturb.{disturb_exchange}
 use Rattle.summary.proofs.Entries.Lengths.{length_rows}
 use Rattle.summary.proofs.Entries.Tracked.{untracked_without_count, without_untracked}
-use Rattle.summary.proofs.Entries.Columns.{has_place, rows_without, counts_without, rows_raised, counts_raised, has_count_place, rows_without_count, counts_without_count, rows_entered, counts_entered}
-use Rattle.summary.proofs.Rules.Sound.{sound_drop, sound_enter, sound_without_count, sound_raise, sound_spill}
+use Rattle.summary.proofs.Entries.Columns.{equal_place_at, has_place, rows_without, counts_without, rows_raised, counts_raised, has_count_place, rows_without_count, counts_without_count, rows_entered, counts_entered}
+use Rattle.summary.proofs.Rules.Sound.{sound_drop, sound_enter, sound_without_count, sound_raise, sound_spill, sound_empty}
 
 module _ {places high : ℕ} {sum : Summary} {rows counts : List ℕ} {k spillover : ℕ} (h : Holds places high sum rows counts k spillover) where
   -- whether a row, or a count, is there, by the place that was found
@@ -55,6 +56,13 @@ module _ {places high : ℕ} {sum : Summary} {rows counts : List ℕ} {k spillov
       (rw at (rows_without row sum.entries tracked))
       (rw at (counts_without row sum.entries tracked))
 
+  -- the row at a place stands there first
+  pub place_named : (at : ℕ) → at < k → at ≡ equal_place (get_or rows at 0) (take k rows)
+  place_named at less = rw (row_at_place h at less, used_rows h) (sym (equal_place_at h.sound.ordered at (omega (arith, h.tracked_is))))
+
+  pub holds_remove : (at : ℕ) → at < k → Holds places high (drop_rows (get_or rows at 0 ∷ []) sum) (taken_at rows k at) (taken_at counts k at) (k - 1) spillover
+  holds_remove at less = holds_drop (get_or rows at 0) at (place_named at less) less
+
   pub holds_drop_untracked : (row p : ℕ) → p ≡ equal_place row (take k rows) → k ≤ p → Holds places high (drop_rows (row ∷ []) sum) rows counts k spillover
   unfolding drop_rows without_all
   holds_drop_untracked row p e past = rw (without_untracked row sum.entries (has_missed row p e past)) h
@@ -86,6 +94,19 @@ module _ {places high : ℕ} {sum : Summary} {rows counts : List ℕ} {k spillov
       (rw at (rows_without_count count sum.entries low))
       (rw at (counts_without_count count sum.entries low))
 
+  -- so the row at its place is the one that makes room
+  pub room_made : (q : ℕ) → q ≡ equal_place spillover (take k counts) → q < k → drop_rows (get_or rows q 0 ∷ []) sum ≡ make_room sum
+  room_made q e less = sym (held_read (holds_remove q less)) ∙ held_read (holds_without_count spillover q e less) ∙ ap (λ (n : ℕ). record { entries = without_count n sum.entries; spillover = sum.spillover }) h.spillover_is
+
+  pub made_room_enters : (row q : ℕ) → q ≡ equal_place spillover (take k counts) → q < k → has row sum.entries ≡ false → k ≡ places → enter row (drop_rows (get_or rows q 0 ∷ []) sum) ≡ disturb places row sum
+  made_room_enters row q e less untracked full =
+      let low : has_count sum.spillover sum.entries ≡ true = rw h.spillover_is at (count_found spillover q e less) in
+      ap (λ (s : Summary). enter row s) (room_made q e less) ∙ sym (disturb_exchange places row sum untracked (omega (arith, h.tracked_is)) low)
+
+  -- the row at the place that was found is the row
+  pub same_drop : (row p : ℕ) → p ≡ equal_place row (take k rows) → p < k → drop_rows (get_or rows p 0 ∷ []) sum ≡ drop_rows (row ∷ []) sum
+  same_drop row p e less = sym (held_read (holds_remove p less)) ∙ held_read (holds_drop row p e less)
+
   -- the spillover rises
   pub holds_spill : has_count sum.spillover sum.entries ≡ false → Holds places high (spill sum) rows counts k (spillover + 1)
   holds_spill up =
@@ -97,32 +118,9 @@ module _ {places high : ℕ} {sum : Summary} {rows counts : List ℕ} {k spillov
         sound = sound_spill sum up h.sound;
       }
 
--- the exchange: what stands between taking out the first row at the spillover and entering the new one
-module _
-    {places : ℕ} {sum : Summary} {rows counts : List ℕ} {k spillover : ℕ} (h : Holds places 4294967296 sum rows counts k spillover)
-    (row q : ℕ) (at : q ≡ equal_place spillover (take k counts)) (less : q < k) (untracked : has row sum.entries ≡ false) (full : k ≡ places)
-    {rows' counts' : List ℕ} {k' spillover' : ℕ} (er : rows' ≡ taken_at rows k q) (ec : counts' ≡ taken_at counts k q) (ek : k' ≡ k - 1) (es : spillover' ≡ spillover)
-  where
-    fewer : Summary
-    fewer = record { entries = without_count spillover sum.entries; spillover = sum.spillover }
+-- cleared tables hold the empty summary
+pub holds_empty : (places : ℕ) {rows counts : List ℕ} → rows ≡ replicate places 0 → counts ≡ replicate places 0 → Holds places 4294967296 empty rows counts 0 0
+unfolding empty table rows_of counts_of
+holds_empty places er ec =
+    record { rows_laid = rw (er, sub-zero places); counts_laid = rw (ec, sub-zero places); tracked_is = refl; spillover_is = refl; sound = sound_empty }
 
-    between : Holds places 4294967296 fewer rows' counts' k' spillover'
-    unfolding fewer
-    between = rw (er, ec, ek, es) (holds_without_count h spillover q at less)
-
-    pub exchange_ready : spillover < 4294967295 → Held rows' counts' k' spillover' × (((k' < length rows') × (spillover' < 4294967295)) × (has row (read rows' counts' k' spillover').entries ≡ false))
-    unfolding fewer
-    exchange_ready small = (
-      held_again between,
-      ((omega (arith, long_rows between), omega arith), rw (held_read between) (untracked_without_count row spillover sum.entries untracked)),
-    )
-
-    pub exchange_done : {rows'' counts'' : List ℕ} {k'' spillover'' : ℕ} → Holds (length rows') 4294967296 (enter row (read rows' counts' k' spillover')) rows'' counts'' k'' spillover'' → Holds places 4294967296 (disturb places row sum) rows'' counts'' k'' spillover''
-    unfolding fewer
-    exchange_done x =
-        let low : has_count sum.spillover sum.entries ≡ true = rw h.spillover_is at (count_found h spillover q at less) in
-        let made : disturb places row sum ≡ enter row (make_room sum) = disturb_exchange places row sum untracked (omega (arith, h.tracked_is)) low in
-        let room : make_room sum ≡ fewer = ap (λ (n : ℕ). record { entries = without_count n sum.entries; spillover = sum.spillover }) (sym h.spillover_is) in
-        let same : disturb places row sum ≡ enter row (read rows' counts' k' spillover') =
-        made ∙ ap (λ (s : Summary). enter row s) (room ∙ sym (held_read between)) in
-        rw (same, ← long_rows between) x
