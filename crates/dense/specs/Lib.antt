@@ -2,3 +2,4 @@
 pub mod Dense
 pub mod InnerContracts
 pub mod Kept
+pub mod Facts

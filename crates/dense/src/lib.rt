@@ -101,6 +101,7 @@ impl<'a> Ledger for RowTable<'a> {
     ghost use Rattle.std.specs.Prelude.{refl};
     ghost use Rattle.std.proofs.Common.{rules};
     ghost use Rattle.dense.specs.Kept.{holds_bank, held, places_of, rows_of, same_memory};
+    ghost use Rattle.dense.specs.Facts.{bank_ordered};
 
     ghost kept = { holds_bank };
 
@@ -150,6 +151,8 @@ impl<'a> Ledger for RowTable<'a> {
     ghost same_reflexive = { λ a. (refl, refl, refl) };
 
     ghost same_transitive = { λ a b c x y. Prim.search rules };
+
+    ghost ordered = { λ a h. bank_ordered h };
 }
 
 // Every row is dropped, and the spillover is 0.

@@ -1,147 +1,80 @@
 // A refresh event: the picked and block rows are taken out, the window's end clears, then the refreshed rows disturb their victims.
-ghost use Rattle.std.specs.Prelude.{◌∷◌, [], ◌-◌, ◌≤◌, ◌<◌, length, take};
-ghost use Rattle.device.specs.Victims.{rows_between};
-ghost use Rattle.summary.specs.Steps.{spread, besides, taken_out, cleared_if, event};
+ghost use Rattle.std.specs.Prelude.{◌≡◌, ◌-◌, ◌≤◌, length, take};
+ghost use Rattle.device.specs.Victims.{rows_between, victims};
+ghost use Rattle.summary.specs.Steps.{spread, besides, cleared_if, event};
 ghost use Rattle.summary.specs.Rules.{Below, RoomFor};
 ghost use Rattle.summary.specs.InnerContracts.{Names};
 ghost use Rattle.tracker.specs.Calls.{victims_in, block_rows, ends_window};
 ghost use Rattle.tracker.specs.InnerContracts.{Ranges};
-ghost use Rattle.dense.specs.InnerContracts.{summary, Holds, Turns};
+ghost use Rattle.dense.specs.InnerContracts as lent;
+ghost use Rattle.dense.specs.Kept.{holds_bank, held, Turns};
 
 use crate::victims;
-use dense::{Picked, Tally};
+use dense::{Picked, RowTable, Tally};
 use device::Settings;
-
-// The picked rows are named at the front of the lent picks and dropped, and so are the block's.
-fn take_out(
-    s: Settings,
-    counts: &mut [u32],
-    marks: &mut [u64],
-    bounds: &mut [u32],
-    t: Tally,
-    low: u32,
-    high: u32,
-    picks: &mut [u32],
-) -> Picked
-    requires holds { Holds s.rows s.counters counts.old marks.old bounds.old t }
-    requires volume_in_bounds { (s.volume ≤ length picks.old) × (high ≤ s.rows) }
-    ensures names { Names picks s.volume (summary counts.old t) result.count }
-    ensures turns { Turns s.rows s.counters counts marks bounds t (taken_out s.volume (rows_between low high)) result.tally }
-{
-    let picked = dense::pick(counts, marks, bounds, t, s.volume as usize, picks);
-    let kept = picked.tally;
-    let rest = dense::drop_run(counts, marks, kept, low as usize, high as usize);
-    Picked {
-        count: picked.count,
-        tally: rest,
-    }
-}
+use summary::ledger::Ledger;
 
 // The summary is cleared where the window ends.
-fn clear_if(
-    last: bool,
-    s: Settings,
-    counts: &mut [u32],
-    marks: &mut [u64],
-    bounds: &mut [u32],
-    t: Tally,
-) -> Tally
-    requires { Holds s.rows s.counters counts.old marks.old bounds.old t }
-    ensures { Turns s.rows s.counters counts marks bounds t (cleared_if last) result }
+fn clear_if(last: bool, table: &mut RowTable)
+    requires { holds_bank table.old }
+    ensures { Turns (cleared_if last) table.old table.new }
 {
     if last {
-        dense::clear(counts, marks, bounds)
-    } else {
-        t
+        table.clear();
     }
 }
 
 // The picked rows, so many at the front of picks, disturb their victims in pick order.
-fn spread_picks(
-    s: Settings,
-    counts: &mut [u32],
-    marks: &mut [u64],
-    bounds: &mut [u32],
-    t: Tally,
-    picks: &[u32],
-    used: usize,
-) -> Tally
-    requires holds { Holds s.rows s.counters counts.old marks.old bounds.old t }
-    requires blast_diameter_bound { (s.blast_diameter ≤ 4) × (used ≤ 16) × (used ≤ length picks.now) × Below s.rows (take used picks.now) }
-    requires room_for { RoomFor 128 (summary counts.old t) }
-    ensures { Turns s.rows s.counters counts marks bounds t (spread s.counters (victims_in s) (take used picks.now)) result }
+fn spread_picks(table: &mut RowTable, diameter: u32, picks: &[u32], used: usize)
+    requires holds { holds_bank table.old }
+    requires diameter_bound { (diameter ≤ 4) × (used ≤ 16) × (used ≤ length picks.now) × Below table.old.rows (take used picks.now) }
+    requires room_for { RoomFor 128 (held table.old) }
+    ensures { Turns (spread table.old.counters (victims table.old.rows diameter) (take used picks.now)) table.old table.new }
 {
-    let n = s.rows;
-    let diameter = s.blast_diameter;
-    let c = s.counters;
-    let mut left = t;
-    let mut i: usize = 0;
-    while i < used {
-        left = victims::disturb_victims(n, diameter, c, counts, marks, bounds, left, picks[i]);
-        i += 1;
-    }
-    left
-}
-
-// A row disturbs its victims unless it is one of the picked.
-fn spread_unlisted(
-    s: Settings,
-    counts: &mut [u32],
-    marks: &mut [u64],
-    bounds: &mut [u32],
-    t: Tally,
-    picks: &[u32],
-    used: usize,
-    row: u32,
-) -> Tally
-    requires holds { Holds s.rows s.counters counts.old marks.old bounds.old t }
-    requires blast_diameter_bound { (s.blast_diameter ≤ 4) × (row < s.rows) × (used ≤ length picks.now) }
-    requires room_for { RoomFor 64 (summary counts.old t) }
-    ensures { Turns s.rows s.counters counts marks bounds t (spread s.counters (victims_in s) (besides (take used picks.now) (row ∷ []))) result }
-{
-    if summary::is_listed(picks, used, row) {
-        t
-    } else {
-        victims::disturb_victims(
-            s.rows,
-            s.blast_diameter,
-            s.counters,
-            counts,
-            marks,
-            bounds,
-            t,
-            row,
-        )
+    for i in 0..used {
+        victims::disturb_victims(table, diameter, picks[i]);
     }
 }
 
 // The rows of a run that are not picked disturb their victims, ascending.
 fn spread_run(
-    s: Settings,
-    counts: &mut [u32],
-    marks: &mut [u64],
-    bounds: &mut [u32],
-    t: Tally,
+    table: &mut RowTable,
+    diameter: u32,
     picks: &[u32],
     used: usize,
     low: u32,
     high: u32,
-) -> Tally
-    requires holds { Holds s.rows s.counters counts.old marks.old bounds.old t }
-    requires blast_diameter_bound { (s.blast_diameter ≤ 4) × (used ≤ length picks.now) × (high ≤ s.rows) × (high - low ≤ 64) }
-    requires room_for { RoomFor 320 (summary counts.old t) }
-    ensures { Turns s.rows s.counters counts marks bounds t (spread s.counters (victims_in s) (besides (take used picks.now) (rows_between low high))) result }
+)
+    requires holds { holds_bank table.old }
+    requires diameter_bound { (diameter ≤ 4) × (used ≤ length picks.now) × (high ≤ table.old.rows) × (high - low ≤ 64) }
+    requires room_for { RoomFor 320 (held table.old) }
+    ensures { Turns (spread table.old.counters (victims table.old.rows diameter) (besides (take used picks.now) (rows_between low high))) table.old table.new }
 {
-    let mut left = t;
-    let mut row = low;
-    while row < high {
-        left = spread_unlisted(s, counts, marks, bounds, left, picks, used, row);
-        row += 1;
+    for row in low..high {
+        if !summary::is_listed(picks, used, row) {
+            victims::disturb_victims(table, diameter, row);
+        }
     }
-    left
 }
 
-// A whole event; e is the number of events in the window before it.
+// A whole event; e is the number of events in the window before it. How many rows were picked.
+fn refresh_table(table: &mut RowTable, s: Settings, e: u32, picks: &mut [u32]) -> usize
+    requires holds { holds_bank table.old × (table.old.rows ≡ s.rows) }
+    requires ranges { Ranges s e (length picks.old) × RoomFor 448 (held table.old) }
+    ensures names { Names picks s.volume (held table.old) result }
+    ensures turns { Turns (event table.old.counters (victims_in s) s.volume (block_rows s e) (ends_window s e)) table.old table.new }
+{
+    let low = e * s.block;
+    let high = device::smaller(low + s.block, s.rows);
+    let count = table.pick(s.volume as usize, picks);
+    table.drop_run(low, high);
+    clear_if(e == s.window - 1, table);
+    spread_picks(table, s.blast_diameter, picks, count);
+    spread_run(table, s.blast_diameter, picks, count, low, high);
+    count
+}
+
+// The same on lent slices.
 pub fn refresh(
     s: Settings,
     counts: &mut [u32],
@@ -151,30 +84,22 @@ pub fn refresh(
     e: u32,
     picks: &mut [u32],
 ) -> Picked
-    requires holds { Holds s.rows s.counters counts.old marks.old bounds.old t }
-    requires ranges { Ranges s e (length picks.old) × RoomFor 448 (summary counts.old t) }
-    ensures names { Names picks s.volume (summary counts.old t) result.count }
-    ensures turns { Turns s.rows s.counters counts marks bounds t (event s.counters (victims_in s) s.volume (block_rows s e) (ends_window s e)) result.tally }
+    requires holds { lent.Holds s.rows s.counters counts.old marks.old bounds.old t }
+    requires ranges { Ranges s e (length picks.old) × RoomFor 448 (lent.summary counts.old t) }
+    ensures names { Names picks s.volume (lent.summary counts.old t) result.count }
+    ensures turns { lent.Turns s.rows s.counters counts marks bounds t (event s.counters (victims_in s) s.volume (block_rows s e) (ends_window s e)) result.tally }
 {
-    let low = e * s.block;
-    let high = device::smaller(low + s.block, s.rows);
-    let taken = take_out(s, counts, marks, bounds, t, low, high, picks);
-    let rest = taken.tally;
-    let begun = clear_if(e == s.window - 1, s, counts, marks, bounds, rest);
-    let named = spread_picks(s, counts, marks, bounds, begun, picks, taken.count);
-    let after = spread_run(
-        s,
+    let mut table = RowTable {
+        rows: s.rows,
+        counters: s.counters,
         counts,
         marks,
         bounds,
-        named,
-        picks,
-        taken.count,
-        low,
-        high,
-    );
+        tally: t,
+    };
+    let count = refresh_table(&mut table, s, e, picks);
     Picked {
-        count: taken.count,
-        tally: after,
+        count,
+        tally: table.tally,
     }
 }

@@ -1,44 +1,53 @@
 -- `spread`: the loops in which rows disturb their victims, one row after the other.
-use mathlib.Core.Path.{◌≡◌, sym, ◌∙◌}
+use mathlib.Core.Path.{◌≡◌, refl, sym, ◌∙◌}
+use mathlib.Core.Bool.{true, false}
 use mathlib.Core.List.{List, [], ◌∷◌}
 use Prim.Native.Nat.{ℕ, ◌+◌, ◌≤◌}
 use native.Mathlib.Omega.{arith}
 use lib.ListN.{length}
-use Rattle.summary.specs.Steps.{Summary, disturb_each, spread, besides}
+use Rattle.summary.specs.Steps.{Summary, disturb_each, spread, besides, in_rows}
 use Rattle.summary.specs.Rules.{Room}
 use Rattle.summary.proofs.Rules.Room.{room_more, room_each}
-use Rattle.tracker.proofs.Steps.Spread.{besides_one, room_besides}
-use Rattle.dense.specs.declared.Tally.{Tally}
-use Rattle.dense.specs.Dense.{dense, Bank}
-use Rattle.dense.specs.InnerContracts.{Turned}
+use Rattle.dense.specs.Kept.{holds_bank, held, same_memory, Turns}
+use Rattle.dense.specs.declared.RowTable.{RowTable}
 
 -- rows of a list disturb their victims: those left, on the summary as it is now, and all of them on the one at the start
-pub record Spreading (rows counters : ℕ) (victims_of : ℕ → List ℕ) (whole rest : List ℕ) (start : Summary) (counts marks bounds : List ℕ) (t : Tally) (most : ℕ) : Type 0 where
-  pub bank : Bank rows counters counts marks bounds t
-  pub same : spread counters victims_of rest (dense counts t.spillover) ≡ spread counters victims_of whole start
-  pub room : Room most (dense counts t.spillover)
+pub record Spreading (victims_of : ℕ → List ℕ) (whole rest : List ℕ) (a b : RowTable) (most : ℕ) : Type 0 where
+  pub keeps : holds_bank b
+  pub as_many : b.counters ≡ a.counters
+  pub one_bank : b.rows ≡ a.rows
+  pub one_memory : same_memory a b
+  pub same : spread a.counters victims_of rest (held b) ≡ spread a.counters victims_of whole (held a)
+  pub room : Room most (held b)
 
-module _ {rows counters : ℕ} {victims_of : ℕ → List ℕ} {whole : List ℕ} {start : Summary} {counts marks bounds : List ℕ} {t : Tally} {most : ℕ} where
-  pub spreading_done : {rest : List ℕ} → Spreading rows counters victims_of whole rest start counts marks bounds t most → rest ≡ [] → Turned rows counters (spread counters victims_of whole start) counts marks bounds t
+pub spreading_start : (victims_of : ℕ → List ℕ) (whole : List ℕ) {a : RowTable} {most : ℕ} → holds_bank a → Room most (held a) → Spreading victims_of whole whole a a most
+spreading_start victims_of whole b r = record { keeps = b; as_many = refl; one_bank = refl; one_memory = (refl, refl, refl); same = refl; room = r }
+
+module _ {victims_of : ℕ → List ℕ} {whole : List ℕ} {a b : RowTable} {most : ℕ} where
+  pub spreading_done : {rest : List ℕ} → Spreading victims_of whole rest a b most → rest ≡ [] → Turns (spread a.counters victims_of whole) a b
   unfolding spread
-  spreading_done l none = record { bank = l.bank; holds = rw none at l.same }
+  spreading_done l none = record { keeps = l.keeps; holds = rw none at l.same; as_many = l.as_many; one_bank = l.one_bank; one_memory = l.one_memory }
 
   -- one row of the rest
-  pub spreading_again : (row : ℕ) {rest : List ℕ} → Spreading rows counters victims_of whole (row ∷ rest) start counts marks bounds t most → length (victims_of row) ≤ 4 → {counts' marks' bounds' : List ℕ} {t' : Tally} {most' : ℕ} → Turned rows counters (disturb_each counters (victims_of row) (dense counts t.spillover)) counts' marks' bounds' t' → most + 4 ≤ most' → Spreading rows counters victims_of whole rest start counts' marks' bounds' t' most'
+  pub spreading_again : (row : ℕ) {rest : List ℕ} → Spreading victims_of whole (row ∷ rest) a b most → length (victims_of row) ≤ 4 → {c : RowTable} {most' : ℕ} → Turns (disturb_each b.counters (victims_of row)) b c → most + 4 ≤ most' → Spreading victims_of whole rest a c most'
   unfolding spread
-  spreading_again row l few x rise =
+  spreading_again row l few {c} y rise =
+      let step : held c ≡ disturb_each a.counters (victims_of row) (held b) = rw l.as_many at y.holds in
       record {
-        bank = x.bank;
-        same = rw x.holds l.same;
-        room = rw x.holds (room_more (room_each counters (victims_of row) (dense counts t.spillover) l.room) (omega arith));
+        keeps = y.keeps;
+        as_many = y.as_many ∙ l.as_many;
+        one_bank = y.one_bank ∙ l.one_bank;
+        one_memory = (y.one_memory.0 ∙ l.one_memory.0, y.one_memory.1 ∙ l.one_memory.1, y.one_memory.2 ∙ l.one_memory.2);
+        same = rw step l.same;
+        room = rw step (room_more (room_each a.counters (victims_of row) (held b) l.room) (omega arith));
       }
 
-  -- one row of a run, unless it is listed
-  pub spreading_beside : (names : List ℕ) (row : ℕ) (rest : List ℕ) → Spreading rows counters victims_of whole (besides names (row ∷ rest)) start counts marks bounds t most → length (victims_of row) ≤ 4 → {counts' marks' bounds' : List ℕ} {t' : Tally} {most' : ℕ} → Turned rows counters (spread counters victims_of (besides names (row ∷ [])) (dense counts t.spillover)) counts' marks' bounds' t' → most + 4 ≤ most' → Spreading rows counters victims_of whole (besides names rest) start counts' marks' bounds' t' most'
-  spreading_beside names row rest l few x rise =
-      let sum = dense counts t.spillover in
-      record {
-        bank = x.bank;
-        same = rw x.holds (sym (besides_one names row rest counters victims_of sum) ∙ l.same);
-        room = rw x.holds (room_more (room_besides names row counters victims_of sum l.room few) rise);
-      }
+  -- a row of a run that is listed, and one that is not
+  pub spreading_listed : (names : List ℕ) (row : ℕ) (rest : List ℕ) → Spreading victims_of whole (besides names (row ∷ rest)) a b most → in_rows row names ≡ true → {most' : ℕ} → most ≤ most' → Spreading victims_of whole (besides names rest) a b most'
+  unfolding besides
+  spreading_listed names row rest l e rise =
+      record { keeps = l.keeps; as_many = l.as_many; one_bank = l.one_bank; one_memory = l.one_memory; same = rw e at l.same; room = room_more l.room rise }
+
+  pub spreading_beside : (names : List ℕ) (row : ℕ) (rest : List ℕ) → Spreading victims_of whole (besides names (row ∷ rest)) a b most → in_rows row names ≡ false → Spreading victims_of whole (row ∷ besides names rest) a b most
+  unfolding besides
+  spreading_beside names row rest l e = rw e at l
