@@ -14,6 +14,7 @@ ghost use Rattle.bound.specs.Answers.{bound_answer, least_answer, signed, Small,
 use device::{Refusal, Settings};
 
 // T': the rows that disturb their victims from one event to the next.
+#[tactic(auto, unfolding(crate::specs::Totals::disturbers))]
 pub fn disturbers_of(s: Settings) -> u64
     ensures { result ≡ disturbers s }
 {
@@ -40,6 +41,7 @@ pub fn bound_at(s: Settings, events: u32) -> u64
 }
 
 // The bound H on any row's disturbance, of which each of two windows adds at most one.
+#[tactic(auto, using(device::proofs::Tests::outcome_refused, device::proofs::Tests::outcome_accepted), unfolding(device::specs::Refusal::outcome, crate::specs::Answers::bound_answer_to, crate::specs::Totals::bound_of))]
 pub fn bound(s: Settings) -> Result<u64, Refusal>
     ensures { outcome result ≡ bound_answer s }
 {
@@ -58,6 +60,7 @@ fn least_of(s: Settings, threshold: u64) -> Result<u64, Refusal>
 }
 
 // The smallest counter count whose bound, twice, is below the threshold; `counters` is not looked at.
+#[tactic(auto, using(device::proofs::Tests::outcome_refused, device::proofs::Tests::outcome_accepted), unfolding(device::specs::Refusal::outcome, crate::specs::Answers::least_answer_to))]
 pub fn least_counters(s: Settings, threshold: u64) -> Result<u64, Refusal>
     ensures { outcome result ≡ least_answer s threshold }
 {
@@ -66,6 +69,7 @@ pub fn least_counters(s: Settings, threshold: u64) -> Result<u64, Refusal>
 }
 
 // The signed number that C gets.
+#[tactic(auto, unfolding(device::specs::Refusal::outcome, crate::specs::Answers::signed, crate::specs::Answers::Small))]
 pub fn signed_number(answer: Result<u64, Refusal>) -> i64
     requires { Small (outcome answer) }
     ensures { result ≡ signed (outcome answer) }
@@ -77,6 +81,7 @@ pub fn signed_number(answer: Result<u64, Refusal>) -> i64
 }
 
 // The bound for crate bound_c: H, or refusal k as -k.
+#[tactic(auto, using(crate::proofs::Answers::small_bound_answer), unfolding(crate::specs::Answers::settings_of))]
 pub fn row_tracker_bound(
     rows: u32,
     blast_diameter: u32,
@@ -100,6 +105,7 @@ pub fn row_tracker_bound(
 }
 
 // The least counter count for crate bound_c: the count, or refusal k as -k.
+#[tactic(auto, using(crate::proofs::Answers::small_least_answer), unfolding(crate::specs::Answers::settings_of))]
 pub fn row_tracker_least_counters(
     rows: u32,
     blast_diameter: u32,

@@ -1,5 +1,5 @@
 -- That two tables hold a summary is a fact, which a ghost field may say: it holds in one way. Nobody has to believe it: antt checks it.
-use mathlib.Core.Path.{◌≡◌, refl, ap, ◌∙◌}
+use mathlib.Core.Path.{refl, ap, ◌∙◌}
 use mathlib.Core.List.{List}
 use Prim.Native.Nat.{ℕ}
 use native.Mathlib.Nat.{ℕ_set}

@@ -2,8 +2,8 @@
 // Every call refuses what document 01 refuses, in its order, and then leaves everything as it came.
 #![tactic(auto)]
 
-mod event;
-mod victims;
+pub mod event;
+pub mod victims;
 
 ghost use Rattle.std.specs.Prelude.{◌≡◌, ◌≤◌};
 ghost use Rattle.device.specs.Refusal.{first_failed, refusal_number};
@@ -14,7 +14,7 @@ ghost use Rattle.tracker.specs.Answers.{set_up_left, activation_left, refresh_le
 
 use device::{Refusal, Settings};
 pub use state::Position;
-use summary::Tally;
+use summary::{Table, Tally};
 
 // A call that was refused: the refusal, and the position as it came.
 #[derive(Clone, Copy)]
@@ -31,6 +31,7 @@ pub struct Refreshed {
 }
 
 // The tests of settings and lent tables.
+#[tactic(auto, using(device::proofs::Acceptance::settings_then, device::proofs::Tests::or_later_first, device::proofs::Tests::number_not_0), unfolding(device::specs::Refusal::first_failed, device::specs::Refusal::unless, device::proofs::Tests::or_later, crate::specs::InnerContracts::tables_tests))]
 fn test_tables(s: Settings, rows: &[u32], counts: &[u32]) -> Result<(), Refusal>
     ensures { refusal_number result ≡ first_failed (tables_tests s rows.now counts.now) }
 {
@@ -39,6 +40,7 @@ fn test_tables(s: Settings, rows: &[u32], counts: &[u32]) -> Result<(), Refusal>
 }
 
 // The tests of setting up.
+#[tactic(auto, using(crate::proofs::Calls::Tests::set_up_tested, device::proofs::Tests::or_later_first, device::proofs::Tests::number_not_0), unfolding(device::specs::Refusal::refuse, device::proofs::Tests::or_later, state::specs::State::given))]
 fn test_set_up(
     s: Settings,
     remap: [u32; 16],
@@ -52,6 +54,7 @@ fn test_set_up(
 }
 
 // The tests of an activation.
+#[tactic(auto, using(crate::proofs::Calls::Tests::activation_tested, crate::proofs::Calls::Ready::tables_fit, device::proofs::Tests::or_later_first, device::proofs::Tests::number_not_0), unfolding(device::specs::Refusal::refuse, device::proofs::Tests::or_later, state::specs::State::given))]
 fn test_activation(
     s: Settings,
     remap: [u32; 16],
@@ -72,6 +75,7 @@ fn test_activation(
 }
 
 // The tests of a refresh event.
+#[tactic(auto, using(crate::proofs::Calls::Tests::refresh_tested, crate::proofs::Calls::Ready::tables_fit, device::proofs::Tests::or_later_first, device::proofs::Tests::number_not_0), unfolding(device::specs::Refusal::refuse, device::proofs::Tests::or_later, state::specs::State::given))]
 fn test_refresh(
     s: Settings,
     rows: &[u32],
@@ -87,6 +91,7 @@ fn test_refresh(
 }
 
 // Sets up: 0 everywhere in both tables, and the position to begin with.
+#[tactic(auto, using(crate::proofs::Calls::Outcomes::set_up_refused, crate::proofs::Calls::Outcomes::set_up_done), unfolding(crate::specs::Answers::set_up_call, device::specs::Refusal::outcome))]
 pub fn set_up(s: Settings, remap: [u32; 16], rows: &mut [u32], counts: &mut [u32]) -> Result<Position, Refusal>
     ensures { set_up_left result rows counts ≡ set_up s remap rows.old counts.old }
 {
@@ -114,21 +119,26 @@ fn activate_accepted(
     requires { first_failed (activation_tests s remap (lent rows.old counts.old p) row hold) ≡ 0 }
     ensures { lent rows.new counts.new result ≡ (activation_on s remap (lent rows.old counts.old p) row hold).state }
 {
-    let t = Tally {
-        tracked: p.tracked as usize,
-        spillover: p.spillover,
-    };
     let physical = device::physical_row(remap, row);
-    let after = victims::activate_units(s, rows, counts, t, physical, hold);
+    let mut t = Table {
+        rows,
+        counts,
+        tally: Tally {
+            tracked: p.tracked as usize,
+            spillover: p.spillover,
+        },
+    };
+    victims::activate(s, &mut t, physical, hold);
     Position {
         events: p.events,
         activations: p.activations + hold,
-        tracked: after.tracked as u32,
-        spillover: after.spillover,
+        tracked: t.tally.tracked as u32,
+        spillover: t.tally.spillover,
     }
 }
 
 // An activation of a logical row, which the remap gives its physical row, held open for so many units.
+#[tactic(auto, using(crate::proofs::Calls::Outcomes::activation_refused, crate::proofs::Calls::Outcomes::activation_done), unfolding(crate::specs::Answers::activation_call, crate::specs::Answers::activation_accepts, crate::specs::Answers::activation_refusal, crate::specs::Answers::activation_position))]
 pub fn activate(
     s: Settings,
     remap: [u32; 16],
@@ -168,24 +178,28 @@ fn refresh_accepted(
     requires { first_failed (refresh_tests s (lent rows.old counts.old p) picks.old) ≡ 0 }
     ensures { event_left result rows counts picks ≡ refresh_on s (lent rows.old counts.old p) picks.old }
 {
-    let t = Tally {
-        tracked: p.tracked as usize,
-        spillover: p.spillover,
+    let mut t = Table {
+        rows,
+        counts,
+        tally: Tally {
+            tracked: p.tracked as usize,
+            spillover: p.spillover,
+        },
     };
-    let picked = event::event_tables(s, rows, counts, t, p.events, picks);
-    let after = picked.tally;
+    let count = event::refresh(s, &mut t, p.events, picks);
     Refreshed {
-        count: picked.count as u32,
+        count: count as u32,
         position: Position {
             events: next_event(s, p.events),
             activations: 0,
-            tracked: after.tracked as u32,
-            spillover: after.spillover,
+            tracked: t.tally.tracked as u32,
+            spillover: t.tally.spillover,
         },
     }
 }
 
 // A refresh event; the picked rows come at the front of the lent picks.
+#[tactic(auto, using(crate::proofs::Calls::Outcomes::refresh_refused), unfolding(crate::specs::Answers::refresh_call, crate::specs::Answers::refresh_accepts, crate::specs::Answers::refresh_refusal, crate::specs::Answers::refresh_count, crate::specs::Answers::refresh_position))]
 pub fn refresh(
     s: Settings,
     rows: &mut [u32],

@@ -12,11 +12,11 @@ use Rattle.tables.proofs.Searches.{lower_place_le}
 use Rattle.summary.specs.Entries.{rows_of, counts_of, has, without_all, has_count, without_count}
 use Rattle.summary.specs.Steps.{Summary, disturb, drop_rows, empty, enter, raise, make_room, spill}
 use Rattle.summary.specs.Tables.{table}
-use Rattle.summary.specs.InnerContracts.{Holds, Held}
-use Rattle.summary.proofs.InnerContracts.Holds.{held_again, held_read, long_rows, used_rows, used_counts, row_at_place, count_at_place, holds_taken, holds_put, holds_set}
+use Rattle.summary.specs.InnerContracts.{Holds}
+use Rattle.summary.proofs.InnerContracts.Holds.{held_read, used_rows, used_counts, row_at_place, count_at_place, holds_taken, holds_put, holds_set}
 use Rattle.summary.proofs.Steps.Disturb.{disturb_exchange}
 use Rattle.summary.proofs.Entries.Lengths.{length_rows}
-use Rattle.summary.proofs.Entries.Tracked.{untracked_without_count, without_untracked}
+use Rattle.summary.proofs.Entries.Tracked.{without_untracked}
 use Rattle.summary.proofs.Entries.Columns.{equal_place_at, has_place, rows_without, counts_without, rows_raised, counts_raised, has_count_place, rows_without_count, counts_without_count, rows_entered, counts_entered}
 use Rattle.summary.proofs.Rules.Sound.{sound_drop, sound_enter, sound_without_count, sound_raise, sound_spill, sound_empty}
 

@@ -1,16 +1,18 @@
-use Rattle.std.proofs.Common.{rules, ◌≡◌, false, ◌∷◌, [], ◌-◌, ◌≤◌, ◌<◌, length, take, get_or, replicate, refl, ℕ, ◌+◌, ◌*◌, ◌/◌, ◌%◌, Bool, true, nat_eq, nat_lt, List, ◌++◌, slice_set, bit_and, bit_or, Fits, w8, w32, w64, Bor, MutBor}
-use Rattle.tables.specs.InnerContracts.{Rising, equal_place, put_in, taken_at}
-use Rattle.summary.specs.Entries.{has}
-use Rattle.summary.specs.Steps.{disturb, drop_rows, enter, in_rows}
-use Rattle.summary.specs.InnerContracts.{Tracks}
-use Rattle.summary.specs.Facts.{holds_prop}
-use Rattle.summary.specs.Kept.{always, held, places_of, all_rows, same_memory}
+-- `summary::TableLedger::clear` meets its contract.
+use Rattle.std.proofs.Common.{refl, ap, ◌∙◌, ℕ, length, replicate}
+use Rattle.summary.proofs.InnerContracts.Holds.{long_counts, held_again}
+use Rattle.summary.proofs.InnerContracts.Changes.{holds_empty}
+use Rattle.summary.proofs.Kept.{turns}
 use Rattle.summary.proofs.TableLedger.clear.Goals as goal
 
--- src/lib.rt:196:9
 pub invariant_of-self : goal.invariant_of-self
-invariant_of-self c = ?
+invariant_of-self c =
+    let a = c.args.self.now in
+    let e = c.clear_entries.ensures in
+    record { tracks = held_again (holds_empty (length a.rows.now) e.0 (e.1 ∙ ap (λ (n : ℕ). replicate n 0) (long_counts a.tracks))) }
 
--- src/lib.rt:194:5
 pub returns : goal.returns
-returns c = ?
+returns c =
+    let a = c.args.self.now in
+    let e = c.clear_entries.ensures in
+    turns (holds_empty (length a.rows.now) e.0 (e.1 ∙ ap (λ (n : ℕ). replicate n 0) (long_counts a.tracks))) (refl, refl)

@@ -1,16 +1,16 @@
-use Rattle.std.proofs.Common.{rules, ◌≡◌, false, ◌∷◌, [], ◌-◌, ◌≤◌, ◌<◌, length, take, get_or, replicate, refl, ℕ, ◌+◌, ◌*◌, ◌/◌, ◌%◌, Bool, true, nat_eq, nat_lt, List, ◌++◌, slice_set, bit_and, bit_or, Fits, w8, w32, w64, Bor, MutBor}
-use Rattle.tables.specs.InnerContracts.{Rising, equal_place, put_in, taken_at}
-use Rattle.summary.specs.Entries.{has}
-use Rattle.summary.specs.Steps.{disturb, drop_rows, enter, in_rows}
-use Rattle.summary.specs.InnerContracts.{Tracks}
-use Rattle.summary.specs.Facts.{holds_prop}
-use Rattle.summary.specs.Kept.{always, held, places_of, all_rows, same_memory}
+-- `summary::TableLedger::drop_row` meets its contract.
+use Rattle.std.proofs.Common.{refl}
+use Rattle.summary.proofs.InnerContracts.Changes.{same_drop, holds_drop_untracked}
+use Rattle.summary.proofs.Turned.{turned_as}
+use Rattle.summary.proofs.Kept.{turns}
 use Rattle.summary.proofs.TableLedger.drop_row.Goals as goal
 
--- src/lib.rt:166:5
 pub returns-then-p-self : goal.returns-then-p-self
-returns-then-p-self c = ?
+returns-then-p-self c =
+    let p = c.find-p in
+    turned_as c.remove.ensures.turns (same_drop c.args.self.now.tracks c.args.row p.result p.ensures c.if-p-self.true)
 
--- src/lib.rt:166:5
 pub returns-else-p-self : goal.returns-else-p-self
-returns-else-p-self c = ?
+returns-else-p-self c =
+    let p = c.find-p in
+    turns (holds_drop_untracked c.args.self.now.tracks c.args.row p.result p.ensures c.if-p-self.false) (refl, refl)

@@ -1,36 +1,55 @@
-use Rattle.std.proofs.Common.{rules, ◌≡◌, false, ◌∷◌, [], ◌-◌, ◌≤◌, ◌<◌, length, take, get_or, replicate, refl, ℕ, ◌+◌, ◌*◌, ◌/◌, ◌%◌, Bool, true, nat_eq, nat_lt, List, ◌++◌, slice_set, bit_and, bit_or, Fits, w8, w32, w64, Bor, MutBor}
-use Rattle.tables.specs.InnerContracts.{Rising, equal_place, put_in, taken_at}
-use Rattle.summary.specs.Entries.{has}
-use Rattle.summary.specs.Steps.{disturb, drop_rows, enter, in_rows}
-use Rattle.summary.specs.InnerContracts.{Tracks}
-use Rattle.summary.specs.Facts.{holds_prop}
-use Rattle.summary.specs.Kept.{always, held, places_of, all_rows, same_memory}
+-- `summary::TableLedger::take_top` meets its contract: the first place of the highest count is the picked entry's.
+use Rattle.std.proofs.Common.{refl, sym, ap, List, ℕ, ◌≡◌, ◌<◌}
+use native.Mathlib.Omega.{arith}
+use Rattle.summary.specs.Entries.{without_all}
+use Rattle.summary.specs.Steps.{drop_rows}
+use Rattle.summary.specs.Ledger.{named}
+use Rattle.summary.specs.Kept.{held}
+use Rattle.summary.proofs.Entries.Picks.{picks_none}
+use Rattle.summary.proofs.InnerContracts.Holds.{tracked_le}
+use Rattle.summary.proofs.InnerContracts.Picking.{top_inside, top_named}
+use Rattle.summary.proofs.Turned.{turned_as}
 use Rattle.summary.proofs.TableLedger.take_top.Goals as goal
 
--- src/lib.rt:186:13
 pub returns-then-self-eq0-clause-row : goal.returns-then-self-eq0-clause-row
-returns-then-self-eq0-clause-row c = ?
+unfolding named
+returns-then-self-eq0-clause-row c = let a = c.args.self.now in sym (picks_none 1 (held a).entries (omega (arith, a.tracks.tracked_is, c.if-self-eq0.true)))
 
--- src/lib.rt:186:13
 pub returns-then-self-eq0-clause-turned : goal.returns-then-self-eq0-clause-turned
-returns-then-self-eq0-clause-turned c = ?
+unfolding drop_rows without_all
+returns-then-self-eq0-clause-turned c =
+    let a = c.args.self.now in
+    let none = picks_none 1 (held a).entries (omega (arith, a.tracks.tracked_is, c.if-self-eq0.true)) in
+    record { keeps = tt; holds = rw none; as_many = refl; one_bank = refl; one_memory = (refl, refl) }
 
--- src/lib.rt:189:19
+some : {n : ℕ} → (n ≡ 0 → ⊥) → 0 < n
+some {n} other = omega (arith, other)
+
 pub offset_bounds-self-at : goal.offset_bounds-self-at
-offset_bounds-self-at c = ?
+offset_bounds-self-at c =
+    let h = c.args.self.now.tracks in
+    let f = c.highest-at in
+    omega (arith, top_inside h (some c.if-self-eq0.false) f.result f.ensures, tracked_le h)
 
--- src/lib.rt:189:19
 pub bounds-self-at : goal.bounds-self-at
-bounds-self-at c = ?
+bounds-self-at c =
+    let h = c.args.self.now.tracks in
+    let f = c.highest-at in
+    omega (arith, top_inside h (some c.if-self-eq0.false) f.result f.ensures, tracked_le h)
 
--- src/lib.rt:190:9
 pub remove-requires : goal.remove-requires
-remove-requires c = ?
+remove-requires c =
+    let f = c.highest-at in
+    top_inside c.args.self.now.tracks (some c.if-self-eq0.false) f.result f.ensures
 
--- src/lib.rt:184:5
 pub returns-clause-row : goal.returns-clause-row
-returns-clause-row c = ?
+unfolding named
+returns-clause-row c =
+    let f = c.highest-at in
+    top_named c.args.self.now.tracks (some c.if-self-eq0.false) f.result f.ensures
 
--- src/lib.rt:184:5
 pub returns-clause-turned : goal.returns-clause-turned
-returns-clause-turned c = ?
+returns-clause-turned c =
+    let f = c.highest-at in
+    let a = c.args.self.now in
+    turned_as c.remove.ensures.turns (ap (λ (rows : List ℕ). drop_rows rows (held a)) (top_named a.tracks (some c.if-self-eq0.false) f.result f.ensures))
