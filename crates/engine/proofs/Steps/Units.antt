@@ -30,7 +30,11 @@ pub units_room : (counters : ℕ) (victims : List ℕ) (done : ℕ) (sum : Summa
 units_room counters victims done sum few more r =
     room_more (room_repeated (disturb_each counters victims) 4 (λ most x room. room_more (room_each counters victims x room) (omega arith)) done sum r) (omega arith)
 
+-- the same step in other words
+pub turns_as : {f g : Summary → Summary} {a b : RowTable} → Turns f a b → f (held a) ≡ g (held a) → Turns g a b
+turns_as x e = record { keeps = x.keeps; holds = x.holds ∙ e; as_many = x.as_many; one_bank = x.one_bank; one_memory = x.one_memory }
+
 -- a unit more
-pub units_again : {counters : ℕ} {victims : List ℕ} {done : ℕ} {a b c : RowTable} → Turns (repeated done (disturb_each counters victims)) a b → b.counters ≡ counters → Turns (disturb_each b.counters victims) b c → Turns (repeated (done + 1) (disturb_each counters victims)) a c
+pub units_again : (counters : ℕ) (victims : List ℕ) (done : ℕ) {a b c : RowTable} → Turns (repeated done (disturb_each counters victims)) a b → Turns (disturb_each counters victims) b c → Turns (repeated (done + 1) (disturb_each counters victims)) a c
 unfolding repeated
-units_again {done = done} x e y = rw (add-one done) (turns_twice x (rw e at y))
+units_again counters victims done x y = rw (add-one done) (turns_twice x y)

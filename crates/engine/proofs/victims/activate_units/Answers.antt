@@ -9,7 +9,7 @@ use Rattle.summary.proofs.Rules.Room.{room_drop}
 use Rattle.tracker.proofs.Steps.Units.{units_drop_once}
 use Rattle.dense.specs.Facts.{bank_ordered}
 use Rattle.dense.specs.Kept.{held}
-use Rattle.engine.proofs.Steps.Units.{turns_twice, units_room, units_again}
+use Rattle.engine.proofs.Steps.Units.{turns_twice, turns_as, units_room, units_again}
 use Rattle.engine.proofs.victims.activate_units.Goals as goal
 
 pub loop-done-init : goal.loop-done-init
@@ -27,7 +27,10 @@ disturb_victims-requires-clause-diameter_bound c =
     (p.0, omega (arith, p.1, dropped.one_bank, l.one_bank), rw l.holds room)
 
 pub loop-done-preserved : goal.loop-done-preserved
-loop-done-preserved c = let l = c.loop-done.invariant in units_again l l.as_many (rw l.one_bank at c.disturb_victims.ensures)
+loop-done-preserved c =
+    let start = c.drop_row.new.self in
+    let l = c.loop-done.invariant in
+    units_again start.counters (victims start.rows c.args.diameter c.args.row) c.loop-done.done l (turns_as c.disturb_victims.ensures (rw (l.as_many, l.one_bank) refl))
 
 pub returns : goal.returns
 returns c =
@@ -37,5 +40,4 @@ returns c =
     let dropped = c.drop_row.ensures in
     let all : c.loop-done.done ≡ a.units = omega (arith, c.loop-done-test.false, c.loop-done.auto.done-end) in
     let once = units_drop_once start.counters (victims start.rows a.diameter) a.row (λ v m same. omega (arith, (victim_near start.rows a.diameter a.row p.1 v m).2)) (held start) (bank_ordered c.requires.holds) a.units p.2 in
-    let x = turns_twice dropped (rw (all, dropped.as_many, dropped.one_bank) at c.loop-done.invariant) in
-    record { keeps = x.keeps; holds = x.holds ∙ sym once; as_many = x.as_many; one_bank = x.one_bank; one_memory = x.one_memory }
+    turns_as (turns_twice dropped c.loop-done.invariant) (rw (dropped.as_many, dropped.one_bank, all) (sym once))
