@@ -19,6 +19,9 @@ use Rattle.dense.proofs.Dense.EntriesFrom.{picked_one}
 use Rattle.dense.specs.Kept.{held, same_memory, Turns}
 use Rattle.dense.specs.declared.RowTable.{RowTable}
 
+pub same_through : (a b c : RowTable) → same_memory a b → same_memory b c → same_memory a c
+same_through a b c x y = (y.0 ∙ x.0, y.1 ∙ x.1, y.2 ∙ x.2)
+
 module _ {a b : RowTable} {step : Summary → Summary} where
   pub turns : Turned a.rows a.counters (step (held a)) b.counts.now b.marks.now b.bounds.now b.tally → b.rows ≡ a.rows → b.counters ≡ a.counters → same_memory a b → Turns step a b
   turns x r c m = record { keeps = rw (r, c) x.bank; holds = x.holds; as_many = c; one_bank = r; one_memory = m }
