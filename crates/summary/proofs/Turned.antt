@@ -46,6 +46,10 @@ module _ {A : Type 0} {kept : A → Type 0} {summary : A → Summary} {places bo
   pub turned_as : {f g : Summary → Summary} {a b : A} → Turned kept summary places bound same f a b → f (summary a) ≡ g (summary a) → Turned kept summary places bound same g a b
   turned_as t e = record { keeps = t.keeps; holds = t.holds ∙ e; as_many = t.as_many; one_bank = t.one_bank; one_memory = t.one_memory }
 
+  -- a step that changes nothing
+  pub turned_none : ((a : A) → same a a) → {f : Summary → Summary} {a : A} → kept a → summary a ≡ f (summary a) → Turned kept summary places bound same f a a
+  turned_none same_self {a = a} k e = record { keeps = k; holds = e; as_many = refl; one_bank = refl; one_memory = same_self a }
+
   -- two steps
   pub turned_then : ((a b c : A) → same a b → same b c → same a c) → {f g h : Summary → Summary} {a b c : A} → Turned kept summary places bound same f a b → Turned kept summary places bound same g b c → g (f (summary a)) ≡ h (summary a) → Turned kept summary places bound same h a c
   turned_then trans {f} {g} {h} {a} {b} {c} t u e =

@@ -56,9 +56,10 @@ fn spread_unlisted<L: Ledger>(s: Settings, t: &mut L, picks: &[u32], used: usize
     requires room_for { RoomFor 64 (L.summary t.old) }
     ensures { Turned L.kept L.summary L.places L.bound L.same (spread (L.places t.old) (victims_in s) (besides (take used picks.now) (row ∷ []))) t.old t.new }
 {
-    if !summary::is_listed(picks, used, row) {
-        victims::disturb_victims(s, t, row);
+    if summary::is_listed(picks, used, row) {
+        return;
     }
+    victims::disturb_victims(s, t, row);
 }
 
 // The rows of a run that are not picked disturb their victims, ascending.

@@ -1,4 +1,4 @@
--- `victims_in`: the rows that a row disturbs are two runs, at most four rows, not the row itself, and raise counts by little.
+-- `victims_in`: the rows that a row disturbs are two runs around it, at most four rows, not the row itself.
 use mathlib.Core.Path.{◌≡◌, refl}
 use mathlib.Core.List.{List, [], ◌∷◌, ◌++◌}
 use Prim.Native.Nat.{ℕ, ◌+◌, ◌-◌, ◌/◌, ◌≤◌, ◌<◌, min, max}
@@ -13,27 +13,14 @@ use Rattle.summary.proofs.Rules.Room.{room_more, room_each}
 use Rattle.summary.proofs.Steps.Untracked.{Others}
 use Rattle.tracker.specs.Calls.{victims_in}
 
-each_append : (counters : ℕ) (xs ys : List ℕ) (s : Summary) → disturb_each counters (xs ++ ys) s ≡ disturb_each counters ys (disturb_each counters xs s)
-unfolding disturb_each
-each_append counters [] ys s = refl
-each_append counters (x ∷ xs) ys s = each_append counters xs ys (disturb counters x s)
-
 -- the row behind the highest within reach in a subarray, where the bank may end before it
 pub behind_top : (row reach end rows : ℕ) {high top : ℕ} → 0 < end → top ≡ min (row + reach) (end - 1) → high ≡ min (top + 1) rows → high ≡ min (row + 1 + reach) (min end rows)
 behind_top row reach end rows some et eh = omega arith
 
--- the victims of a row: those below it, from the lowest within its subarray on, then those above it, up to the highest there that the bank has
-pub victims_split : (s : Settings) (counters row : ℕ) (sum : Summary) {low high top : ℕ} → low ≡ max (subarray_start row) (row - s.blast_diameter / 2) → top ≡ min (row + s.blast_diameter / 2) (subarray_start row + subarray_rows - 1) → high ≡ min (top + 1) s.rows → disturb_each counters (victims_in s row) sum ≡ disturb_each counters (rows_between (row + 1) high) (disturb_each counters (rows_between low row) sum)
+-- the victims of a row are the rows around it, from the lowest within its reach to the highest that the bank has
+pub victims_around : (s : Settings) (row : ℕ) {low high top : ℕ} → low ≡ max (subarray_start row) (row - s.blast_diameter / 2) → top ≡ min (row + s.blast_diameter / 2) (subarray_start row + subarray_rows - 1) → high ≡ min (top + 1) s.rows → victims_in s row ≡ rows_between low row ++ rows_between (row + 1) high
 unfolding victims_in victims within_reach
-victims_split s counters row sum {low} {high} el et eh =
-    let reach = s.blast_diameter / 2 in
-    rw (el, behind_top row reach (subarray_start row + subarray_rows) s.rows (omega arith) et eh)
-    (each_append counters (rows_between (max (subarray_start row) (row - reach)) row) (rows_between (row + 1) (min (row + 1 + reach) (subarray_end s.rows row))) sum)
-
--- a short run raises counts by little
-pub room_between : (counters low high : ℕ) (sum : Summary) → RoomFor 128 sum → high - low ≤ 64 → RoomFor 64 (disturb_each counters (rows_between low high) sum)
-room_between counters low high sum r few =
-    room_more (room_each counters (rows_between low high) sum r) (omega (arith, between_length low high))
+victims_around s row el et eh = rw (el, behind_top row (s.blast_diameter / 2) (subarray_start row + subarray_rows) s.rows (omega arith) et eh)
 
 -- the victims of an accepted device's row are at most four
 pub victims_four : (s : Settings) (row : ℕ) → s.blast_diameter ≤ 4 → length (victims_in s row) ≤ 4

@@ -26,32 +26,6 @@ room_spread {most} counters victims_of few (row ∷ rows) sum r =
     (room_more (room_each counters (victims_of row) sum r) (omega (arith, few row))))
     (omega arith)
 
--- rows of a list disturb their victims: those left, on the summary as it is now, and all of them on the one at the start
-pub record Spreading (places : ℕ) (victims_of : ℕ → List ℕ) (whole rest : List ℕ) (start : Summary) (rows counts : List ℕ) (k spill most : ℕ) : Type 0 where
-  pub sum : Summary
-  pub holds : Holds places 4294967296 sum rows counts k spill
-  pub same : spread places victims_of rest sum ≡ spread places victims_of whole start
-  pub room : Room most sum
-
-module _ {places : ℕ} {victims_of : ℕ → List ℕ} {whole rest : List ℕ} {start : Summary} {rows counts : List ℕ} {k spill most : ℕ} (l : Spreading places victims_of whole rest start rows counts k spill most) where
-  pub spreading_ready : most ≤ 4294967295 - 128 → Held rows counts k spill × RoomFor 128 (read rows counts k spill)
-  spreading_ready few = (held_again l.holds, rw (held_read l.holds) (room_more l.room few))
-
-  pub spreading_done : rest ≡ [] → Holds places 4294967296 (spread places victims_of whole start) rows counts k spill
-  unfolding spread
-  spreading_done none = rw (← l.same, none) l.holds
-
--- one row of the rest
-pub spreading_again : {places : ℕ} {victims_of : ℕ → List ℕ} {whole : List ℕ} (row : ℕ) {rest : List ℕ} {start : Summary} {rows counts : List ℕ} {k spill most : ℕ} → Spreading places victims_of whole (row ∷ rest) start rows counts k spill most → length (victims_of row) ≤ 4 → {rows' counts' : List ℕ} {k' spill' : ℕ} → Holds (length rows) 4294967296 (disturb_each (length rows) (victims_of row) (read rows counts k spill)) rows' counts' k' spill' → Spreading places victims_of whole rest start rows' counts' k' spill' (most + 4)
-unfolding spread
-spreading_again {places} {victims_of} row l few x =
-    record {
-      sum = disturb_each places (victims_of row) l.sum;
-      holds = rw (held_read l.holds, long_rows l.holds) at x;
-      same = l.same;
-      room = room_more (room_each places (victims_of row) l.sum l.room) (omega arith);
-    }
-
 -- a row that is listed is passed over
 pub besides_one : (names : List ℕ) (row : ℕ) (rest : List ℕ) (counters : ℕ) (victims_of : ℕ → List ℕ) (sum : Summary) → spread counters victims_of (besides names (row ∷ rest)) sum ≡ spread counters victims_of (besides names rest) (spread counters victims_of (besides names (row ∷ [])) sum)
 unfolding besides spread
@@ -64,18 +38,6 @@ room_besides names row counters victims_of sum r few =
     split (in_rows row names)
     (λ on. rw on (room_more r (omega arith)))
     (λ off. rw off (room_more (room_each counters (victims_of row) sum r) (omega arith)))
-
-pub spreading_beside : {places : ℕ} {victims_of : ℕ → List ℕ} {whole : List ℕ} (names : List ℕ) (row : ℕ) (rest : List ℕ) {start : Summary} {rows counts : List ℕ} {k spill most : ℕ} → Spreading places victims_of whole (besides names (row ∷ rest)) start rows counts k spill most → length (victims_of row) ≤ 4 → {rows' counts' : List ℕ} {k' spill' : ℕ} → Holds (length rows) 4294967296 (spread (length rows) victims_of (besides names (row ∷ [])) (read rows counts k spill)) rows' counts' k' spill' → Spreading places victims_of whole (besides names rest) start rows' counts' k' spill' (most + 4)
-spreading_beside {places} {victims_of} names row rest l few x =
-    record {
-      sum = spread places victims_of (besides names (row ∷ [])) l.sum;
-      holds = rw (held_read l.holds, long_rows l.holds) at x;
-      same = sym (besides_one names row rest places victims_of l.sum) ∙ l.same;
-      room = room_besides names row places victims_of l.sum l.room few;
-    }
-
-pub spreading_more : {places : ℕ} {victims_of : ℕ → List ℕ} {whole rest : List ℕ} {start : Summary} {rows counts : List ℕ} {k spill most most' : ℕ} → Spreading places victims_of whole rest start rows counts k spill most → most ≤ most' → Spreading places victims_of whole rest start rows counts k spill most'
-spreading_more l h = record { sum = l.sum; holds = l.holds; same = l.same; room = room_more l.room h }
 
 pub below_at : {high : ℕ} {xs : List ℕ} → Below high xs → (i : ℕ) → i < length xs → get_or xs i 0 < high
 below_at below_none i h = absurd (omega arith)

@@ -1,4 +1,4 @@
--- Units of an activation, one after the other: how far counts rise by them, that the row is dropped once, and the loop over them.
+-- Units of an activation, one after the other: how far counts rise by them, and that the row is dropped once.
 use mathlib.Core.Path.{◌≡◌, refl, ◌∙◌, ap}
 use mathlib.Core.Bool.{false}
 use mathlib.Core.List.{List, [], ◌∷◌}
@@ -50,24 +50,3 @@ module _ (counters : ℕ) (victims_of : ℕ → List ℕ) (row : ℕ) where
   pub units_drop_once : Others row (victims_of row) → (sum : Summary) {high low : ℕ} → Ordered high low sum.entries → (units : ℕ) → 1 ≤ units → repeated units (activation counters victims_of row) sum ≡ repeated units (disturb_each counters (victims_of row)) (drop_rows (row ∷ []) sum)
   units_drop_once others sum o zero h = absurd (omega arith)
   units_drop_once others sum o (suc k) h = dropped_once others sum (untracked_dropped row sum o) k
-
--- the loop: the tables hold what so many units made of the summary at its start, which does not track the row
-pub record Units (places : ℕ) (victims : List ℕ) (start : Summary) (rows counts : List ℕ) (k spill done : ℕ) : Type 0 where
-  pub holds : Holds places 4294967296 (repeated done (disturb_each places victims) start) rows counts k spill
-
-module _ {places : ℕ} {victims : List ℕ} {start : Summary} {rows counts : List ℕ} {k spill done : ℕ} (l : Units places victims start rows counts k spill done) where
-  pub units_ready : length victims ≤ 4 → done < 16 → (sum : Summary) → start ≡ sum → RoomFor 192 sum → Held rows counts k spill × RoomFor 128 (read rows counts k spill)
-  units_ready few more sum same r = (
-    held_again l.holds,
-    rw (held_read l.holds, same)
-        (room_more (room_repeated (disturb_each places victims) 4 (λ most x room. room_more (room_each places victims x room) (omega arith)) done sum r) (omega arith)),
-  )
-
-  pub units_again : {rows' counts' : List ℕ} {k' spill' : ℕ} → Holds (length rows) 4294967296 (disturb_each (length rows) victims (read rows counts k spill)) rows' counts' k' spill' → Units places victims start rows' counts' k' spill' (done + 1)
-  unfolding repeated
-  units_again x = rw (add-one done) (record { holds = rw (held_read l.holds, long_rows l.holds) at x })
-
-  pub units_done : (units : ℕ) → done ≤ units → units ≤ done → Holds places 4294967296 (repeated units (disturb_each places victims) start) rows counts k spill
-  units_done units h h' =
-      let all : units ≡ done = omega arith in
-      rw all l.holds

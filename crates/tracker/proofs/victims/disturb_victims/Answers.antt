@@ -1,12 +1,6 @@
-use Rattle.std.proofs.Common.{rules, ◌≤◌, ◌<◌, ◌≡◌, ℕ, ◌+◌, ◌-◌, ◌*◌, length, ◌/◌, ◌%◌, Bool, true, false, nat_eq, nat_lt, List, [], ◌∷◌, ◌++◌, slice_index_or, slice_set, bit_and, bit_or, Fits, w8, w32, w64, Bor, MutBor}
-use Rattle.device.specs.Acceptance.{most_rows}
-use Rattle.device.specs.Hold.{repeated}
-use Rattle.summary.specs.Steps.{disturb_each, activation}
-use Rattle.summary.specs.Ledger.{Turned}
-use Rattle.summary.specs.Rules.{RoomFor}
-use Rattle.tracker.specs.Calls.{victims_in}
+-- `tracker::victims::disturb_victims` meets its contract: its victims are the rows around it.
+use Rattle.tracker.proofs.Calls.VictimsIn.{victims_around}
 use Rattle.tracker.proofs.victims.disturb_victims.Goals as goal
 
--- src/victims.rt:14:1
 pub returns : goal.returns
-returns g c = ?
+returns g c = rw (victims_around c.args.s c.args.row c.lowest_within-low.ensures c.highest_within.ensures c.min-high.ensures) c.disturb_around.ensures
