@@ -1,90 +1,69 @@
--- The highest number of a stretch and its first place: one place further, the place from the number, and the definition's place in a whole table.
+-- The highest number of a stretch and its first place, and the definition's place in a whole table.
 use mathlib.Core.Path.{◌≡◌, refl, ap, sym, ◌∙◌}
 use mathlib.Core.Logic.{⊎_elim}
 use mathlib.Core.List.{List, [], ◌∷◌}
-use Prim.Native.Nat.{ℕ, zero, suc, ◌+◌, ◌≤◌, ◌<◌, max}
+use Prim.Native.Nat.{ℕ, zero, suc, ◌+◌, ◌-◌, ◌≤◌, ◌<◌}
 use native.Mathlib.Omega.{arith}
-use native.Mathlib.Nat.{max-eq_left, max-eq_right}
 use borrow.Author.Tests.{lt-ltb, le-ltb}
 use lib.Dec.{ltb}
-use lib.ListN.{length, get_or}
+use lib.ListN.{length, get_or, take, drop, length-drop}
+use lib.Seq.{length-take-le}
+use Rattle.std.specs.List.{All, AllWithin, Contains, HoldsAt}
+use Rattle.std.proofs.lemmas.Grind.{get_or_default_zero}
+use Rattle.std.proofs.lemmas.List.{get_or-take, get_or-drop}
 use Rattle.laws.proofs.Cases.{split, le_or_lt, same_or_other}
 use Rattle.tables.specs.InnerContracts.{highest_from, highest_place}
 use Rattle.aids.specs.Bounds.{Highest, Top}
 
--- the highest of one place
-pub highest_start : (xs : List ℕ) (from : ℕ) → Highest xs from (from + 1) (get_or xs from 0)
-highest_start xs from =
-    record {
-      place = from;
-      onward = omega arith;
-      inside = omega arith;
-      there = refl;
-      above = λ i a b. let e : i ≡ from = omega arith in let q = ap (λ (n : ℕ). get_or xs n 0) e in omega arith;
-    }
+-- a part of a list: its places and its length
+module _ (xs : List ℕ) (from to : ℕ) where
+  part_at : (i d : ℕ) → i < to - from → get_or (take (to - from) (drop from xs)) i d ≡ get_or xs (from + i) d
+  part_at i d h = get_or-take (to - from) (drop from xs) i d h ∙ get_or-drop from xs i d
 
--- no number of one place more is above what is above both the best so far and the last
-above_next : {xs : List ℕ} {from i best : ℕ} → Highest xs from i best → (top : ℕ) → best ≤ top → get_or xs i 0 ≤ top → (j : ℕ) → from ≤ j → j < i + 1 → get_or xs j 0 ≤ top
-above_next {xs} {i = i} h top best_under last_under j a b =
-    ⊎_elim
-    (λ same. let q : get_or xs j 0 ≡ get_or xs i 0 = ap (λ (n : ℕ). get_or xs n 0) same in omega arith)
-    (λ other. omega (arith, h.above j a (omega arith)))
-    (same_or_other j i)
+  part_long : to ≤ length xs → length (take (to - from) (drop from xs)) ≡ to - from
+  part_long h = length-take-le (to - from) (drop from xs) (rw length-drop (omega arith))
 
--- the highest of one place more
-pub highest_next : {xs : List ℕ} {from i best : ℕ} → Highest xs from i best → Highest xs from (i + 1) (max best (get_or xs i 0))
-highest_next {xs} {from} {i} {best} h =
-    ⊎_elim
-    (λ low.
-    rw (max-eq_left {n = best} {m = get_or xs i 0} low)
-    (record { place = h.place; onward = h.onward; inside = omega (arith, h.inside); there = h.there; above = above_next h best (omega arith) low }))
-    (λ high.
-    let most : best ≤ get_or xs i 0 = omega arith in
-    rw (max-eq_right {n = best} {m = get_or xs i 0} most)
-    (record { place = i; onward = omega (arith, h.onward, h.inside); inside = omega arith; there = refl; above = above_next h (get_or xs i 0) most (omega arith) }))
-    (le_or_lt (get_or xs i 0) best)
+module _ {xs : List ℕ} {from to : ℕ} (inside : to ≤ length xs) where
+  -- a number of a part, and none of it is above it
+  pub highest_part : (best : ℕ) → Contains (take (to - from) (drop from xs)) best → All (λ (x : ℕ). x ≤ best) (take (to - from) (drop from xs)) → Highest xs from to best
+  highest_part best there most =
+      let long = part_long xs from to inside in
+      let k : ℕ = there.0 in
+      let less : k < to - from = omega (arith, there.1) in
+      record {
+        place = from + k;
+        onward = omega arith;
+        inside = omega arith;
+        there = sym (get_or_default_zero xs (from + k) best (omega arith)) ∙ (sym (part_at xs from to k best less) ∙ there.2);
+        above = λ i a b.
+            let back : from + (i - from) ≡ i = omega arith in
+            rw (part_at xs from to (i - from) 0 (omega arith), back) at (most (i - from) 0 (omega arith));
+      }
 
--- the highest number stands at none of the places passed: it is still ahead
-pub record Passed (xs : List ℕ) (from to best i : ℕ) : Type 0 where
-  pub high : Highest xs from to best
-  pub onward : from ≤ i
-  pub ahead : i ≤ high.place
-  pub none : (j : ℕ) → from ≤ j → j < i → get_or xs j 0 ≡ best → ⊥
+  -- the first place of the highest number of a part
+  module _ {best : ℕ} (h : Highest xs from to best) where
+    pub some_highest : AllWithin (λ (y : ℕ). y ≡ best → ⊥) (take (to - from) (drop from xs)) 0 (length (take (to - from) (drop from xs))) → ⊥
+    some_highest none =
+        let long = part_long xs from to inside in
+        let i = h.place - from in
+        let back : from + i ≡ h.place = omega (arith, h.onward) in
+        none i 0 (omega arith) (omega (arith, h.onward, h.inside)) (part_at xs from to i 0 (omega (arith, h.onward, h.inside)) ∙ rw back h.there)
 
-pub passed_start : {xs : List ℕ} {from to best : ℕ} → Highest xs from to best → Passed xs from to best from
-passed_start h = record { high = h; onward = omega arith; ahead = h.onward; none = λ j a b e. omega arith }
-
-pub passed_next : {xs : List ℕ} {from to best i : ℕ} → Passed xs from to best i → (get_or xs i 0 ≡ best → ⊥) → Passed xs from to best (i + 1)
-passed_next {xs} {i = i} p n =
-    record {
-      high = p.high;
-      onward = omega (arith, p.onward);
-      ahead =
-          ⊎_elim
-          (λ same. absurd (n (ap (λ (k : ℕ). get_or xs k 0) same ∙ p.high.there)))
-          (λ other. omega (arith, p.ahead))
-          (same_or_other i p.high.place);
-      none = λ j a b e.
-          ⊎_elim
-          (λ same. n (sym (ap (λ (k : ℕ). get_or xs k 0) same) ∙ e))
-          (λ other. p.none j a (omega arith) e)
-          (same_or_other j i);
-    }
-
--- where it stands then is its first place
-pub passed_top : {xs : List ℕ} {from to best i : ℕ} → Passed xs from to best i → get_or xs i 0 ≡ best → Top xs from to i
-passed_top {xs} {best = best} p e =
-    record {
-      onward = p.onward;
-      inside = omega (arith, p.ahead, p.high.inside);
-      highest = λ j a b. omega (arith, p.high.above j a b);
-      first = λ j a b.
-          let few : get_or xs j 0 ≤ best = p.high.above j a (omega (arith, p.ahead, p.high.inside)) in
-          ⊎_elim
-          (λ same. absurd (p.none j a b same))
-          (λ other. omega arith)
-          (same_or_other (get_or xs j 0) best);
-    }
+    pub first_top : (i : ℕ) → i < length (take (to - from) (drop from xs)) → HoldsAt (λ (y : ℕ). y ≡ best) (take (to - from) (drop from xs)) i
+        → AllWithin (λ (y : ℕ). y ≡ best → ⊥) (take (to - from) (drop from xs)) 0 i → Top xs from to (from + i)
+    first_top i l here before =
+        let long = part_long xs from to inside in
+        let e : get_or xs (from + i) 0 ≡ best = sym (part_at xs from to i 0 (omega arith)) ∙ here 0 in
+        record {
+          onward = omega arith;
+          inside = omega arith;
+          highest = λ j a b. omega (arith, h.above j a b);
+          first = λ j a b.
+              let back : from + (j - from) ≡ j = omega arith in
+              let few : get_or xs j 0 ≤ best = h.above j a (omega arith) in
+              let other : get_or xs j 0 ≡ best → ⊥ = λ q. before (j - from) 0 (omega arith) (omega arith) (part_at xs from to (j - from) 0 (omega arith) ∙ rw back q) in
+              ⊎_elim (λ same. absurd (other same)) (λ apart. omega arith) (same_or_other (get_or xs j 0) best);
+        }
 
 -- the first place of the highest number of all is the one that the definition finds
 none_higher : (place best at : ℕ) (cs : List ℕ) → ((i : ℕ) → i < length cs → get_or cs i 0 ≤ best) → highest_from place best at cs ≡ place

@@ -4,6 +4,7 @@ use mathlib.Core.Logic.{⊎_elim}
 use mathlib.Core.List.{List, [], ◌∷◌}
 use Prim.Native.Nat.{ℕ, zero, suc, ◌+◌, ◌-◌, ◌*◌, ◌/◌, ◌≤◌, ◌<◌}
 use native.Mathlib.Omega.{arith}
+use Rattle.std.specs.Prelude.{Some, None}
 use lib.ListN.{length, get_or, set, length-set, get_or-eq_default}
 use lib.Seq.{get_or-set_other}
 use Rattle.device.specs.Acceptance.{most_rows}
@@ -19,22 +20,15 @@ total_less (x ∷ xs) zero v l h = omega arith
 total_less (x ∷ xs) (suc i) v l h = omega (arith, total_less xs i v (omega arith) h)
 
 -- a bound is lowered, and the bounds still hold
-lowered : {counts bounds : List ℕ} (i v : ℕ) → i < length bounds → v < get_or bounds i 0 → Capped counts (set bounds i v) → Tried counts bounds (set bounds i v) most_rows
-lowered {counts} {bounds} i v l h c =
-    record {
-      capped = c;
-      range = omega arith;
-      falls = omega (arith, total_less bounds i v l h);
-      lowered = λ e. total_less bounds i v l h;
-      found = λ k. absurd (omega arith);
-    }
+lowered : (counts bounds : List ℕ) (i v : ℕ) → i < length bounds → v < get_or bounds i 0 → Capped counts (set bounds i v) → Tried counts bounds (set bounds i v) None
+lowered counts bounds i v l h c = (c, total_less bounds i v l h)
 
 -- a group's bound that is too high
 module _ {counts bounds : List ℕ} (long : length counts ≡ most_rows) (c : Capped counts bounds) (g b : ℕ) (tg : Top bounds 4096 4160 g) (tb : Top bounds ((g - 4096) * 64) ((g - 4096) * 64 + 64) b) where
-  pub try_group : get_or bounds b 0 < get_or bounds g 0 → Tried counts bounds (set bounds g (get_or bounds b 0)) most_rows
+  pub try_group : get_or bounds b 0 < get_or bounds g 0 → Tried counts bounds (set bounds g (get_or bounds b 0)) None
   try_group h =
       let l : g < length bounds = omega (arith, c.nested.bounds_long, tg.inside) in
-      lowered g (get_or bounds b 0) l h
+      lowered counts bounds g (get_or bounds b 0) l h
       (record {
         nested =
             record {
@@ -64,10 +58,10 @@ module _ {counts bounds : List ℕ} (c : Capped counts bounds) (g b r : ℕ) (tg
   block_low : b < 4096
   block_low = omega (arith, tg.inside, in_group)
 
-  pub try_block : get_or counts r 0 < get_or bounds b 0 → Tried counts bounds (set bounds b (get_or counts r 0)) most_rows
+  pub try_block : get_or counts r 0 < get_or bounds b 0 → Tried counts bounds (set bounds b (get_or counts r 0)) None
   try_block h =
       let l : b < length bounds = omega (arith, c.nested.bounds_long, block_low) in
-      lowered b (get_or counts r 0) l h
+      lowered counts bounds b (get_or counts r 0) l h
       (record {
         nested =
             record {
@@ -88,35 +82,22 @@ module _ {counts bounds : List ℕ} (c : Capped counts bounds) (g b r : ℕ) (tg
             (same_or_other (row / 64) b);
       })
 
-  pub try_row : get_or bounds g 0 ≤ get_or bounds b 0 → get_or bounds b 0 ≤ get_or counts r 0 → Tried counts bounds bounds r
+  pub try_row : get_or bounds g 0 ≤ get_or bounds b 0 → get_or bounds b 0 ≤ get_or counts r 0 → Tried counts bounds bounds (Some r)
   try_row hg hb =
-      let inside : r < most_rows = omega (arith, block_low, tr.inside) in
-      record {
-        capped = c;
-        range = omega arith;
-        falls = omega arith;
-        lowered = λ e. absurd (omega arith);
-        found = λ q.
-            record {
-              onward = omega arith;
-              inside = inside;
-              highest = λ i a l. omega (arith, c.most i, c.nested.under (i / 64) (omega arith), tg.highest (4096 + i / 64 / 64) (omega arith) (omega arith));
-              first = λ i a l.
-                  ⊎_elim
-                  (λ lower_block.
-                  ⊎_elim
-                  (λ lower_group. omega (arith, c.most i, c.nested.under (i / 64) (omega (arith, block_low)), tg.first (4096 + i / 64 / 64) (omega arith) lower_group))
-                  (λ same_group. omega (arith, c.most i, tb.first (i / 64) (omega (arith, in_group)) lower_block))
-                  (le_or_lt (suc (4096 + i / 64 / 64)) g))
-                  (λ same_block. omega (arith, tr.first i (omega (arith, in_block)) l))
-                  (le_or_lt (suc (i / 64)) b);
-            };
-      }
-
--- after a try that lowered a bound, the next lowers one again or finds the row
-pub tried_less : {counts bounds bounds' : List ℕ} {row : ℕ} → Tried counts bounds bounds' row → (was : ℕ) → was ≡ most_rows → total bounds' + (row - 262143) < total bounds + (was - 262143)
-tried_less {row = row} t was e =
-    ⊎_elim
-    (λ again. omega (arith, t.lowered again))
-    (λ done. omega (arith, t.falls, t.range))
-    (same_or_other row most_rows)
+      let inside : r < most_rows = omega (arith, block_low, tr.inside) in (
+        c,
+        record {
+          onward = omega arith;
+          inside = inside;
+          highest = λ i a l. omega (arith, c.most i, c.nested.under (i / 64) (omega arith), tg.highest (4096 + i / 64 / 64) (omega arith) (omega arith));
+          first = λ i a l.
+              ⊎_elim
+              (λ lower_block.
+              ⊎_elim
+              (λ lower_group. omega (arith, c.most i, c.nested.under (i / 64) (omega (arith, block_low)), tg.first (4096 + i / 64 / 64) (omega arith) lower_group))
+              (λ same_group. omega (arith, c.most i, tb.first (i / 64) (omega (arith, in_group)) lower_block))
+              (le_or_lt (suc (4096 + i / 64 / 64)) g))
+              (λ same_block. omega (arith, tr.first i (omega (arith, in_block)) l))
+              (le_or_lt (suc (i / 64)) b);
+        },
+      )

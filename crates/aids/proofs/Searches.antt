@@ -1,4 +1,4 @@
--- The search for the first row at a count: no row before one is at it (`Clear`), and what the search comes to (`Sought`).
+-- The search for the first row at a count: no row before one is at it (`Clear`), and what the search comes to (`FirstAt`).
 use mathlib.Core.Path.{◌≡◌, refl, ap, sym, ◌∙◌}
 use mathlib.Core.Logic.{⊎_elim}
 use mathlib.Core.List.{List, [], ◌∷◌}
@@ -7,10 +7,11 @@ use native.Mathlib.Omega.{arith}
 use borrow.Author.Tests.{eq-eqb, ne_eqb}
 use lib.Count.{count_trailing_zeros}
 use lib.ListN.{length, get_or}
+use Rattle.std.specs.Prelude.{Some, None}
 use Rattle.laws.proofs.Cases.{le_or_lt}
 use Rattle.device.specs.Acceptance.{most_rows}
 use Rattle.tables.specs.InnerContracts.{equal_place}
-use Rattle.aids.specs.Marks.{Marked, Clear, Sought, EmptyFrom, Shows, at_number, in_use}
+use Rattle.aids.specs.Marks.{Marked, Clear, FirstAt, EmptyFrom, Shows, at_number, in_use}
 use Rattle.aids.proofs.Stores.{word_positive}
 use Rattle.aids.proofs.Shown.{shows_none, lowest_first}
 
@@ -23,16 +24,6 @@ module _ {xs : List ℕ} {x : ℕ} where
 
   pub clear_less : {at : ℕ} → Clear xs x at → (to : ℕ) → to ≤ at → Clear xs x to
   clear_less c to h = record { none = λ i l e. c.none i (omega arith) e }
-
-  -- the search has found its place, or has come to an end
-  pub found_at : {at : ℕ} (end : ℕ) → Clear xs x at → get_or xs at 0 ≡ x → at < most_rows → Sought xs x end at
-  found_at end c e h = record { range = omega arith; found = λ l. (e, c); missed = λ z. absurd (omega arith) }
-
-  pub missed_all : {end : ℕ} → Clear xs x end → Sought xs x end most_rows
-  missed_all c = record { range = omega arith; found = λ l. absurd (omega arith); missed = λ z. c }
-
-  pub found_part : {end place : ℕ} (to : ℕ) → Sought xs x end place → (place ≡ most_rows → ⊥) → Sought xs x to place
-  found_part to s n = record { range = s.range; found = s.found; missed = λ z. absurd (n z) }
 
   module _ {word from end : ℕ} (s : Shows (at_number xs x) word from end) (c : Clear xs x from) where
     -- the rows that a word shows
@@ -68,12 +59,11 @@ none_is x [] n = refl
 none_is x (y ∷ ys) n = rw (ne_eqb y x (n 0 (omega arith))) (ap suc (none_is x ys (λ i h. n (suc i) (omega arith))))
 
 module _ {xs : List ℕ} {x : ℕ} where
-  pub sought_found : {end place : ℕ} → length xs ≡ most_rows → Sought xs x end place → (place ≡ most_rows → ⊥) → place ≡ equal_place x xs
-  sought_found {end} {place} long s n =
-      let inside : place < most_rows = ⊎_elim (λ out. absurd (n (omega (arith, s.range)))) (λ l. l) (le_or_lt most_rows place) in
-      let f = s.found inside in
-      sym (first_is x xs place (omega arith) f.0 (λ j h e. f.1.none j h e))
+  pub found_first : {place : ℕ} → length xs ≡ most_rows → (place < most_rows) × (get_or xs place 0 ≡ x) × Clear xs x place → FirstAt xs x (Some place)
+  found_first {place} long f =
+      let inside : place < length xs = omega (arith, f.0) in
+      (inside, sym (first_is x xs place inside f.1 f.2.none))
 
-  pub sought_none : {at rows : ℕ} → length xs ≡ most_rows → 0 < x → Clear xs x at → EmptyFrom xs rows → rows ≤ at → most_rows ≡ equal_place x xs
-  sought_none {at} {rows} long p c empty h =
-      sym (none_is x xs (λ i l e. ⊎_elim (λ below. c.none i below e) (λ above. omega (arith, empty.zero_at i (omega arith))) (le_or_lt (suc i) at)) ∙ long)
+  pub found_none : {at rows : ℕ} → 0 < x → Clear xs x at → EmptyFrom xs rows → rows ≤ at → FirstAt xs x None
+  found_none {at} {rows} p c empty h =
+      sym (none_is x xs (λ i l e. ⊎_elim (λ below. c.none i below e) (λ above. omega (arith, empty.zero_at i (omega arith))) (le_or_lt (suc i) at)))

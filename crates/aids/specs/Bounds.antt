@@ -1,5 +1,5 @@
 -- Upper bounds of counts: one for each block of 64 rows, and behind these one for each group of 64 blocks. A bound may be too high.
-use Rattle.std.specs.Prelude.{ℕ, ◌+◌, ◌/◌, ◌≤◌, ◌<◌, ◌≡◌, List, [], ◌∷◌, length, get_or}
+use Rattle.std.specs.Prelude.{ℕ, ◌+◌, ◌/◌, ◌≤◌, ◌<◌, ◌≡◌, List, [], ◌∷◌, length, get_or, Option, Some, None}
 use Rattle.device.specs.Acceptance.{most_rows}
 
 -- the blocks, and all bounds: theirs, and one for each 64 of them
@@ -45,10 +45,7 @@ unfoldable pub total : List ℕ → ℕ
 total [] = 0
 total (x ∷ xs) = x + total xs
 
--- what a try for the highest count came to: the row, or `most_rows` where a bound was too high and was lowered
-pub record Tried (counts bounds bounds' : List ℕ) (row : ℕ) : Type 0 where
-  pub capped : Capped counts bounds'
-  pub range : row ≤ most_rows
-  pub falls : total bounds' ≤ total bounds
-  pub lowered : row ≡ most_rows → total bounds' < total bounds
-  pub found : row < most_rows → Top counts 0 most_rows row
+-- what a try for the highest count came to: the row, or none where a bound was too high and was lowered
+abbrev pub Tried : List ℕ → List ℕ → List ℕ → Option ℕ → Type 0
+Tried counts bounds bounds' (Some row) = Capped counts bounds' × Top counts 0 most_rows row
+Tried counts bounds bounds' None = Capped counts bounds' × (total bounds' < total bounds)

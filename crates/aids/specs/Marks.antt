@@ -1,8 +1,9 @@
 -- Marks of places, 64 to a word. A table of counts has a mark for each row, and behind these words a mark for each of them. A mark may stand where
 -- nothing is to be found; none may be missing.
-use Rattle.std.specs.Prelude.{ℕ, ◌+◌, ◌-◌, ◌/◌, ◌%◌, ◌^◌, ◌≤◌, ◌<◌, ◌≡◌, List, length, get_or, set}
+use Rattle.std.specs.Prelude.{ℕ, ◌+◌, ◌-◌, ◌/◌, ◌%◌, ◌^◌, ◌≤◌, ◌<◌, ◌≡◌, List, length, get_or, set, Option, Some, None}
 use Rattle.std.specs.Int.Bits.{bit_or, bit_xor}
 use Rattle.device.specs.Acceptance.{most_rows}
+use Rattle.tables.specs.InnerContracts.{equal_place}
 
 -- the words of a mark for each row, and all words: those, and one for each 64 of them
 abbrev pub row_words : ℕ
@@ -37,11 +38,15 @@ pub record Marked (counts marks : List ℕ) : Type 0 where
 pub record Clear (xs : List ℕ) (x place : ℕ) : Type 0 where
   pub none : (i : ℕ) → i < place → get_or xs i 0 ≡ x → ⊥
 
--- what a search comes to: the first place that holds the number, or `most_rows` where none before an end does
-pub record Sought (xs : List ℕ) (x end place : ℕ) : Type 0 where
-  pub range : place ≤ most_rows
-  pub found : place < most_rows → (get_or xs place 0 ≡ x) × Clear xs x place
-  pub missed : place ≡ most_rows → Clear xs x end
+-- what a search comes to: the first place that holds the number, or none where none before an end does
+abbrev pub Sought : List ℕ → ℕ → ℕ → Option ℕ → Type 0
+Sought xs x end (Some place) = (place < most_rows) × (get_or xs place 0 ≡ x) × Clear xs x place
+Sought xs x end None = Clear xs x end
+
+-- the first place of a number in a table, or none where it stands nowhere
+abbrev pub FirstAt : List ℕ → ℕ → Option ℕ → Type 0
+FirstAt xs x (Some place) = (place < length xs) × (place ≡ equal_place x xs)
+FirstAt xs x None = length xs ≡ equal_place x xs
 
 -- a place holds a number; a word has a mark
 abbrev pub at_number : List ℕ → ℕ → ℕ → Type 0

@@ -1,18 +1,10 @@
 // Upper bounds of the counts of each block of 64 rows and of each group of 64 blocks: raised with a count, lowered where a search finds them too high.
-ghost use Rattle.std.specs.Prelude.{◌≡◌, ◌≤◌, ◌<◌, max, length};
+ghost use Rattle.std.specs.Prelude.{◌≡◌, ◌≤◌, ◌<◌, length};
 ghost use Rattle.device.specs.Acceptance.{most_rows};
 ghost use Rattle.tables.specs.InnerContracts.{highest_place};
 ghost use Rattle.aids.specs.Bounds.{Nested, Capped, Covers, Highest, Top, Tried};
 
-const ROWS: usize = 262_144;
-
 const BLOCKS: usize = 4_096;
-
-fn larger(a: u32, b: u32) -> u32
-    ensures { result ≡ max a b }
-{
-    if a < b { b } else { a }
-}
 
 // A row's bounds rise to its count.
 pub fn cover(bounds: &mut [u32], row: usize, count: u32)
@@ -20,9 +12,9 @@ pub fn cover(bounds: &mut [u32], row: usize, count: u32)
     ensures { Covers bounds.old bounds.new row count }
 {
     let b = row / 64;
-    bounds[b] = larger(bounds[b], count);
+    bounds[b] = bounds[b].max(count);
     let g = BLOCKS + b / 64;
-    bounds[g] = larger(bounds[g], count);
+    bounds[g] = bounds[g].max(count);
 }
 
 // The highest number of those from one place on and below another.
@@ -30,13 +22,7 @@ fn highest(t: &[u32], from: usize, to: usize) -> u32
     requires { (from < to) × (to ≤ length t.now) }
     ensures { Highest t.now from to result }
 {
-    let mut best = t[from];
-    let mut i = from + 1;
-    while i < to {
-        best = larger(best, t[i]);
-        i += 1;
-    }
-    best
+    *t[from..to].iter().max().unwrap()
 }
 
 // Its first place. Two passes, of which the longer one has no branch.
@@ -45,15 +31,11 @@ fn first_highest(t: &[u32], from: usize, to: usize) -> usize
     ensures { Top t.now from to result }
 {
     let best = highest(t, from, to);
-    let mut i = from;
-    while t[i] != best {
-        i += 1;
-    }
-    i
+    from + t[from..to].iter().position(|x| *x == best).unwrap()
 }
 
-// The first row of the highest count, or `ROWS` where a bound was too high and is lowered.
-fn try_top(counts: &[u32], bounds: &mut [u32]) -> usize
+// The first row of the highest count, or none where a bound was too high and is lowered.
+fn try_top(counts: &[u32], bounds: &mut [u32]) -> Option<usize>
     requires { (length counts.now ≡ most_rows) × Capped counts.now bounds.old }
     ensures { Tried counts.now bounds.old bounds.new result }
 {
@@ -63,15 +45,15 @@ fn try_top(counts: &[u32], bounds: &mut [u32]) -> usize
     let bound = bounds[b];
     if bound < bounds[g] {
         bounds[g] = bound;
-        return ROWS;
+        return None;
     }
     let row = first_highest(counts, b * 64, b * 64 + 64);
     let count = counts[row];
     if count < bound {
         bounds[b] = count;
-        return ROWS;
+        return None;
     }
-    row
+    Some(row)
 }
 
 // The first row of the highest count.
@@ -79,9 +61,9 @@ pub fn top_row(counts: &[u32], bounds: &mut [u32]) -> usize
     requires { (length counts.now ≡ most_rows) × Capped counts.now bounds.old }
     ensures { (result ≡ highest_place counts.now) × (result < most_rows) × Capped counts.now bounds.new }
 {
-    let mut row = try_top(counts, bounds);
-    while row == ROWS {
-        row = try_top(counts, bounds);
+    loop {
+        if let Some(row) = try_top(counts, bounds) {
+            return row;
+        }
     }
-    row
 }

@@ -1,29 +1,18 @@
 -- `Bank`: the summary in its table breaks no rule of a summary, and a bank from which rows were dropped is one.
 use mathlib.Core.Path.{◌≡◌, sym, ap, ◌∙◌}
-use mathlib.Core.Logic.{⊎_elim}
 use mathlib.Core.List.{List, [], ◌∷◌}
 use Prim.Native.Nat.{ℕ, zero, suc, ◌+◌, ◌≤◌, ◌<◌}
 use native.Mathlib.Omega.{arith}
 use lib.ListN.{length, get_or}
-use Rattle.laws.proofs.Cases.{le_or_lt}
 use Rattle.summary.specs.Steps.{Summary, drop_rows}
-use Rattle.summary.specs.Rules.{Floor, floor_none, floor_more, Ordered, ordered_none, ordered_more, Sound}
+use Rattle.summary.specs.Rules.{Floor, floor_none, floor_more, Sound}
 use Rattle.summary.proofs.Entries.Lengths.{length_without_all}
-use Rattle.summary.proofs.Rules.Order.{ordered_from}
 use Rattle.aids.specs.Bounds.{Capped}
 use Rattle.aids.proofs.BoundsCapped.{capped_fewer}
 use Rattle.dense.specs.declared.Tally.{Tally}
 use Rattle.dense.specs.Dense.{entries_from, dense, Bank}
+use Rattle.dense.specs.Facts.{bank_ordered}
 use Rattle.dense.specs.InnerContracts.{Left, Turned}
-
--- rows from the bank's end on have no count: the tracked rows ascend below it
-ordered_rows : (high k : ℕ) (counts : List ℕ) → ((i : ℕ) → high ≤ k + i → get_or counts i 0 ≡ 0) → Ordered high k (entries_from k counts)
-unfolding entries_from
-ordered_rows high k [] none = ordered_none
-ordered_rows high k (zero ∷ counts) none = ordered_from k (ordered_rows high (suc k) counts (λ i h. none (suc i) (omega arith))) (omega arith)
-ordered_rows high k (suc c ∷ counts) none =
-    ordered_more k (record { row = k; count = suc c }) (ordered_rows high (suc k) counts (λ i h. none (suc i) (omega arith))) (omega arith)
-    (⊎_elim (λ past. absurd (omega (arith, none 0 (omega arith)))) (λ below. below) (le_or_lt high k))
 
 -- a number that no row's count is below
 floor_rows : (low k : ℕ) (counts : List ℕ) → ((i : ℕ) → 0 < get_or counts i 0 → low ≤ get_or counts i 0) → Floor low (entries_from k counts)
@@ -40,7 +29,7 @@ bank_sound {rows} {counts = counts} {t = t} b =
     record {
       floor = floor_rows t.spillover 0 counts b.kept.floor;
       positive = floor_rows 1 0 counts (λ i h. h);
-      ordered = ordered_rows rows 0 counts (λ i h. b.inside.zero_at i (omega arith));
+      ordered = bank_ordered b;
       fits = omega (arith, b.kept.counted, b.fits);
     }
 

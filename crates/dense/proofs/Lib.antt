@@ -2,3 +2,4 @@
 pub mod Dense
 pub mod InnerContracts
 pub mod Bridge
+pub mod Keeping

@@ -2,19 +2,15 @@
 // An internal layer: its callers keep the tables as `Bank` says.
 #![tactic(auto)]
 
-ghost use Rattle.std.specs.Prelude.{◌≡◌, ◌∷◌, [], ◌++◌, ◌+◌, ◌-◌, ◌≤◌, ◌<◌, length, get_or};
+ghost use Rattle.std.specs.Prelude.{◌≡◌, ◌≤◌, ◌<◌, length, get_or};
 ghost use Rattle.device.specs.Acceptance.{most_rows};
-ghost use Rattle.device.specs.Victims.{rows_between};
-ghost use Rattle.summary.specs.Entries.{picks as picks_of};
-ghost use Rattle.summary.specs.Steps.{disturb, disturb_each, drop_rows};
-ghost use Rattle.summary.specs.Rules.{RoomFor};
-ghost use Rattle.summary.specs.InnerContracts.{Names, picked_out};
+ghost use Rattle.tables.specs.InnerContracts.{highest_place};
 ghost use Rattle.aids.specs.Marks.{Marked, EmptyFrom};
-ghost use Rattle.aids.specs.Bounds.{all_bounds, Nested, Capped};
+ghost use Rattle.aids.specs.Bounds.{all_bounds, Capped};
 ghost use Rattle.dense.specs.Dense.{Kept};
-ghost use Rattle.dense.specs.InnerContracts.{summary, DisturbedIn, Leaves, TracksNothing, Raises, Holds, Turns};
+ghost use Rattle.dense.specs.InnerContracts.{summary, DisturbedIn, TracksNothing};
 
-const ROWS: usize = 262_144;
+use summary::ledger::Ledger;
 
 // The number of tracked rows, the spillover, and a row before which none is at the spillover.
 #[derive(Clone, Copy)]
@@ -24,13 +20,6 @@ pub struct Tally {
     pub hint: u32,
 }
 
-// A row that was taken out, and the tally then.
-#[derive(Clone, Copy)]
-pub struct Taken {
-    pub row: usize,
-    pub tally: Tally,
-}
-
 // How many rows were picked, and the tally then.
 #[derive(Clone, Copy)]
 pub struct Picked {
@@ -38,38 +27,21 @@ pub struct Picked {
     pub tally: Tally,
 }
 
-// A row is dropped if it is tracked.
-pub fn drop_row(counts: &mut [u32], marks: &mut [u64], t: Tally, row: usize) -> Tally
-    requires { Kept counts.old marks.old t × (row < most_rows) }
-    ensures { Leaves counts marks t (drop_rows (row ∷ [])) result }
-{
-    if counts[row] == 0 {
-        return t;
-    }
-    aids::remove(counts, marks, row);
-    Tally {
-        tracked: t.tracked - 1,
-        spillover: t.spillover,
-        hint: t.hint,
-    }
+// A bank of so many rows with so many counters: the lent counts with their search aids, and the tally that goes with them. What an activation calls
+// is inlined: behind a reference that is handed on, each number would be read from memory anew, which takes 10 to 38 % more time.
+#[derive(Drop)]
+pub struct RowTable<'a> {
+    pub rows: u32,
+    pub counters: u32,
+    pub counts: &'a mut [u32],
+    pub marks: &'a mut [u64],
+    pub bounds: &'a mut [u32],
+    pub tally: Tally,
 }
 
-// The rows from one on and below another are dropped.
-pub fn drop_run(counts: &mut [u32], marks: &mut [u64], t: Tally, low: usize, high: usize) -> Tally
-    requires { Kept counts.old marks.old t × (high ≤ most_rows) }
-    ensures { Leaves counts marks t (drop_rows (rows_between low high)) result }
-{
-    let mut left = t;
-    let mut row = low;
-    while row < high {
-        left = drop_row(counts, marks, left, row);
-        row += 1;
-    }
-    left
-}
-
-// No place is free: the lowest row at the spillover makes room, or the spillover rises.
-fn disturb_full(rows: usize, counts: &mut [u32], marks: &mut [u64], t: Tally, row: usize) -> Tally
+// No place is free: the lowest row at the spillover makes room, or the spillover rises. It takes the slices apart: a method cannot lend two of them to be read.
+#[inline(always)]
+fn disturb_full(rows: u32, counts: &mut [u32], marks: &mut [u64], t: Tally, row: usize) -> Tally
     requires { Kept counts.old marks.old t × EmptyFrom counts.old rows × (rows ≤ most_rows) × (row < rows) × (get_or counts.old row 0 ≡ 0) × (t.spillover < 4294967295) }
     ensures { DisturbedIn rows t.tracked row (summary counts.old t) counts.old counts.new marks.new result }
 {
@@ -81,14 +53,13 @@ fn disturb_full(rows: usize, counts: &mut [u32], marks: &mut [u64], t: Tally, ro
             hint: 0,
         };
     }
-    let found = aids::first_at(rows, counts, marks, t.hint as usize, s);
-    if found == ROWS {
+    let Some(found) = aids::first_at(rows as usize, counts, marks, t.hint as usize, s) else {
         return Tally {
             tracked: t.tracked,
             spillover: s + 1,
             hint: 0,
         };
-    }
+    };
     aids::remove(counts, marks, found);
     aids::enter(counts, marks, row, s + 1);
     Tally {
@@ -98,130 +69,101 @@ fn disturb_full(rows: usize, counts: &mut [u32], marks: &mut [u64], t: Tally, ro
     }
 }
 
-// A row that is not tracked is disturbed: it is entered where a place is free.
-fn disturb_untracked(
-    rows: usize,
-    counters: u32,
-    counts: &mut [u32],
-    marks: &mut [u64],
-    t: Tally,
-    row: usize,
-) -> Tally
-    requires { Kept counts.old marks.old t × EmptyFrom counts.old rows × (rows ≤ most_rows) × (row < rows) × (get_or counts.old row 0 ≡ 0) × (t.spillover < 4294967295) × (t.tracked ≤ counters) }
-    ensures { DisturbedIn rows counters row (summary counts.old t) counts.old counts.new marks.new result }
+// The first row of the highest count. The counts stay, and are lent as `disturb_full` wants them.
+fn top_row(counts: &mut [u32], bounds: &mut [u32]) -> usize
+    requires { (length counts.old ≡ most_rows) × Capped counts.old bounds.old }
+    ensures { (result ≡ highest_place counts.old) × (result < most_rows) × Capped counts.old bounds.new × (counts.new ≡ counts.old) }
 {
-    if t.tracked < counters {
-        aids::enter(counts, marks, row, t.spillover + 1);
-        return Tally {
-            tracked: t.tracked + 1,
-            spillover: t.spillover,
-            hint: t.hint,
-        };
-    }
-    disturb_full(rows, counts, marks, t, row)
+    aids::top_row(counts, bounds)
 }
 
-// A tracked row's count rises by 1 with its bounds; whether the row is tracked.
-fn raise(counts: &mut [u32], bounds: &mut [u32], row: usize) -> bool
-    requires { (row < length counts.old) × (row < most_rows) × Nested bounds.old × (get_or counts.old row 0 < 4294967295) }
-    ensures { Raises counts.old bounds.old row result counts.new bounds.new }
-{
-    let old = counts[row];
-    if old == 0 {
-        return false;
-    }
-    counts[row] = old + 1;
-    aids::cover(bounds, row, old + 1);
-    true
-}
+impl<'a> RowTable<'a> {
+    ghost use Rattle.dense.specs.Kept.{IsNew, Disturbs};
 
-// A row that is not tracked is disturbed, and its bounds rise to its count.
-fn disturb_other(
-    rows: usize,
-    counters: u32,
-    counts: &mut [u32],
-    marks: &mut [u64],
-    bounds: &mut [u32],
-    t: Tally,
-    row: usize,
-) -> Tally
-    requires { Holds rows counters counts.old marks.old bounds.old t × (row < rows) × (get_or counts.old row 0 ≡ 0) × (t.spillover < 4294967295) }
-    ensures { Turns rows counters counts marks bounds t (disturb counters row) result }
-{
-    let after = disturb_untracked(rows, counters, counts, marks, t, row);
-    aids::cover(bounds, row, counts[row]);
-    after
-}
-
-// The rows from one on and below another are disturbed, ascending, but for one in the middle.
-pub fn disturb_around(
-    rows: usize,
-    counters: u32,
-    counts: &mut [u32],
-    marks: &mut [u64],
-    bounds: &mut [u32],
-    t: Tally,
-    low: usize,
-    middle: usize,
-    high: usize,
-) -> Tally
-    requires { Holds rows counters counts.old marks.old bounds.old t × (low ≤ middle) × (middle < high) × (high ≤ rows) × (high - low ≤ 64) × RoomFor 64 (summary counts.old t) }
-    ensures { Turns rows counters counts marks bounds t (disturb_each counters (rows_between low middle ++ rows_between (middle + 1) high)) result }
-{
-    let mut left = t;
-    let mut row = low;
-    while row < middle {
-        if !raise(counts, bounds, row) {
-            left = disturb_other(rows, counters, counts, marks, bounds, left, row);
+    // A row that is not tracked is disturbed: it is entered where a place is free.
+    #[inline(always)]
+    fn enter_row(&mut self, row: usize)
+        requires { IsNew row self.old }
+        ensures { Disturbs row self.old self.new }
+    {
+        let t = self.tally;
+        let counters = self.counters;
+        if t.tracked < counters {
+            aids::enter(self.counts, self.marks, row, t.spillover + 1);
+            self.tally.tracked += 1;
+        } else {
+            self.tally = disturb_full(self.rows, self.counts, self.marks, t, row);
         }
-        row += 1;
     }
-    let mut above = middle + 1;
-    while above < high {
-        if !raise(counts, bounds, above) {
-            left = disturb_other(rows, counters, counts, marks, bounds, left, above);
+}
+
+impl<'a> Ledger for RowTable<'a> {
+    ghost use Rattle.std.specs.Prelude.{refl};
+    ghost use Rattle.std.proofs.Common.{rules};
+    ghost use Rattle.dense.specs.Kept.{holds_bank, held, places_of, rows_of, same_memory};
+    ghost use Rattle.dense.specs.Facts.{bank_ordered};
+
+    ghost kept = { holds_bank };
+
+    ghost summary = { held };
+
+    ghost places = { places_of };
+
+    ghost bound = { rows_of };
+
+    ghost same = { same_memory };
+
+    #[inline(always)]
+    fn drop_row(&mut self, row: u32) {
+        if self.counts[row as usize] != 0 {
+            aids::remove(self.counts, self.marks, row as usize);
+            self.tally.tracked -= 1;
         }
-        above += 1;
     }
-    left
-}
 
-// The first row of the highest count is taken out.
-fn take_top(counts: &mut [u32], marks: &mut [u64], bounds: &mut [u32], t: Tally) -> Taken
-    requires { Kept counts.old marks.old t × Capped counts.old bounds.old × (0 < t.tracked) }
-    ensures row_value { result.row ∷ [] ≡ picks_of 1 (summary counts.old t).entries }
-    ensures leaves { Leaves counts marks t (drop_rows (result.row ∷ [])) result.tally × Capped counts.new bounds.new × (result.row < most_rows) }
-{
-    let row = aids::top_row(counts, bounds);
-    let tally = drop_row(counts, marks, t, row);
-    Taken { row, tally }
-}
+    #[inline(always)]
+    fn disturb_row(&mut self, row: u32) {
+        let row = row as usize;
+        let old = self.counts[row];
+        if old != 0 {
+            self.counts[row] = old + 1;
+            aids::cover(self.bounds, row, old + 1);
+        } else {
+            self.enter_row(row);
+            let count = self.counts[row];
+            aids::cover(self.bounds, row, count);
+        }
+    }
 
-// The rows of highest count are taken out and named at the front of a list, at most so many.
-pub fn pick(
-    counts: &mut [u32],
-    marks: &mut [u64],
-    bounds: &mut [u32],
-    t: Tally,
-    volume: usize,
-    list: &mut [u32],
-) -> Picked
-    requires { Kept counts.old marks.old t × Capped counts.old bounds.old × (volume ≤ length list.old) }
-    ensures names { Names list volume (summary counts.old t) result.count }
-    ensures leaves { Leaves counts marks t (picked_out volume) result.tally × Capped counts.new bounds.new }
-{
-    let mut left = t;
-    let mut i: usize = 0;
-    while i < volume && 0 < left.tracked {
-        let taken = take_top(counts, marks, bounds, left);
-        list[i] = taken.row as u32;
-        left = taken.tally;
-        i += 1;
+    // What the trait provides, inlined: a call of that, which is not, takes an activation 5 to 20 % more time.
+    #[inline(always)]
+    fn disturb_around(&mut self, low: u32, middle: u32, high: u32) {
+        for row in low..middle {
+            self.disturb_row(row);
+        }
+        for row in middle + 1..high {
+            self.disturb_row(row);
+        }
     }
-    Picked {
-        count: i,
-        tally: left,
+
+    fn take_top(&mut self) -> Option<u32> {
+        if self.tally.tracked == 0 {
+            return None;
+        }
+        let row = top_row(self.counts, self.bounds) as u32;
+        self.drop_row(row);
+        Some(row)
     }
+
+    fn clear(&mut self) {
+        self.tally = clear(self.counts, self.marks, self.bounds);
+    }
+
+    ghost same_reflexive = { λ a. (refl, refl, refl) };
+
+    ghost same_transitive = { λ a b c x y. Prim.search rules };
+
+    ghost ordered = { λ a h. bank_ordered h };
 }
 
 // Every row is dropped, and the spillover is 0.

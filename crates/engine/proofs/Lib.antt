@@ -1,2 +1,1 @@
--- Laws of the tracker's steps on a summary in one table.
-pub mod Steps
+-- The tracker's steps on a summary in one table have no laws of their own: they are the summary's and the tracker's.

@@ -19,7 +19,7 @@ use Rattle.dense.specs.declared.Tally.{Tally}
 use Rattle.dense.specs.Dense.{entries_from, dense, Kept}
 use Rattle.dense.specs.InnerContracts.{Fewer, DisturbedIn}
 use Rattle.dense.proofs.Dense.EntriesFrom.{row_untracked, stored_new, count_there, count_nowhere, room_made, none_zero}
-use Rattle.dense.proofs.Dense.Kept.{before_first, at_first, equal_place_le, floor_stored, clear_stored, empty_stored}
+use Rattle.dense.proofs.Dense.Kept.{before_first, at_first, floor_stored, clear_stored, empty_stored}
 use Rattle.dense.proofs.InnerContracts.Left.{fewer_zero}
 
 module _ {counts marks : List ℕ} {t : Tally} (kept : Kept counts marks t) {rows row : ℕ} (inside : EmptyFrom counts rows) (in_most : rows ≤ most_rows) (in_bank : row < rows) (z : get_or counts row 0 ≡ 0) where
@@ -80,11 +80,11 @@ module _ {counts marks : List ℕ} {t : Tally} (kept : Kept counts marks t) {row
       let one : t.spillover + 1 ≡ 1 = omega arith in
       rw one at (spill_up (rw e (none_zero 0 counts)) (λ i q p. omega arith))
 
-  pub spill_nowhere : 0 < t.spillover → equal_place t.spillover counts ≡ most_rows →
+  pub spill_nowhere : 0 < t.spillover → length counts ≡ equal_place t.spillover counts →
       DisturbedIn rows t.tracked row (dense counts t.spillover) counts counts marks (record { tracked = t.tracked; spillover = t.spillover + 1; hint = 0 })
   spill_nowhere pos e =
       let s = t.spillover in
-      let all : length counts ≤ equal_place s counts = omega (arith, kept.marked.counts_long) in
+      let all : length counts ≤ equal_place s counts = omega arith in
       spill_up (count_nowhere s counts pos all)
       (λ i q p.
       ⊎_elim
@@ -93,12 +93,10 @@ module _ {counts marks : List ℕ} {t : Tally} (kept : Kept counts marks t) {row
       (le_or_lt (suc i) (length counts)))
 
   -- the row that was found is tracked
-  pub found_row : (found : ℕ) → 0 < t.spillover → found ≡ equal_place t.spillover counts → (found ≡ most_rows → ⊥) → (found < most_rows) × (0 < get_or counts found 0)
-  found_row found pos at other =
-      let most = equal_place_le t.spillover counts in
-      let less : found < most_rows = omega (arith, kept.marked.counts_long) in
-      let here : get_or counts found 0 ≡ t.spillover = rw at (at_first t.spillover counts (omega (arith, kept.marked.counts_long))) in
-      (less, omega arith)
+  pub found_row : (found : ℕ) → 0 < t.spillover → found < length counts → found ≡ equal_place t.spillover counts → (found < most_rows) × (0 < get_or counts found 0)
+  found_row found pos less at =
+      let here : get_or counts found 0 ≡ t.spillover = rw at (at_first t.spillover counts (omega arith)) in
+      (omega (arith, kept.marked.counts_long), omega arith)
 
   -- no place is free, and the first row at the spillover makes room
   pub exchange : (found : ℕ) {counts₁ marks₁ counts₂ marks₂ : List ℕ} → 0 < t.spillover → found ≡ equal_place t.spillover counts →

@@ -11,4 +11,4 @@ pub bounds-bounds-g-2 : goal.bounds-bounds-g-2
 bounds-bounds-g-2 c = rw length-set (omega (arith, c.requires.1.bounds_long))
 
 pub returns : goal.returns
-returns c = covers_stored c.requires.1 c.args.row c.args.count c.larger.result c.larger-2.result c.requires.0 (omega (arith, c.larger.ensures)) (omega (arith, c.larger-2.ensures))
+returns c = covers_stored c.requires.1 c.args.row c.args.count c.max.result c.max-2.result c.requires.0 (omega (arith, c.max.ensures)) (omega (arith, c.max-2.ensures))

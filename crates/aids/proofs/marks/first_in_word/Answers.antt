@@ -5,7 +5,7 @@ use native.Mathlib.Omega.{arith}
 use lib.Count.{count_trailing_zeros}
 use Rattle.aids.proofs.Bits.{few_zeros}
 use Rattle.aids.proofs.Shown.{lowest_inside, rest, rest_less}
-use Rattle.aids.proofs.Searches.{clear_on, clear_skipped, clear_end, found_at, missed_all}
+use Rattle.aids.proofs.Searches.{clear_on, clear_skipped, clear_end}
 use Rattle.aids.proofs.marks.first_in_word.Goals as goal
 
 pub loop-left-init : goal.loop-left-init
@@ -27,7 +27,7 @@ pub returns-then-counts-row : goal.returns-then-counts-row
 returns-then-counts-row c =
     let l = c.loop-left in
     let some : 0 < l.left = omega (arith, c.loop-left-test.true) in
-    found_at c.args.end (clear_skipped l.invariant.shows l.invariant.clear some) c.if-counts-row.true (omega (arith, lowest_inside l.invariant.shows some))
+    (omega (arith, lowest_inside l.invariant.shows some), c.if-counts-row.true, clear_skipped l.invariant.shows l.invariant.clear some)
 
 pub overflow_add-row-in-loop-left : goal.overflow_add-row-in-loop-left
 overflow_add-row-in-loop-left c = let l = c.loop-left in omega (arith, lowest_inside l.invariant.shows (omega (arith, c.loop-left-test.true)))
@@ -52,4 +52,4 @@ loop-left-preserved c =
     }
 
 pub returns : goal.returns
-returns c = let l = c.loop-left in missed_all (clear_end l.invariant.shows l.invariant.clear (omega (arith, c.loop-left-test.false)))
+returns c = let l = c.loop-left in clear_end l.invariant.shows l.invariant.clear (omega (arith, c.loop-left-test.false))

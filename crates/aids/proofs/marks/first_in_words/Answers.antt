@@ -5,7 +5,7 @@ use native.Mathlib.Omega.{arith}
 use lib.Count.{count_trailing_zeros}
 use Rattle.aids.proofs.Bits.{few_zeros}
 use Rattle.aids.proofs.Shown.{lowest_inside, rest, rest_less, rows_of_word}
-use Rattle.aids.proofs.Searches.{clear_less, clear_words_skipped, clear_words_end, missed_all, found_part}
+use Rattle.aids.proofs.Searches.{clear_less, clear_words_skipped, clear_words_end}
 use Rattle.aids.proofs.marks.first_in_words.Goals as goal
 
 pub loop-left-init : goal.loop-left-init
@@ -32,16 +32,16 @@ overflow_mul-w-in-loop-left c = let l = c.loop-left in omega (arith, lowest_insi
 pub overflow_add-w-in-loop-left : goal.overflow_add-w-in-loop-left
 overflow_add-w-in-loop-left c = let l = c.loop-left in omega (arith, lowest_inside l.invariant.shows (omega (arith, c.loop-left-test.true)))
 
-pub first_in_word-row-requires : goal.first_in_word-row-requires
-first_in_word-row-requires c =
+pub first_in_word-requires : goal.first_in_word-requires
+first_in_word-requires c =
     let l = c.loop-left in
     let some : 0 < l.left = omega (arith, c.loop-left-test.true) in
     let w = l.w + count_trailing_zeros 64 l.left in
     let inside = lowest_inside l.invariant.shows some in
     (c.requires.0.counts_long, omega arith, rows_of_word c.requires.0 c.requires.1 w (omega (arith, c.type_inv.marks w)), clear_words_skipped c.requires.0 c.requires.1 l.invariant.shows l.invariant.clear some)
 
-pub returns-then-row-ne-ROWS : goal.returns-then-row-ne-ROWS
-returns-then-row-ne-ROWS c = found_part (c.args.end * 64) c.first_in_word-row.ensures c.if-row-ne-ROWS.true
+pub returns-in-Some : goal.returns-in-Some
+returns-in-Some c = c.in-Some.ensures
 
 pub overflow_add-w-in-loop-left-2 : goal.overflow_add-w-in-loop-left-2
 overflow_add-w-in-loop-left-2 c = let l = c.loop-left in omega (arith, lowest_inside l.invariant.shows (omega (arith, c.loop-left-test.true)))
@@ -62,11 +62,11 @@ loop-left-preserved c =
     let w = l.w + count_trailing_zeros 64 l.left in
     record {
       shows = rest l.invariant.shows some;
-      clear = clear_less (c.first_in_word-row.ensures.missed c.if-row-ne-ROWS.false) ((w + 1) * 64) (omega arith);
+      clear = clear_less (c.in_default.ensures) ((w + 1) * 64) (omega arith);
       fits = omega (arith, l.invariant.fits, rest_less l.left (count_trailing_zeros 64 l.left));
     }
 
 pub returns : goal.returns
 returns c =
     let l = c.loop-left in
-    missed_all (clear_words_end c.requires.0 c.requires.1 l.invariant.shows l.invariant.clear (omega (arith, c.loop-left-test.false)))
+    clear_words_end c.requires.0 c.requires.1 l.invariant.shows l.invariant.clear (omega (arith, c.loop-left-test.false))
