@@ -170,9 +170,10 @@ pub fn list_settings(
     ensures lists_line { ListsLine (record_step line p.loaded (memory_of p counts.old).tracker (Set s)) p.loaded line counts out at result }
     ensures banked_in { BankedIn result.place counts.new marks.new bounds.new }
 {
-    let end = print_settings(out, at, line, bound::bound(s));
+    let answer = bound::bound(s);
+    let end = print_settings(out, at, line, answer);
+    let active = answer.is_ok();
     let loaded = p.loaded;
-    let active = device::test_settings(s).is_ok();
     let tally = dense::clear(counts, marks, bounds);
     Listed {
         place: Place {

@@ -4,9 +4,10 @@ use mathlib.Core.Bool.{Bool, true}
 use mathlib.Core.List.{List}
 use mathlib.Core.Option.{Option, none, some}
 use Prim.Native.Nat.{ℕ, zero, suc}
-use borrow.Author.Tests.{eqb-true, eqb-false}
+use native.Mathlib.Omega.{arith}
+use borrow.Author.Tests.{eqb-true, eqb-false, ne_eqb}
 use lib.Dec.{eqb}
-use Rattle.std.specs.Prelude.{Result}
+use Rattle.std.specs.Prelude.{Result, Ok, Err, is_ok}
 use lib.ListN.{replicate, length-replicate}
 use Rattle.laws.proofs.Cases.{split}
 use Rattle.device.specs.declared.Settings.{Settings}
@@ -43,6 +44,18 @@ refused_by : (number : ℕ) (s : Settings) (remap : List ℕ) (call : SetUpCall)
 unfolding set_up_step tested or_later refused_step
 refused_by number s remap call p zero h = absurd (h refl)
 refused_by number s remap call p (suc k) h = refl
+
+answers_by : (answer : Result ℕ Refusal) (k h : ℕ) → outcome answer ≡ tested k (accepted h) → is_ok answer ≡ eqb k 0
+unfolding tested outcome
+answers_by (Ok x) zero h e = refl
+answers_by (Ok x) (suc k) h e = cc
+answers_by (Err r) zero h e = cc
+answers_by (Err r) (suc k) h e = sym (ne_eqb (suc k) 0 (λ zero. omega arith))
+
+-- the bound is given where the settings are accepted
+pub bound_given : (s : Settings) (answer : Result ℕ Refusal) → outcome answer ≡ bound_answer s → is_ok answer ≡ eqb (first_failed (settings_tests s)) 0
+unfolding bound_answer_to
+bound_given s answer e = answers_by answer (first_failed (settings_tests s)) (bound_of s) e
 
 -- the loaded remap is an accepted one
 module _ (loaded : List ℕ) (ok : remap_allowed loaded ≡ true) where

@@ -17,4 +17,4 @@ returns-in-Ok c = rw c.in-Ok.is c.print_bound.ensures
 
 pub returns-in-Err : goal.returns-in-Err
 unfolding outcome settings_line
-returns-in-Err c = rw c.in-Err.is c.print_refusal.ensures
+returns-in-Err c = rw (c.in-Err.is, ← c.number.ensures) c.print_refusal.ensures

@@ -7,6 +7,6 @@ use Rattle.steps.proofs.line.test_activation.Goals as goal
 
 pub overflow_add-p : goal.overflow_add-p
 overflow_add-p c =
-    let stands = (refuse_passed c.args.p.active 10 0 (sym (c.in_ok-test.ensures tt))).0 in
-    let held = (refuse_passed c.hold_allowed.result 14 0 (sym (c.in_ok-test-3.ensures tt))).0 in
+    let stands = (refuse_passed c.args.p.active 10 0 (sym c.in_ok-test.ensures)).0 in
+    let held = (refuse_passed c.hold_allowed.result 14 0 (sym c.in_ok-test-3.ensures)).0 in
     omega (arith, c.requires stands, (hold_between c.args.hold (sym c.hold_allowed.ensures ∙ held)).most)
