@@ -4,8 +4,8 @@ use lib.ListN.{length}
 use Rattle.listing.proofs.Chunks.Runs.{Running}
 use Rattle.listing.proofs.run.run_activations.Given as goal
 
-abbrev pub invariant-loop-at : goal.invariant-loop-at
-invariant-loop-at l = Running l.text l.p l.initial.counts l.from l.counts l.marks l.bounds l.activations l.tally l.at
+abbrev pub invariant-loop-row : goal.invariant-loop-row
+invariant-loop-row l = Running l.text l.p l.initial.counts l.from l.counts l.marks l.bounds l.activations l.tally l.at
 
-abbrev pub decreases-loop-at : goal.decreases-loop-at
-decreases-loop-at l = length l.text - l.at
+abbrev pub decreases-loop-row : goal.decreases-loop-row
+decreases-loop-row l = length l.text - l.at
