@@ -127,7 +127,10 @@ pub fn list_part(
 pub fn list_end(p: Place, text: &[u8], out: &mut [u8]) -> usize
     ensures { PrintsInto out 0 (last_line (next_number p.lines) text.now (length out.old)) result }
 {
-    if text.is_empty() || out.len() < 18 {
+    if text.is_empty() {
+        return 0;
+    }
+    if out.len() < 18 {
         return 0;
     }
     columns::print_refusal(out, 0, p.lines % LINES + 1, Refusal::Line.number())
