@@ -1,6 +1,5 @@
 -- Inner relations, in which the functions of this crate promise each other what stands where, and how far a check has come.
-use Rattle.std.specs.Prelude.{ℕ, suc, ◌≤◌, ◌<◌, ◌≡◌, true, false, cond, List, length, take, drop}
-use Rattle.std.proofs.Math.Option.{some}
+use Rattle.std.specs.Prelude.{ℕ, ◌≤◌, ◌<◌, ◌≡◌, true, false, List, length, take, drop}
 use Rattle.trace.specs.Lines.{ended}
 use Rattle.steps.specs.Steps.{Progress}
 use Rattle.listing.specs.Texts.{listing}
@@ -20,13 +19,10 @@ pub record Reaches (trace given : List ℕ) (m : Memory) (k : Checking) : Type 0
   pub represents : Represents m progress
   pub taken : k.taken ≤ length trace
   pub passed : k.passed ≤ length given
-  pub few : k.same ≡ true → k.lines ≤ k.passed
-  pub most : k.lines ≤ length given
-  pub answer : departure trace given ≡
-      cond k.same (departing k.lines (listing progress (drop k.taken trace)) (drop k.passed given)) (some (suc k.lines))
+  pub few : k.lines ≤ k.passed
+  pub answer : departure trace given ≡ departing k.lines (listing progress (drop k.taken trace)) (drop k.passed given)
 
--- another part of the trace: it was not empty if more may come, which is so only while all is the same; the last one left no line that has ended
+-- another part of the trace: it was not empty if more may come, and the last one left no line that has ended
 pub record Onward (trace : List ℕ) (before after : Checking) : Type 0 where
   pub more : after.more ≡ true → before.taken < after.taken
-  pub goes : after.more ≡ true → after.same ≡ true
-  pub last : after.more ≡ false → after.same ≡ true → ended (drop after.taken trace) ≡ false
+  pub last : after.more ≡ false → ended (drop after.taken trace) ≡ false

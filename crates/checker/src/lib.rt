@@ -1,7 +1,8 @@
 // Checking a listing: it is what a trace requires, or the number of its first line that departs.
 #![tactic(auto)]
 
-ghost use Rattle.std.specs.Prelude.{◌≡◌, true, false, ◌+◌, ◌-◌, ◌≤◌, length, drop, replicate};
+ghost use Rattle.std.specs.Prelude.{◌≡◌, true, Ok, IfOk, IfErr, ◌+◌, ◌-◌, ◌≤◌, ◌<◌, length, drop, replicate};
+ghost use Rattle.std.proofs.Math.Option.{some};
 ghost use Rattle.aids.specs.Marks.{Marked};
 ghost use Rattle.aids.specs.Bounds.{all_bounds};
 ghost use Rattle.steps.specs.Memory.{memory_of, start_place, BankedIn, next_number};
@@ -33,15 +34,14 @@ pub struct Departure {
     pub line: u64,
 }
 
-// How far a check is: where the listing of the trace is, the bytes of the trace taken, the bytes of the listing passed and the lines ended among them,
-// whether all was the same, and whether lines of the trace may be left.
+// How far a check is: where the listing of the trace is, the bytes of the trace taken, the bytes of the listing passed and the lines ended among them, and
+// whether lines of the trace may be left.
 #[derive(Clone, Copy)]
 struct Checking {
     place: Place,
     taken: usize,
     passed: usize,
     lines: u64,
-    same: bool,
     more: bool,
 }
 
@@ -69,74 +69,61 @@ fn stands_at(required: &[u8], given: &[u8], from: usize) -> bool
 // The lines that have ended behind a text more.
 fn lines_ended(text: &[u8], lines: u64) -> u64
     requires { (length text.now ≤ 1000000000) × (lines + length text.now ≤ 18446744073709551615) }
-    ensures { record { all = true; lines = result } ≡ compared lines text.now text.now }
+    ensures { Ok result ≡ compared lines text.now text.now }
 {
     let mut ended: u32 = 0;
-    let mut i: usize = 0;
-    while i < text.len() {
-        ended += (text[i] == b'\n') as u32;
-        i += 1;
+    for b in text {
+        ended += (*b == b'\n') as u32;
     }
     lines + ended as u64
 }
 
 // Compares byte by byte, up to the first that is not the same.
-fn compare_bytes(required: &[u8], given: &[u8], from: usize, lines: u64) -> Compared
+fn compare_bytes(required: &[u8], given: &[u8], from: usize, lines: u64) -> Result<u64, u64>
     requires { (from ≤ length given.now) × (lines + (length given.now - from) ≤ 18446744073709551615) }
     ensures { result ≡ compared lines required.now (drop from given.now) }
 {
     let mut at = from;
-    let mut i: usize = 0;
     let mut ended = lines;
-    while i < required.len() {
-        if at == given.len() {
-            return Compared {
-                all: false,
-                lines: ended,
-            };
+    for b in required {
+        if at == given.len() || *b != given[at] {
+            return Err(ended);
         }
-        let b = required[i];
-        if b != given[at] {
-            return Compared {
-                all: false,
-                lines: ended,
-            };
-        }
-        ended += (b == b'\n') as u64;
-        i += 1;
+        ended += (*b == b'\n') as u64;
         at += 1;
     }
-    Compared {
-        all: true,
-        lines: ended,
-    }
+    Ok(ended)
 }
 
-// Compares bytes that are required with those given from a place on, behind so many lines.
-pub fn compare(required: &[u8], given: &[u8], from: usize, lines: u64) -> Compared
+// Compares bytes that are required with those given from a place on, behind so many lines: how many have ended among those that were alike, Ok where all
+// required bytes stood there.
+pub fn compare(required: &[u8], given: &[u8], from: usize, lines: u64) -> Result<u64, u64>
     requires { (from ≤ length given.now) × (lines + (length given.now - from) ≤ 18446744073709551615) }
     ensures { result ≡ compared lines required.now (drop from given.now) }
 {
     if stands_at(required, given, from) {
-        return Compared {
-            all: true,
-            lines: lines_ended(required, lines),
-        };
+        return Ok(lines_ended(required, lines));
     }
     compare_bytes(required, given, from, lines)
 }
 
+// The line behind so many that passed departs.
+fn departs_behind(lines: u64) -> Departure
+    requires { lines < 18446744073709551615 }
+    ensures { result.line ≡ lines + 1 }
+{
+    Departure { line: lines + 1 }
+}
+
 // Before the first line.
 fn first() -> Checking
-    ensures { result ≡ record { place = start_place; taken = 0; passed = 0; lines = 0; same = true; more = true } }
+    ensures { result ≡ record { place = start_place; taken = 0; passed = 0; lines = 0; more = true } }
 {
-    let place = listing::start();
     Checking {
-        place,
+        place: listing::start(),
         taken: 0,
         passed: 0,
         lines: 0,
-        same: true,
         more: true,
     }
 }
@@ -149,58 +136,37 @@ fn check_part(
     bounds: &mut [u32],
     trace: &[u8],
     given: &[u8],
-) -> Checking
-    requires { Reaches trace.now given.now (memory_of k.place counts.old) k × BankedIn k.place counts.old marks.old bounds.old × (k.same ≡ true) }
-    ensures reaches { Reaches trace.now given.now (memory_of result.place counts.new) result × Onward trace.now k result }
-    ensures banked_in { BankedIn result.place counts.new marks.new bounds.new }
+) -> Result<Checking, Departure>
+    requires { Reaches trace.now given.now (memory_of k.place counts.old) k × BankedIn k.place counts.old marks.old bounds.old }
+    ensures goes_on { IfOk result (λ next. Reaches trace.now given.now (memory_of next.place counts.new) next × Onward trace.now k next × BankedIn next.place counts.new marks.new bounds.new) }
+    ensures departs { IfErr result (λ at. departure trace.now given.now ≡ some at.line) }
 {
     let mut piece = [0u8; PIECE];
-    let from = k.place;
-    let taken = k.taken;
-    let passed = k.passed;
-    let part = listing::list_part(from, counts, marks, bounds, &trace[taken..], &mut piece);
-    let place = part.place;
-    let end = part.end;
-    let found = compare(&piece[0..end], given, passed, k.lines);
-    if !found.all {
-        return Checking {
-            place,
-            taken: taken + part.taken,
-            passed,
-            lines: found.lines,
-            same: false,
-            more: false,
-        };
-    }
-    Checking {
-        place,
-        taken: taken + part.taken,
-        passed: passed + end,
-        lines: found.lines,
-        same: true,
-        more: PIECE - end < ROOM,
+    let part = listing::list_part(k.place, counts, marks, bounds, &trace[k.taken..], &mut piece);
+    match compare(&piece[..part.end], given, k.passed, k.lines) {
+        Ok(lines) => Ok(Checking {
+            place: part.place,
+            taken: k.taken + part.taken,
+            passed: k.passed + part.end,
+            lines,
+            more: PIECE - part.end < ROOM,
+        }),
+        Err(lines) => Err(departs_behind(lines)),
     }
 }
 
 // Checks what the end of the trace requires, and that nothing is given behind it.
-fn check_rest(k: Checking, trace: &[u8], given: &[u8]) -> Verdict
+fn check_rest(k: Checking, trace: &[u8], given: &[u8]) -> Result<(), Departure>
     requires { (k.taken ≤ length trace.now) × (k.passed ≤ length given.now) × (k.lines ≤ k.passed) }
     ensures { verdict_of result ≡ departing k.lines (last_line (next_number k.place.lines) (drop k.taken trace.now) 18) (drop k.passed given.now) }
 {
     let mut piece = [0u8; 18];
-    let place = k.place;
-    let taken = k.taken;
-    let passed = k.passed;
-    let end = listing::list_end(place, &trace[taken..], &mut piece);
-    let found = compare(&piece[0..end], given, passed, k.lines);
-    let line = found.lines + 1;
-    if !found.all {
-        return Verdict::Departs(line);
+    let end = listing::list_end(k.place, &trace[k.taken..], &mut piece);
+    match compare(&piece[..end], given, k.passed, k.lines) {
+        Ok(lines) if end != given.len() - k.passed => Err(departs_behind(lines)),
+        Ok(_) => Ok(()),
+        Err(lines) => Err(departs_behind(lines)),
     }
-    if end != given.len() - passed {
-        return Verdict::Departs(line);
-    }
-    Verdict::Passes
 }
 
 // Checks a listing with tables in which no row has a count.
@@ -210,16 +176,13 @@ fn check_in(
     counts: &mut [u32],
     marks: &mut [u64],
     bounds: &mut [u32],
-) -> Verdict
+) -> Result<(), Departure>
     requires { Marked counts.old marks.old × (length bounds.old ≡ all_bounds) }
     ensures { verdict_of result ≡ departure trace.now given.now }
 {
     let mut k = first();
     while k.more {
-        k = check_part(k, counts, marks, bounds, trace, given);
-    }
-    if !k.same {
-        return Verdict::Departs(k.lines + 1);
+        k = check_part(k, counts, marks, bounds, trace, given)?;
     }
     check_rest(k, trace, given)
 }
@@ -242,7 +205,7 @@ pub fn check(
     counts: &mut [u32; ROWS],
     marks: &mut [u64; MARKS],
     bounds: &mut [u32; BOUNDS],
-) -> Verdict
+) -> Result<(), Departure>
     ensures result_value { verdict_of result ≡ departure trace.now given.now }
     ensures counts_after { counts.new ≡ replicate (length counts.old) 0 }
     ensures marks_after { marks.new ≡ replicate (length marks.old) 0 }

@@ -10,7 +10,7 @@ ghost use Rattle.listing.specs.Chunks.{line_room, part, part_left, chunk, chunk_
 
 use columns::LINES;
 use dense::Tally;
-use device::Settings;
+use device::{Refusal, Settings};
 use steps::Place;
 
 // Room for the longest line that is printed, which has 110 bytes.
@@ -96,8 +96,7 @@ pub fn list_part(
             };
         }
         let answer = trace::read_line(text, at);
-        let next = trace::place_behind(answer);
-        if text[next - 1] != b'\n' {
+        if text[answer.place - 1] != b'\n' {
             return Part {
                 place,
                 taken: at,
@@ -107,7 +106,7 @@ pub fn list_part(
         let listed = steps::list_line(place, counts, marks, bounds, answer, out, end);
         place = listed.place;
         end = listed.end;
-        at = next;
+        at = answer.place;
     }
     Part {
         place,
@@ -120,13 +119,10 @@ pub fn list_part(
 pub fn list_end(p: Place, text: &[u8], out: &mut [u8]) -> usize
     ensures { PrintsInto out 0 (last_line (next_number p.lines) text.now (length out.old)) result }
 {
-    if text.len() == 0 {
+    if text.is_empty() || out.len() < 18 {
         return 0;
     }
-    if out.len() < 18 {
-        return 0;
-    }
-    columns::print_refusal(out, 0, p.lines % LINES + 1, 11)
+    columns::print_refusal(out, 0, p.lines % LINES + 1, Refusal::Line.number())
 }
 
 // What lies between two reads: of the first bytes of the text, the lines that have ended are listed, and the first 128 bytes of what is left go to

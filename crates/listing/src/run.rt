@@ -43,8 +43,10 @@ pub fn run_activations(
     let mut activations = p.activations;
     let mut tally = p.tally;
     let mut at = from;
-    let mut row = trace::activation_row(text, at);
-    while row < s.rows && activations < s.interval {
+    while let Some(row) = trace::activation_row(text, at) {
+        if s.rows <= row || s.interval <= activations {
+            break;
+        }
         tally = engine::activate(
             s.rows,
             s.blast_diameter,
@@ -58,20 +60,14 @@ pub fn run_activations(
         );
         activations += 1;
         at += 8;
-        row = trace::activation_row(text, at);
     }
     let lines = lines_behind(p.lines, (at - from) / 8);
-    let loaded = p.loaded;
     Ran {
         place: Place {
-            active: p.active,
-            settings: s,
-            remap,
-            events: p.events,
             activations,
             tally,
-            loaded,
             lines,
+            ..p
         },
         taken: at,
     }

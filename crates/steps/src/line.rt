@@ -1,70 +1,60 @@
 // The lines of an activation, an event and settings, and the places that they leave.
 ghost use Rattle.std.specs.Prelude.{◌≡◌, true, ◌+◌, ◌≤◌, length};
-ghost use Rattle.bound.specs.Answers.{outcome, Small};
+ghost use Rattle.device.specs.Refusal.{number, refusal_number, outcome};
+ghost use Rattle.bound.specs.Answers.{Small};
 ghost use Rattle.trace.specs.declared.Record.TheVariants.{Set, Activate, Refresh};
-ghost use Rattle.columns.specs.Output.{PrintsInto};
+ghost use Rattle.columns.specs.Output.{refusal_line, PrintsInto};
 ghost use Rattle.steps.specs.Steps.{record_step};
 ghost use Rattle.steps.specs.Memory.{memory_of, Ready, BankedIn};
 ghost use Rattle.steps.specs.InnerContracts.{settings_line, at_line, moved, activation_refusal, ListsLine, LeavesIn};
 
 use crate::{Listed, Place, print};
-use bound::Answer;
 use dense::Tally;
-use device::Settings;
+use device::{Refusal, Settings, test};
 
 // A place with another loaded remap, and so many lines.
 pub fn at_line(p: Place, loaded: [u32; 16], lines: u64) -> Place
     ensures { result ≡ at_line p loaded lines }
 {
-    let settings = p.settings;
-    let remap = p.remap;
-    let tally = p.tally;
-    Place {
-        active: p.active,
-        settings,
-        remap,
-        events: p.events,
-        activations: p.activations,
-        tally,
-        loaded,
-        lines,
-    }
+    Place { loaded, lines, ..p }
 }
 
 // A place whose tracker moved on, and so many lines.
 pub fn moved(p: Place, events: u32, activations: u32, tally: Tally, lines: u64) -> Place
     ensures { result ≡ moved p events activations tally lines }
 {
-    let settings = p.settings;
-    let remap = p.remap;
-    let loaded = p.loaded;
     Place {
-        active: p.active,
-        settings,
-        remap,
         events,
         activations,
         tally,
-        loaded,
         lines,
+        ..p
     }
 }
 
-// The refusal of an activation line, or 0.
-fn activation_refusal(p: Place, row: u32, hold: u32) -> u32
-    requires { p.active ≡ true → p.activations ≤ 4096 }
-    ensures { result ≡ activation_refusal p row hold }
+// A refused line: it prints its refusal, and all else stays.
+pub fn list_refusal(p: Place, refusal: Refusal, line: u64, out: &mut [u8], at: usize) -> Listed
+    requires { at + 18 ≤ length out.old }
+    ensures place_value { result.place ≡ at_line p p.loaded line }
+    ensures prints_into { PrintsInto out at (refusal_line line (number refusal)) result.end }
 {
-    if !p.active {
-        return 11;
+    let end = columns::print_refusal(out, at, line, refusal.number());
+    Listed {
+        place: at_line(p, p.loaded, line),
+        end,
     }
-    if p.settings.rows <= row {
-        return 9;
-    }
-    if !device::hold_allowed(hold) {
-        return 15;
-    }
-    device::refuse_unless(p.activations + hold <= p.settings.interval, 22, 0)
+}
+
+// The tests of an activation line.
+#[tactic(auto, unfolding(crate::specs::InnerContracts::activation_refusal, device::specs::Refusal::refuse))]
+fn test_activation(p: Place, row: u32, hold: u32) -> Result<(), Refusal>
+    requires { p.active ≡ true → p.activations ≤ 4096 }
+    ensures { refusal_number result ≡ activation_refusal p row hold }
+{
+    test(p.active, Refusal::Line)?;
+    test(row < p.settings.rows, Refusal::Row)?;
+    test(device::hold_allowed(hold), Refusal::Hold)?;
+    test(p.activations + hold <= p.settings.interval, Refusal::IntervalFull)
 }
 
 // An activation that no test refuses.
@@ -115,14 +105,8 @@ pub fn list_activation(
     ensures lists_line { ListsLine (record_step line p.loaded (memory_of p counts.old).tracker (Activate row hold)) p.loaded line counts out at result }
     ensures banked_in { BankedIn result.place counts.new marks.new bounds.new }
 {
-    let k = activation_refusal(p, row, hold);
-    if k != 0 {
-        let loaded = p.loaded;
-        let end = columns::print_refusal(out, at, line, k);
-        return Listed {
-            place: at_line(p, loaded, line),
-            end,
-        };
+    if let Err(refusal) = test_activation(p, row, hold) {
+        return list_refusal(p, refusal, line, out, at);
     }
     let place = activated(p, counts, marks, bounds, row, hold, line);
     Listed { place, end: at }
@@ -143,12 +127,7 @@ pub fn list_event(
     ensures banked_in { BankedIn result.place counts.new marks.new bounds.new }
 {
     if !p.active {
-        let loaded = p.loaded;
-        let end = columns::print_refusal(out, at, line, 11);
-        return Listed {
-            place: at_line(p, loaded, line),
-            end,
-        };
+        return list_refusal(p, Refusal::Line, line, out, at);
     }
     let s = p.settings;
     let t = p.tally;
@@ -164,13 +143,13 @@ pub fn list_event(
 }
 
 // The line of settings, by the bound's answer; the place behind it.
-fn print_settings(out: &mut [u8], at: usize, line: u64, answer: Answer) -> usize
+fn print_settings(out: &mut [u8], at: usize, line: u64, answer: Result<u64, Refusal>) -> usize
     requires { (at + 22 ≤ length out.old) × Small (outcome answer) }
     ensures { PrintsInto out at (settings_line line (outcome answer)) result }
 {
     match answer {
-        Answer::Value(h) => print::print_bound(out, at, h),
-        Answer::Refused(k) => columns::print_refusal(out, at, line, k),
+        Ok(h) => print::print_bound(out, at, h),
+        Err(refusal) => columns::print_refusal(out, at, line, refusal.number()),
     }
 }
 
@@ -191,7 +170,7 @@ pub fn list_settings(
 {
     let end = print_settings(out, at, line, bound::bound(s));
     let loaded = p.loaded;
-    let active = device::settings_refusal(s) == 0;
+    let active = device::test_settings(s).is_ok();
     let tally = dense::clear(counts, marks, bounds);
     Listed {
         place: Place {

@@ -10,6 +10,7 @@ ghost use Rattle.steps.specs.InnerContracts.{at_line, ListsLine};
 
 use crate::{Listed, Place, line};
 use columns::LINES;
+use device::Refusal;
 use trace::{Read, Record};
 
 // The line of a remap: accepted, it is loaded for the next settings; refused, the one before it stays.
@@ -18,17 +19,12 @@ fn remap_line(p: Place, remap: [u32; 16], line: u64, out: &mut [u8], at: usize) 
     ensures place_value { result.place ≡ at_line p (loaded_by p.loaded remap) line }
     ensures prints_into { PrintsInto out at (remap_step line remap none).prints result.end }
 {
-    if device::remap_allowed(remap) {
-        return Listed {
-            place: line::at_line(p, remap, line),
-            end: at,
-        };
+    if !device::remap_allowed(remap) {
+        return line::list_refusal(p, Refusal::Remap, line, out, at);
     }
-    let kept = p.loaded;
-    let end = columns::print_refusal(out, at, line, 14);
     Listed {
-        place: line::at_line(p, kept, line),
-        end,
+        place: line::at_line(p, remap, line),
+        end: at,
     }
 }
 
@@ -47,7 +43,6 @@ fn list_record(
     ensures lists_line { ListsLine (record_step line p.loaded (memory_of p counts.old).tracker what) (loaded_behind p.loaded (accepted what)) line counts out at result }
     ensures banked_in { BankedIn result.place counts.new marks.new bounds.new }
 {
-    let loaded = p.loaded;
     match what {
         Record::Set(s) => line::list_settings(p, s, counts, marks, bounds, line, out, at),
         Record::Remap(t) => remap_line(p, trace::sixteen_of(t), line, out, at),
@@ -56,7 +51,7 @@ fn list_record(
         }
         Record::Refresh => line::list_event(p, counts, marks, bounds, line, out, at),
         Record::Blank => Listed {
-            place: line::at_line(p, loaded, line),
+            place: line::at_line(p, p.loaded, line),
             end: at,
         },
     }
@@ -77,13 +72,8 @@ pub fn list_line(
     ensures banked_in { BankedIn result.place counts.new marks.new bounds.new }
 {
     let line = p.lines % LINES + 1;
-    let Read::Line(what, _) = answer else {
-        let stays = p.loaded;
-        let end = columns::print_refusal(out, at, line, 11);
-        return Listed {
-            place: line::at_line(p, stays, line),
-            end,
-        };
-    };
-    list_record(p, counts, marks, bounds, what, line, out, at)
+    match answer.outcome {
+        Ok(what) => list_record(p, counts, marks, bounds, what, line, out, at),
+        Err(refusal) => line::list_refusal(p, refusal, line, out, at),
+    }
 }

@@ -3,7 +3,7 @@
 
 ghost use Rattle.std.specs.Prelude.{◌≤◌, length};
 
-use checker::Verdict;
+use checker::Departure;
 
 // The numbers of standard input and output.
 const STDIN_FILENO: i32 = 0;
@@ -14,14 +14,7 @@ const STDOUT_FILENO: i32 = 1;
 fn first_zero(text: &[u8]) -> usize
     ensures { result ≤ length text.now }
 {
-    let mut i: usize = 0;
-    while i < text.len() {
-        if text[i] == 0 {
-            return i;
-        }
-        i += 1;
-    }
-    i
+    text.iter().position(|b| *b == 0).unwrap_or(text.len())
 }
 
 // The place behind it, or the text's end.
@@ -36,14 +29,14 @@ fn behind(place: usize, length: usize) -> usize
 }
 
 // The answer's line.
-fn print(verdict: Verdict) {
-    match verdict {
-        Verdict::Passes => {
+fn print(answer: Result<(), Departure>) {
+    match answer {
+        Ok(()) => {
             io::write_all(STDOUT_FILENO, b"passes\n");
         }
-        Verdict::Departs(line) => {
+        Err(departure) => {
             io::write_all(STDOUT_FILENO, b"departs at line ");
-            io::print_decimal(STDOUT_FILENO, line);
+            io::print_decimal(STDOUT_FILENO, departure.line);
             io::write_all(STDOUT_FILENO, b"\n");
         }
     }
@@ -56,14 +49,14 @@ fn answer(text: &[u8]) {
     let mut counts = [7u32; 262_144];
     let mut marks = [7u64; 4_160];
     let mut bounds = [7u32; 4_160];
-    let verdict = checker::check(
+    let answer = checker::check(
         &text[0..zero],
         &text[from..],
         &mut counts,
         &mut marks,
         &mut bounds,
     );
-    print(verdict);
+    print(answer);
 }
 
 fn main() {
