@@ -22,11 +22,6 @@ reads-init c =
       steps = record { parts = []; given = []; chain = none_yet };
     })
 
-pub next_step-step-requires : goal.next_step-step-requires
-next_step-step-requires c =
-    let l = c.reads in
-    (l.invariant.carried, l.invariant.given_long, omega (arith, l.invariant.few_lines))
-
 pub reads-preserved : goal.reads-preserved
 reads-preserved c =
     let l = c.reads in

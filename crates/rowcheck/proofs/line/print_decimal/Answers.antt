@@ -1,13 +1,7 @@
 -- `rowcheck::line::print_decimal` meets its contract.
 use native.Mathlib.Omega.{arith}
-use lib.ListN.{length-take}
 use Rattle.rowcheck.proofs.Lines.{fewest_twenty, decimal_digits}
 use Rattle.rowcheck.proofs.line.print_decimal.Goals as goal
-
-pub print_text-requires : goal.print_text-requires
-print_text-requires c =
-    let d = c.decimal-count in
-    omega (arith, c.requires, length-take (d.result) d.new.out, fewest_twenty c.args.n d.result (omega (arith, c.ranges.n)) d.ensures.len)
 
 pub returns : goal.returns
 returns c =
