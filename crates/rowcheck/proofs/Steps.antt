@@ -56,6 +56,11 @@ module _ (k : Check) (required given : List ℕ) (end : ℕ) where
   lines_behind End c = omega arith
   lines_behind Failed c = omega arith
 
+-- a read of the listing is compared within what is required
+pub comparable : {k : Check} {end : ℕ} {input : Input} {before given : List ℕ} (required : List ℕ) → ReadBeside input k.at end before given → length given ≡ length before → end ≤ length required → end ≤ length before → k.lines + length before ≤ 18446744073709551615 → Comparable k end input required given
+comparable required read long required_long before_long few =
+    record { most = read.most; required_long = required_long; given_long = omega arith; few = omega arith }
+
 -- a read into the front of a buffer
 within_more : (input : Input) (kept : ℕ) {most most' : ℕ} → most ≤ most' → Within input kept most → Within input kept most'
 unfolding Within
