@@ -40,6 +40,7 @@ pub fn bound_at(s: Settings, events: u32) -> u64
 }
 
 // The bound H on any row's disturbance, of which each of two windows adds at most one.
+#[tactic(auto, using(device::proofs::Tests::outcome_refused, device::proofs::Tests::outcome_accepted), unfolding(device::specs::Refusal::outcome, crate::specs::Answers::bound_answer_to, crate::specs::Totals::bound_of))]
 pub fn bound(s: Settings) -> Result<u64, Refusal>
     ensures { outcome result ≡ bound_answer s }
 {
@@ -58,6 +59,7 @@ fn least_of(s: Settings, threshold: u64) -> Result<u64, Refusal>
 }
 
 // The smallest counter count whose bound, twice, is below the threshold; `counters` is not looked at.
+#[tactic(auto, using(device::proofs::Tests::outcome_refused, device::proofs::Tests::outcome_accepted), unfolding(device::specs::Refusal::outcome, crate::specs::Answers::least_answer_to))]
 pub fn least_counters(s: Settings, threshold: u64) -> Result<u64, Refusal>
     ensures { outcome result ≡ least_answer s threshold }
 {
@@ -66,6 +68,7 @@ pub fn least_counters(s: Settings, threshold: u64) -> Result<u64, Refusal>
 }
 
 // The signed number that C gets.
+#[tactic(auto, unfolding(device::specs::Refusal::outcome, crate::specs::Answers::signed, crate::specs::Answers::Small))]
 pub fn signed_number(answer: Result<u64, Refusal>) -> i64
     requires { Small (outcome answer) }
     ensures { result ≡ signed (outcome answer) }

@@ -1,8 +1,9 @@
 -- A comparison byte by byte finds the first line that departs.
 use mathlib.Core.Path.{◌≡◌, refl, sym, ◌∙◌, ap}
 use mathlib.Core.Bool.{Bool, true, false, cond}
+use Rattle.std.specs.Prelude.{Result, Ok, Err}
 use mathlib.Core.List.{List, [], ◌∷◌, ◌++◌}
-use mathlib.Core.Option.{none, some}
+use mathlib.Core.Option.{Option, none, some}
 use Prim.Native.Nat.{ℕ, suc, ◌+◌, ◌≤◌, ◌<◌}
 use native.Mathlib.Nat.{add-zero}
 use native.Mathlib.Numerals.{add-one}
@@ -13,7 +14,7 @@ use lib.ListN.{length, get_or, take, drop}
 use lib.Seq.{drop-cons}
 use mir.Val.{bool_byte}
 use Rattle.laws.specs.Same.{same}
-use Rattle.laws.proofs.Cases.{split, clash}
+use Rattle.laws.proofs.Cases.{split}
 use Rattle.trace.specs.Texts.{in_front, lines}
 use Rattle.checker.specs.Departure.{departure_from, departing}
 use Rattle.checker.specs.Comparison.{counted, compared}
@@ -73,9 +74,14 @@ pub departing_none : (n : ℕ) → departing n [] [] ≡ none
 unfolding departing departure_from lines
 departing_none n = refl
 
+-- what is required and given behind bytes that were compared, so many lines having ended among those that are alike
+departing_on : Result ℕ ℕ → List ℕ → List ℕ → Option ℕ
+departing_on (Ok lines) more rest = departing lines more rest
+departing_on (Err lines) more rest = some (suc lines)
+
 -- so does what was compared tell, whatever else is required
-pub departing_compared : (n : ℕ) (required more given : List ℕ) → departing n (required ++ more) given ≡ cond (compared n required given).all (departing (compared n required given).lines more (drop (length required) given)) (some (suc (compared n required given).lines))
-unfolding compared
+departing_compared : (n : ℕ) (required more given : List ℕ) → departing n (required ++ more) given ≡ departing_on (compared n required given) more (drop (length required) given)
+unfolding compared departing_on
 departing_compared n [] more given = refl
 departing_compared n (x ∷ xs) more [] = departing_missing n x (xs ++ more)
 departing_compared n (x ∷ xs) more (y ∷ ys) =
@@ -84,30 +90,37 @@ departing_compared n (x ∷ xs) more (y ∷ ys) =
     rw e (ap (λ (z : ℕ). departing n (x ∷ (xs ++ more)) (z ∷ ys)) (sym (eqb-true x y e)) ∙ departing_alike n x (xs ++ more) ys ∙ departing_compared (counted n x) xs more ys))
     (λ e. rw e (departing_other n x y (xs ++ more) ys e))
 
+module _ (n : ℕ) (required more given : List ℕ) (lines : ℕ) where
+  pub compared_on : compared n required given ≡ Ok lines → departing n (required ++ more) given ≡ departing lines more (drop (length required) given)
+  unfolding departing_on
+  compared_on e = departing_compared n required more given ∙ rw e
+
+  pub compared_off : compared n required given ≡ Err lines → departing n (required ++ more) given ≡ some (suc lines)
+  unfolding departing_on
+  compared_off e = departing_compared n required more given ∙ rw e
+
 counted_few : (n x : ℕ) → counted n x ≤ n + 1
 unfolding counted
 counted_few n x = split (eqb x 10) (λ e. rw e (omega arith)) (λ e. rw e (omega arith))
 
 -- no more lines end than bytes are required, nor than are given; and all are there only if as many are given
-pub record Few (n : ℕ) (required given : List ℕ) : Type 0 where
-  pub required_few : (compared n required given).lines ≤ n + length required
-  pub given_few : (compared n required given).lines ≤ n + length given
-  pub all_given : (compared n required given).all ≡ true → length required ≤ length given
-
-pub few : (n : ℕ) (required given : List ℕ) → Few n required given
+pub all_few : (n : ℕ) (required given : List ℕ) (lines : ℕ) → compared n required given ≡ Ok lines → (lines ≤ n + length required) × (length required ≤ length given)
 unfolding compared
-few n [] given = record { required_few = omega arith; given_few = omega arith; all_given = λ e. omega arith }
-few n (x ∷ xs) [] = record { required_few = omega arith; given_few = omega arith; all_given = λ e. clash (sym e) }
-few n (x ∷ xs) (y ∷ ys) =
-    let f = few (counted n x) xs ys in
+all_few n [] given lines e = let same : n ≡ lines = cc in (omega arith, omega arith)
+all_few n (x ∷ xs) [] lines e = absurd (cc)
+all_few n (x ∷ xs) (y ∷ ys) lines e =
     split (eqb x y)
-    (λ e.
-    record {
-      required_few = rw e (omega (arith, f.required_few, counted_few n x));
-      given_few = rw e (omega (arith, f.given_few, counted_few n x));
-      all_given = λ all. omega (arith, f.all_given (rw e at all));
-    })
-    (λ e. record { required_few = rw e (omega arith); given_few = rw e (omega arith); all_given = λ all. clash (sym (rw e at all)) })
+    (λ on. let f = all_few (counted n x) xs ys lines (rw on at e) in (omega (arith, f.0, counted_few n x), omega (arith, f.1)))
+    (λ off. absurd (cc (rw off at e)))
+
+pub some_few : (n : ℕ) (required given : List ℕ) (lines : ℕ) → compared n required given ≡ Err lines → lines ≤ n + length given
+unfolding compared
+some_few n [] given lines e = absurd (cc)
+some_few n (x ∷ xs) [] lines e = let same : n ≡ lines = cc in omega arith
+some_few n (x ∷ xs) (y ∷ ys) lines e =
+    split (eqb x y)
+    (λ on. omega (arith, some_few (counted n x) xs ys lines (rw on at e), counted_few n x))
+    (λ off. let differ : Err n ≡ Err lines = rw off at e in let same : n ≡ lines = cc in omega arith)
 
 -- a line more where one ends
 pub one_more : (n : ℕ) (ends : Bool) → cond ends (suc n) n ≡ n + bool_byte ends

@@ -45,25 +45,13 @@ struct Checking {
     more: bool,
 }
 
-// Whether all required bytes, if they are not too many to count, stand in a text from a place on. It does not leave at the first that does not, so that the
-// compiler compares several at once. Where it says no, nothing is promised: they are compared byte by byte then.
+// Whether all required bytes, if they are not too many to count, stand in a text from a place on. Several are compared at once; where it says no, nothing is
+// promised: they are compared byte by byte then.
 fn stands_at(required: &[u8], given: &[u8], from: usize) -> bool
     requires { from ≤ length given.now }
     ensures { result ≡ true → StandsAt required.now (drop from given.now) }
 {
-    if required.len() > MOST {
-        return false;
-    }
-    if given.len() - from < required.len() {
-        return false;
-    }
-    let mut alike = true;
-    let mut i: usize = 0;
-    while i < required.len() {
-        alike = alike & (required[i] == given[from + i]);
-        i += 1;
-    }
-    alike
+    required.len() <= MOST && given[from..].starts_with(required)
 }
 
 // The lines that have ended behind a text more.
@@ -86,7 +74,10 @@ fn compare_bytes(required: &[u8], given: &[u8], from: usize, lines: u64) -> Resu
     let mut at = from;
     let mut ended = lines;
     for b in required {
-        if at == given.len() || *b != given[at] {
+        if at == given.len() {
+            return Err(ended);
+        }
+        if *b != given[at] {
             return Err(ended);
         }
         ended += (*b == b'\n') as u64;

@@ -1,9 +1,8 @@
 // Numbers in columns, read from lent text and printed into a lent buffer; and the line of a refusal.
 #![tactic(auto)]
 
-ghost use Rattle.std.specs.Prelude.{◌≡◌, ◌+◌, ◌*◌, ◌≤◌, ◌<◌, [], ◌∷◌, length, take};
-ghost use Rattle.std.proofs.Math.Seq.{slice};
-ghost use Rattle.columns.specs.Numbers.{digits, field, digit_or_blank, printed, written};
+ghost use Rattle.std.specs.Prelude.{◌≡◌, ◌+◌, ◌*◌, ◌≤◌, ◌<◌, ◌==◌, not, [], ◌∷◌, length, take, position};
+ghost use Rattle.columns.specs.Numbers.{digits, number, field, digit_or_blank, printed, written};
 ghost use Rattle.columns.specs.Answers.{found};
 ghost use Rattle.columns.specs.Output.{number_columns, refusal_line, PrintsInto};
 
@@ -13,62 +12,55 @@ pub const COLUMNS: usize = 6;
 // Line numbers are printed modulo this.
 pub const LINES: u64 = 10_000_000_000;
 
-// The digits from a place to an end.
-fn read_digits(text: &[u8], from: usize, end: usize) -> Option<u32>
-    requires { (from ≤ end) × (end ≤ from + 6) × (end ≤ length text.now) }
-    ensures { found result ≡ digits 0 (slice from end text.now) }
+// The number that digits make.
+fn read_digits(columns: &[u8]) -> Option<u32>
+    requires { length columns.now ≤ 6 }
+    ensures { found result ≡ digits 0 columns.now }
 {
     let mut n: u32 = 0;
-    let mut i = from;
-    while i < end {
-        let b = text[i];
-        if b < b'0' {
+    for b in columns {
+        if !b.is_ascii_digit() {
             return None;
         }
-        if b'9' < b {
-            return None;
-        }
-        n = n * 10 + (b - b'0') as u32;
-        i += 1;
+        n = n * 10 + (*b - b'0') as u32;
     }
     Some(n)
 }
 
-// The number in the 6 columns from a place on: blanks, then digits.
-fn read_padded(text: &[u8], from: usize) -> Option<u32>
-    requires { from + 6 ≤ length text.now }
-    ensures { found result ≡ field from text.now }
+// The first column that holds no blank.
+fn behind_blanks(columns: &[u8]) -> Option<usize>
+    ensures { result ≡ position (λ b. not (b == 32)) columns.now }
 {
-    let end = from + COLUMNS;
-    let mut i = from;
-    while i < end {
-        if text[i] != b' ' {
-            return read_digits(text, i, end);
-        }
-        i += 1;
-    }
-    None
+    columns.iter().position(|b| *b != b' ')
 }
 
-// The same; a number of four or five digits, as most rows are, without a loop over the blanks.
+// The number in a field's columns: blanks, then digits.
+fn read_padded(columns: &[u8]) -> Option<u32>
+    requires { length columns.now ≤ 6 }
+    ensures { found result ≡ number columns.now }
+{
+    let first = behind_blanks(columns)?;
+    read_digits(&columns[first..])
+}
+
+// The number in the 6 columns from a place on. One of four or five digits, as most rows are, is read without a search for the first digit.
+#[inline]
 pub fn read_number(text: &[u8], from: usize) -> Option<u32>
     requires { from + 6 ≤ length text.now }
     ensures { found result ≡ field from text.now }
 {
-    let Some(low) = read_digits(text, from + 2, from + COLUMNS) else {
-        return read_padded(text, from);
+    let columns = &text[from..from + COLUMNS];
+    let Some(low) = read_digits(&columns[2..]) else {
+        return read_padded(columns);
     };
-    if text[from] != b' ' {
-        return read_padded(text, from);
+    if columns[0] != b' ' {
+        return read_padded(columns);
     }
-    let first = text[from + 1];
+    let first = columns[1];
     if first == b' ' {
         return Some(low);
     }
-    if first < b'0' {
-        return None;
-    }
-    if b'9' < first {
+    if !first.is_ascii_digit() {
         return None;
     }
     Some((first - b'0') as u32 * 10000 + low)
@@ -93,13 +85,12 @@ pub fn print_number(out: &mut [u8], at: usize, columns: usize, n: u64)
     if columns == 0 {
         return;
     }
-    let mut i = at + columns - 1;
-    out[i] = (b'0' as u64 + n % 10) as u8;
+    let last = at + columns - 1;
+    out[last] = (b'0' as u64 + n % 10) as u8;
     let mut left = n / 10;
-    while at < i {
-        i -= 1;
+    for i in (at..last).rev() {
         out[i] = digit_or_blank(left);
-        left = left / 10;
+        left /= 10;
     }
 }
 
@@ -127,10 +118,8 @@ pub fn print_numbers(out: &mut [u8], at: usize, numbers: &[u32], count: usize) -
     ensures { PrintsInto out at (number_columns (take count numbers.now)) result }
 {
     let mut place = at;
-    let mut i = 0;
-    while i < count {
-        place = print_columns(out, place, COLUMNS, numbers[i] as u64);
-        i += 1;
+    for n in &numbers[..count] {
+        place = print_columns(out, place, COLUMNS, *n as u64);
     }
     place
 }

@@ -1,49 +1,47 @@
 -- A remap that is accepted is a permutation of the bank's rows: sixteen places in which each of 0 to 15 occurs hold nothing else, and none of them twice.
 use mathlib.Core.Path.{◌≡◌, refl, sym, subst}
-use mathlib.Core.Bool.{true, false, cond, ◌&&◌}
+use mathlib.Core.Bool.{and-false, Bool, true, false, cond, ◌&&◌}
 use mathlib.Core.List.{List}
 use mathlib.Core.Logic.{⊎_elim}
 use Prim.Native.Nat.{ℕ, zero, suc, ◌+◌, ◌-◌, ◌%◌, ◌≤◌, ◌<◌}
-use native.Mathlib.Nat.{mod-lt}
+use native.Mathlib.Nat.{mod-lt, zero-add}
 use native.Mathlib.Numerals.{sub-one}
 use native.Mathlib.Omega.{arith}
 use borrow.Author.Tests.{eq-eqb, ne_eqb, eqb-true, eqb-false, ltb-true, ltb-false, lt-ltb, le-ltb}
 use lib.Dec.{eqb, ltb, lit<}
-use lib.ListN.{get_or}
+use lib.ListN.{get_or, length}
+use Rattle.std.specs.Bool.{MatchBool}
+use Rattle.std.specs.List.{AllWithin, HoldsAt, range_with_len}
+use Rattle.std.proofs.lemmas.List.FromFn.{get_or-range_with_len, length-range_with_len}
 use Rattle.laws.proofs.Cases.{split, clash, and_both, le_or_lt}
 use Rattle.device.specs.Remap.{own_remap, occurs_in, all_occur, remap_allowed, physical}
 use Rattle.device.proofs.Occurrences.{hit, hit_le}
 
--- what a search from the last place down finds, by the place it looks at
-pub occurs_here : (i k : ℕ) (v : List ℕ) → 0 < i → get_or v (i - 1) 0 ≡ k → occurs_in i v k ≡ true
-unfolding occurs_in
-occurs_here zero k v h e = absurd (omega arith)
-occurs_here (suc i) k v h e = let here : get_or v i 0 ≡ k = rw sub-one at e in rw (eq-eqb _ _ here)
-
-pub occurs_before : (i k : ℕ) (v : List ℕ) → 0 < i → (get_or v (i - 1) 0 ≡ k → ⊥) → occurs_in i v k ≡ occurs_in (i - 1) v k
-unfolding occurs_in
-occurs_before zero k v h e = absurd (omega arith)
-occurs_before (suc i) k v h e = let other : (get_or v i 0 ≡ k → ⊥) = rw sub-one at e in rw (ne_eqb _ _ other, sub-one)
-
-pub occurs_nowhere : (i k : ℕ) (v : List ℕ) → i ≡ 0 → occurs_in i v k ≡ false
-unfolding occurs_in
-occurs_nowhere i k v e = rw e
-
--- the test from the highest number down
-all_step : (n : ℕ) (v : List ℕ) → 0 < n → all_occur n v ≡ occurs_in 16 v (n - 1) && all_occur (n - 1) v
+-- what `all` says of each number below n
+all_there : (n : ℕ) (v : List ℕ) → ((k : ℕ) → k < n → occurs_in 16 v k ≡ true) → all_occur n v ≡ true
 unfolding all_occur
-all_step zero v h = absurd (omega arith)
-all_step (suc n) v h = rw sub-one
+all_there zero v there = refl
+all_there (suc n) v there = rw (there n (omega arith)) (all_there n v (λ k h. there k (omega arith)))
 
-pub all_missing : (n : ℕ) (v : List ℕ) → 0 < n → occurs_in 16 v (n - 1) ≡ false → all_occur n v ≡ false
-all_missing n v h e = rw (all_step n v h, e)
-
-pub all_before : (n : ℕ) (v : List ℕ) → 0 < n → occurs_in 16 v (n - 1) ≡ true → all_occur n v ≡ all_occur (n - 1) v
-all_before n v h e = rw (all_step n v h, e)
-
-pub all_of_none : (n : ℕ) (v : List ℕ) → n ≡ 0 → all_occur n v ≡ true
+one_missing : (n k : ℕ) (v : List ℕ) → k < n → occurs_in 16 v k ≡ false → all_occur n v ≡ false
 unfolding all_occur
-all_of_none n v e = rw e
+one_missing zero k v h missing = absurd (omega arith)
+one_missing (suc n) k v h missing =
+    ⊎_elim
+    (λ last. let same : k ≡ n = omega arith in rw (rw same at missing))
+    (λ before. rw (one_missing n k v before missing) (and-false (occurs_in 16 v n)))
+    (le_or_lt n k)
+
+pub all_said : (n : ℕ) (b : Bool) (v : List ℕ) →
+    MatchBool b
+    (AllWithin (λ k. occurs_in 16 v k ≡ true) (range_with_len 0 n) 0 (length (range_with_len 0 n)))
+    ((k : ℕ) × (k < length (range_with_len 0 n)) × HoldsAt (λ k. occurs_in 16 v k ≡ false) (range_with_len 0 n) k) →
+    b ≡ all_occur n v
+all_said n true v all =
+    sym (all_there n v (λ k few. rw (get_or-range_with_len 0 n k 0 few, zero-add) at (all k 0 (omega arith) (omega (arith, length-range_with_len)))))
+all_said n false v (k, h, missing) =
+    let few : k < n = omega (arith, length-range_with_len) in
+    sym (one_missing n k v few (rw (get_or-range_with_len 0 n k 0 few, zero-add) at (missing 0)))
 
 -- how many of the first places hold k, and how many a number below n
 holding : ℕ → List ℕ → ℕ → ℕ

@@ -108,32 +108,23 @@ pub fn own_remap() -> [u32; 16]
 }
 
 // Whether a number occurs in a remap. It looks at every place, so that the compiler can look at several at once.
+#[tactic(auto, unfolding(crate::specs::Remap::occurs_in))]
 fn occurs(remap: [u32; 16], k: u32) -> bool
     ensures { result ≡ occurs_in 16 remap k }
 {
     let mut found = false;
-    let mut i: usize = 16;
-    while 0 < i {
-        i -= 1;
-        if remap[i] == k {
-            found = true;
-        }
+    for number in remap {
+        found |= number == k;
     }
     found
 }
 
 // Whether a remap is accepted: each of 0 to 15 occurs in it.
+#[tactic(auto, unfolding(crate::specs::Remap::remap_allowed, crate::specs::Remap::all_occur))]
 pub fn remap_allowed(remap: [u32; 16]) -> bool
     ensures { result ≡ remap_allowed remap }
 {
-    let mut k: u32 = 16;
-    while 0 < k {
-        k -= 1;
-        if !occurs(remap, k) {
-            return false;
-        }
-    }
-    true
+    (0..16).all(|k| occurs(remap, k))
 }
 
 // The physical row of a logical row, by a remap that is accepted.

@@ -3,7 +3,9 @@
 
 mod run;
 
-ghost use Rattle.std.specs.Prelude.{◌≡◌, ◌+◌, ◌*◌, ◌≤◌, length};
+ghost use Rattle.std.specs.Prelude.{◌≡◌, ◌+◌, ◌*◌, ◌≤◌, is_some, IfSome, length, drop};
+ghost use Rattle.trace.specs.Lines.{ended};
+ghost use Rattle.trace.specs.Reading.{said, reading};
 ghost use Rattle.steps.specs.Memory.{memory_of, start_place, Ready, BankedIn, next_number};
 ghost use Rattle.columns.specs.Output.{PrintsInto};
 ghost use Rattle.listing.specs.Chunks.{line_room, part, part_left, chunk, chunk_left, last_line};
@@ -12,6 +14,7 @@ use columns::LINES;
 use dense::Tally;
 use device::{Refusal, Settings};
 use steps::Place;
+use trace::Read;
 
 // Room for the longest line that is printed, which has 110 bytes.
 const ROOM: usize = 200;
@@ -68,6 +71,19 @@ pub fn start() -> Place
     }
 }
 
+// The line at a place of the text, if it has ended.
+fn ended_line(text: &[u8], at: usize) -> Option<Read>
+    requires { at ≤ length text.now }
+    ensures is_ended { is_some result ≡ ended (drop at text.now) }
+    ensures says { IfSome result (λ line. said line ≡ reading text.now at) }
+{
+    if at == text.len() {
+        return None;
+    }
+    let line = trace::read_line(text, at);
+    (text[line.place - 1] == b'\n').then_some(line)
+}
+
 // Lists the lines at the front of a text, while they have ended and there is room to print in: a run of accepted activations, then the line behind it.
 pub fn list_part(
     p: Place,
@@ -84,29 +100,21 @@ pub fn list_part(
     let mut place = p;
     let mut at: usize = 0;
     let mut end: usize = 0;
-    while at < text.len() && ROOM <= out.len() - end {
+    while ROOM <= out.len() - end {
         let run = run::run_activations(place, counts, marks, bounds, text, at);
         place = run.place;
         at = run.taken;
-        if at == text.len() {
+        let Some(line) = ended_line(text, at) else {
             return Part {
                 place,
                 taken: at,
                 end,
             };
-        }
-        let answer = trace::read_line(text, at);
-        if text[answer.place - 1] != b'\n' {
-            return Part {
-                place,
-                taken: at,
-                end,
-            };
-        }
-        let listed = steps::list_line(place, counts, marks, bounds, answer, out, end);
+        };
+        let listed = steps::list_line(place, counts, marks, bounds, line, out, end);
         place = listed.place;
         end = listed.end;
-        at = answer.place;
+        at = line.place;
     }
     Part {
         place,
@@ -119,7 +127,10 @@ pub fn list_part(
 pub fn list_end(p: Place, text: &[u8], out: &mut [u8]) -> usize
     ensures { PrintsInto out 0 (last_line (next_number p.lines) text.now (length out.old)) result }
 {
-    if text.is_empty() || out.len() < 18 {
+    if text.is_empty() {
+        return 0;
+    }
+    if out.len() < 18 {
         return 0;
     }
     columns::print_refusal(out, 0, p.lines % LINES + 1, Refusal::Line.number())

@@ -105,11 +105,13 @@ pub fn list_activation(
     ensures lists_line { ListsLine (record_step line p.loaded (memory_of p counts.old).tracker (Activate row hold)) p.loaded line counts out at result }
     ensures banked_in { BankedIn result.place counts.new marks.new bounds.new }
 {
-    if let Err(refusal) = test_activation(p, row, hold) {
-        return list_refusal(p, refusal, line, out, at);
+    match test_activation(p, row, hold) {
+        Ok(()) => Listed {
+            place: activated(p, counts, marks, bounds, row, hold, line),
+            end: at,
+        },
+        Err(refusal) => list_refusal(p, refusal, line, out, at),
     }
-    let place = activated(p, counts, marks, bounds, row, hold, line);
-    Listed { place, end: at }
 }
 
 // The line of an event; 11 where no tracker stands.
@@ -168,9 +170,10 @@ pub fn list_settings(
     ensures lists_line { ListsLine (record_step line p.loaded (memory_of p counts.old).tracker (Set s)) p.loaded line counts out at result }
     ensures banked_in { BankedIn result.place counts.new marks.new bounds.new }
 {
-    let end = print_settings(out, at, line, bound::bound(s));
+    let answer = bound::bound(s);
+    let end = print_settings(out, at, line, answer);
+    let active = answer.is_ok();
     let loaded = p.loaded;
-    let active = device::test_settings(s).is_ok();
     let tally = dense::clear(counts, marks, bounds);
     Listed {
         place: Place {

@@ -1,27 +1,44 @@
 -- Lines: where one ends, its bytes and the rest, and a line with more text behind it.
-use mathlib.Core.Path.{◌≡◌, refl, sym, ap}
+use mathlib.Core.Path.{◌≡◌, refl, sym, ap, ◌∙◌}
 use mathlib.Core.Bool.{true, false}
 use mathlib.Core.Logic.{⊎_elim}
 use mathlib.Core.List.{List, [], ◌∷◌, ◌++◌}
-use Prim.Native.Nat.{ℕ, ◌+◌, ◌≤◌, ◌<◌}
+use Prim.Native.Nat.{ℕ, suc, ◌+◌, ◌≤◌}
 use native.Mathlib.Numerals.{add-one}
 use native.Mathlib.Omega.{arith}
 use borrow.Author.Tests.{eqb-true, eq-eqb, ne_eqb}
 use lib.Dec.{eqb}
 use lib.ListN.{length, get_or, drop, drop_of_length-le}
 use lib.Seq.{drop-cons}
+use Rattle.std.specs.Prelude.{Some, None, position}
+use Rattle.std.specs.List.{position_from}
+use Rattle.std.proofs.lemmas.Iterator.Adapters.{position_from-zero}
 use Rattle.laws.proofs.Cases.{split, clash, le_or_lt}
 use Rattle.trace.specs.Lines.{line, ended, extent}
 
--- the line at i ends there
-pub extent_end : (text : List ℕ) (i : ℕ) → i < length text → get_or text i 0 ≡ 10 → extent (drop i text) ≡ 1
+-- where the first byte 10 stands, counted from i
+extent_from : (bytes : List ℕ) (i k : ℕ) → position_from (λ b. eqb b 10) i bytes ≡ Some k → i + extent bytes ≡ k + 1
 unfolding extent
-extent_end text i h e = rw (drop-cons text i 0 h, eq-eqb _ _ e)
+extent_from [] i k e = cc
+extent_from (b ∷ bytes) i k e =
+    split (eqb b 10)
+    (λ s. let found : Some i ≡ Some k = rw s at e in let same : i ≡ k = cc in rw s (omega arith))
+    (λ s. rw s (omega (arith, extent_from bytes (i + 1) k (rw s at e))))
 
--- the line at i goes on
-pub extent_other : (text : List ℕ) (i : ℕ) → i < length text → (get_or text i 0 ≡ 10 → ⊥) → extent (drop i text) ≡ 1 + extent (drop (i + 1) text)
+extent_of_length : (bytes : List ℕ) (i : ℕ) → position_from (λ b. eqb b 10) i bytes ≡ None → extent bytes ≡ length bytes
 unfolding extent
-extent_other text i h e = rw (drop-cons text i 0 h, ne_eqb _ _ e, add-one i) (omega arith)
+extent_of_length [] i e = refl
+extent_of_length (b ∷ bytes) i e =
+    split (eqb b 10)
+    (λ s. let never : Some i ≡ None = rw s at e in cc)
+    (λ s. rw s (ap suc (extent_of_length bytes (i + 1) (rw s at e))))
+
+module _ (bytes : List ℕ) where
+  pub extent_at : (k : ℕ) → position (λ b. eqb b 10) bytes ≡ Some k → extent bytes ≡ k + 1
+  extent_at k e = omega (arith, extent_from bytes 0 k (sym (position_from-zero (λ b. eqb b 10) bytes) ∙ e))
+
+  pub extent_nowhere : position (λ b. eqb b 10) bytes ≡ None → extent bytes ≡ length bytes
+  extent_nowhere e = extent_of_length bytes 0 (sym (position_from-zero (λ b. eqb b 10) bytes) ∙ e)
 
 -- bytes without byte 10, then a byte 10: that is the line
 module _ (rest : List ℕ) where

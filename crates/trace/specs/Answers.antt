@@ -1,14 +1,9 @@
--- What answers of the code say where they are no record: what a line's fields were found to hold, the row that a line tells, and bytes that were copied.
-use Rattle.std.specs.Prelude.{ℕ, ◌+◌, ◌&&◌, cond, Option as Maybe, Some, None, List, ◌++◌, ◌≡◌, eqb, leb, length, get_or, take, drop}
+-- What answers of the code say where they are no record: the row that a line tells, and bytes that were copied.
+use Rattle.std.specs.Prelude.{ℕ, ◌+◌, ◌&&◌, cond, List, ◌++◌, ◌≡◌, eqb, leb, length, get_or, take, drop}
 use Rattle.std.proofs.Math.Option.{Option, none, some}
 use Rattle.laws.specs.Lent.{Lent}
 use Rattle.trace.specs.Bytes.{letter_A}
 use Rattle.columns.specs.Numbers.{field}
-
--- what so many fields hold: as many numbers, or something else in one of them
-unfoldable pub found_all : ℕ → Maybe (List ℕ) → Option (List ℕ)
-found_all count (Some values) = some (take count values)
-found_all count None = none
 
 -- the row of an activation line of one unit at a place: the number in its 6 columns, if an `A` stands before them and a byte 10 right behind
 unfoldable pub row_told : List ℕ → ℕ → Option ℕ

@@ -1,13 +1,13 @@
 // The trace reader: lines of a lent text, the records that they say, and the text behind them.
 #![tactic(auto)]
 
-ghost use Rattle.std.specs.Prelude.{◌≡◌, ◌+◌, ◌*◌, ◌≤◌, min, length, drop};
+ghost use Rattle.std.specs.Prelude.{◌≡◌, ◌==◌, ◌+◌, ◌*◌, ◌≤◌, length, drop, position};
 ghost use Rattle.columns.specs.Numbers.{fields};
 ghost use Rattle.device.specs.Refusal.{accepted, refused};
 ghost use Rattle.trace.specs.Lines.{extent};
 ghost use Rattle.trace.specs.Records.{as_settings, as_sixteen, sixteen_of, settings, remap, activation, held_activation, refresh};
 ghost use Rattle.columns.specs.Answers.{found};
-ghost use Rattle.trace.specs.Answers.{found_all, row_told, CopiesFront};
+ghost use Rattle.trace.specs.Answers.{row_told, CopiesFront};
 ghost use Rattle.trace.specs.InnerContracts.{ends_after, line_fields};
 ghost use Rattle.trace.specs.Reading.{said, reading, reading_by, HandedOn};
 ghost use Rattle.trace.specs.Texts.{kept_bytes};
@@ -63,59 +63,58 @@ pub struct Parsed<'a> {
     pub rest: &'a [u8],
 }
 
+// Where the first byte 10 of a text stands.
+fn first_end(text: &[u8]) -> Option<usize>
+    ensures { result ≡ position (λ b. b == 10) text.now }
+{
+    text.iter().position(|b| *b == b'\n')
+}
+
 // The place behind the line's end: behind its byte 10, or the text's end.
 fn line_end(text: &[u8], place: usize) -> usize
     requires { place ≤ length text.now }
     ensures { result ≡ place + extent (drop place text.now) }
 {
-    let mut i = place;
-    while i < text.len() {
-        if text[i] == b'\n' {
-            return i + 1;
-        }
-        i += 1;
+    match first_end(&text[place..]) {
+        Some(bytes) => place + bytes + 1,
+        None => text.len(),
     }
-    i
 }
 
 // Whether a byte 10 stands so many bytes behind a place.
+#[tactic(auto, unfolding(crate::specs::InnerContracts::ends_after))]
 fn ends_after(text: &[u8], at: usize, width: usize) -> bool
     requires { at ≤ length text.now }
     ensures { result ≡ ends_after width (drop at text.now) }
 {
-    if width < text.len() - at {
-        text[at + width] == b'\n'
-    } else {
-        false
-    }
+    width < text.len() - at && text[at + width] == b'\n'
 }
 
-// The numbers in so many fields from a place on.
-fn read_fields(text: &[u8], at: usize, count: usize) -> Option<[u32; 16]>
-    requires { (count ≤ 16) × (at + 6 * count ≤ length text.now) }
-    ensures { found_all count result ≡ fields count (drop at text.now) }
+// The numbers in N fields from a place on.
+fn read_fields<const N: usize>(text: &[u8], at: usize) -> Option<[u32; N]>
+    requires { at + 6 * N ≤ length text.now }
+    ensures { found result ≡ fields N (drop at text.now) }
 {
-    let mut values = [0u32; 16];
-    let mut i: usize = 0;
-    while i < count {
+    let mut values = [0; N];
+    for i in 0..N {
         values[i] = columns::read_number(text, at + COLUMNS * i)?;
-        i += 1;
     }
     Some(values)
 }
 
-// The numbers of a line of so many fields, from behind its letter on.
-fn line_fields(text: &[u8], at: usize, count: usize) -> Option<[u32; 16]>
-    requires { (count ≤ 16) × (at ≤ length text.now) }
-    ensures { found_all count result ≡ line_fields count (drop at text.now) }
+// The numbers of a line of N fields, from behind its letter on.
+fn line_fields<const N: usize>(text: &[u8], at: usize) -> Option<[u32; N]>
+    requires { (N ≤ 16) × (at ≤ length text.now) }
+    ensures { found result ≡ line_fields N (drop at text.now) }
 {
-    if ends_after(text, at, COLUMNS * count) {
-        return read_fields(text, at, count);
+    if ends_after(text, at, COLUMNS * N) {
+        return read_fields(text, at);
     }
     None
 }
 
 // A line that says a record, and one that is refused.
+#[tactic(auto, unfolding(crate::specs::Reading::said, device::specs::Refusal::outcome))]
 fn line(says: Record, place: usize) -> Read
     ensures { said result ≡ record { outcome = accepted says; place = place } }
 {
@@ -125,6 +124,7 @@ fn line(says: Record, place: usize) -> Read
     }
 }
 
+#[tactic(auto, unfolding(crate::specs::Reading::said, device::specs::Refusal::outcome, device::specs::Refusal::number))]
 fn refused(text: &[u8], at: usize) -> Read
     requires { at ≤ length text.now }
     ensures { said result ≡ record { outcome = refused 11; place = at + extent (drop at text.now) } }
@@ -135,18 +135,20 @@ fn refused(text: &[u8], at: usize) -> Read
     }
 }
 
-// The first seven numbers as settings.
-fn as_settings(values: [u32; 16]) -> Settings
+// Seven numbers as settings.
+#[tactic(auto, unfolding(crate::specs::Records::as_settings))]
+fn as_settings(values: [u32; 7]) -> Settings
     ensures { result ≡ as_settings values }
 {
+    let [rows, blast_diameter, volume, counters, interval, window, block] = values;
     Settings {
-        rows: values[0],
-        blast_diameter: values[1],
-        volume: values[2],
-        counters: values[3],
-        interval: values[4],
-        window: values[5],
-        block: values[6],
+        rows,
+        blast_diameter,
+        volume,
+        counters,
+        interval,
+        window,
+        block,
     }
 }
 
@@ -155,33 +157,47 @@ fn read_settings(text: &[u8], at: usize) -> Read
     requires { at ≤ length text.now }
     ensures { said result ≡ reading_by settings (drop at text.now) at }
 {
-    let Some(values) = line_fields(text, at, 7) else {
+    let Some(values) = line_fields::<7>(text, at) else {
         return refused(text, at);
     };
     line(Record::Set(as_settings(values)), at + 43)
 }
 
-// Sixteen numbers as fields.
-fn as_sixteen(values: [u32; 16]) -> Sixteen
-    ensures { result ≡ as_sixteen values }
-{
-    Sixteen {
-        n0: values[0],
-        n1: values[1],
-        n2: values[2],
-        n3: values[3],
-        n4: values[4],
-        n5: values[5],
-        n6: values[6],
-        n7: values[7],
-        n8: values[8],
-        n9: values[9],
-        n10: values[10],
-        n11: values[11],
-        n12: values[12],
-        n13: values[13],
-        n14: values[14],
-        n15: values[15],
+impl From<[u32; 16]> for Sixteen {
+    #[tactic(auto, unfolding(crate::specs::Records::as_sixteen))]
+    fn from(values: [u32; 16]) -> Self
+        ensures { result ≡ as_sixteen values }
+    {
+        Sixteen {
+            n0: values[0],
+            n1: values[1],
+            n2: values[2],
+            n3: values[3],
+            n4: values[4],
+            n5: values[5],
+            n6: values[6],
+            n7: values[7],
+            n8: values[8],
+            n9: values[9],
+            n10: values[10],
+            n11: values[11],
+            n12: values[12],
+            n13: values[13],
+            n14: values[14],
+            n15: values[15],
+        }
+    }
+}
+
+impl From<Sixteen> for [u32; 16] {
+    #[tactic(auto, unfolding(crate::specs::Records::sixteen_of))]
+    fn from(t: Sixteen) -> Self
+        ensures { result ≡ sixteen_of t }
+    {
+        [
+            t.n0, t.n1, t.n2, t.n3, t.n4, t.n5, t.n6, t.n7, t.n8, t.n9, t.n10, t.n11, t.n12, t.n13,
+            t.n14, t.n15,
+        ]
     }
 }
 
@@ -189,10 +205,7 @@ fn as_sixteen(values: [u32; 16]) -> Sixteen
 pub fn sixteen_of(t: Sixteen) -> [u32; 16]
     ensures { result ≡ sixteen_of t }
 {
-    [
-        t.n0, t.n1, t.n2, t.n3, t.n4, t.n5, t.n6, t.n7, t.n8, t.n9, t.n10, t.n11, t.n12, t.n13,
-        t.n14, t.n15,
-    ]
+    <[u32; 16]>::from(t)
 }
 
 // A line of a remap, from behind its letter on.
@@ -200,10 +213,10 @@ fn read_remap(text: &[u8], at: usize) -> Read
     requires { at ≤ length text.now }
     ensures { said result ≡ reading_by remap (drop at text.now) at }
 {
-    let Some(values) = line_fields(text, at, 16) else {
+    let Some(values) = line_fields::<16>(text, at) else {
         return refused(text, at);
     };
-    line(Record::Remap(as_sixteen(values)), at + 97)
+    line(Record::Remap(Sixteen::from(values)), at + 97)
 }
 
 // An activation's line, from behind its letter on.
@@ -225,10 +238,11 @@ fn read_held_activation(text: &[u8], at: usize) -> Read
     requires { at ≤ length text.now }
     ensures { said result ≡ reading_by held_activation (drop at text.now) at }
 {
-    let Some(values) = line_fields(text, at, 2) else {
+    let Some(values) = line_fields::<2>(text, at) else {
         return refused(text, at);
     };
-    line(Record::Activate(values[0], values[1]), at + 13)
+    let [row, hold] = values;
+    line(Record::Activate(row, hold), at + 13)
 }
 
 // A refresh event's line, from behind its letter on.
@@ -244,6 +258,8 @@ fn read_refresh(text: &[u8], at: usize) -> Read
 }
 
 // The row of an activation line of one unit at a place: for a caller that wants nothing but the rows of such lines, and no record.
+#[inline]
+#[tactic(auto, unfolding(columns::specs::Answers::found, crate::specs::Answers::row_told))]
 pub fn activation_row(text: &[u8], place: usize) -> Option<u32>
     requires { place ≤ length text.now }
     ensures { found result ≡ row_told text.now place }
@@ -261,6 +277,7 @@ pub fn activation_row(text: &[u8], place: usize) -> Option<u32>
 }
 
 // The line at a place of the text.
+#[tactic(auto, using(crate::proofs::Reading::ByLetter::reading_behind_end, crate::proofs::Reading::ByLetter::reading_blank, crate::proofs::Reading::ByLetter::reading_activation, crate::proofs::Reading::ByLetter::reading_refresh, crate::proofs::Reading::ByLetter::reading_held, crate::proofs::Reading::ByLetter::reading_settings, crate::proofs::Reading::ByLetter::reading_remap), unfolding(crate::specs::Reading::said, device::specs::Refusal::outcome))]
 pub fn read_line(text: &[u8], place: usize) -> Read
     ensures { said result ≡ reading text.now place }
 {
@@ -270,38 +287,24 @@ pub fn read_line(text: &[u8], place: usize) -> Read
             place,
         };
     }
-    let letter = text[place];
     let at = place + 1;
-    if letter == b'A' {
-        return read_activation(text, at);
+    let letter = text[place];
+    match letter {
+        b'A' => read_activation(text, at),
+        b'R' => read_refresh(text, at),
+        b'H' => read_held_activation(text, at),
+        b'S' => read_settings(text, at),
+        b'F' => read_remap(text, at),
+        b'\n' => line(Record::Blank, at),
+        _ => refused(text, at),
     }
-    if letter == b'R' {
-        return read_refresh(text, at);
-    }
-    if letter == b'H' {
-        return read_held_activation(text, at);
-    }
-    if letter == b'S' {
-        return read_settings(text, at);
-    }
-    if letter == b'F' {
-        return read_remap(text, at);
-    }
-    if letter == b'\n' {
-        return line(Record::Blank, at);
-    }
-    refused(text, at)
 }
 
 // The text from a place on, as a part of the caller's; none of it where the place is behind the end.
 pub fn rest(text: &[u8], place: usize) -> &[u8]
     ensures { HandedOn text.entry place result }
 {
-    if place <= text.len() {
-        return &text[place..];
-    }
-    let end = text.len();
-    &text[end..]
+    &text[place.min(text.len())..]
 }
 
 // The line at a place of the text, with the text behind it as a part of the caller's.
@@ -313,24 +316,13 @@ pub fn next_line<'a>(text: &'a [u8], place: usize) -> Parsed<'a>
     Parsed { answer, rest }
 }
 
-// The smaller of two numbers.
-fn smaller(a: usize, b: usize) -> usize
-    ensures { result ≡ min a b }
-{
-    if a <= b { a } else { b }
-}
-
 // Of the text's bytes from one place to another, the first 128 go to its front; how many they are.
 pub fn keep(text: &mut [u8], from: usize, to: usize) -> usize
     ensures { CopiesFront text (kept_bytes from to text.old) result }
 {
-    let end = smaller(to, text.len());
-    let begin = smaller(from, end);
-    let kept = smaller(end - begin, KEPT);
-    let mut i = 0;
-    while i < kept {
-        text[i] = text[begin + i];
-        i += 1;
-    }
+    let end = to.min(text.len());
+    let begin = from.min(end);
+    let kept = (end - begin).min(KEPT);
+    text.copy_within(begin..begin + kept, 0);
     kept
 }

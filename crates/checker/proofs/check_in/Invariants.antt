@@ -1,6 +1,6 @@
 -- `checker::check_in` meets its contract. The invariant: how far the check has come, with tables that are a listing's.
 use mathlib.Core.Path.{◌≡◌}
-use mathlib.Core.Bool.{true, false, cond}
+use mathlib.Core.Bool.{false, cond}
 use mathlib.Core.List.{List}
 use Prim.Native.Nat.{ℕ, suc, ◌-◌}
 use lib.ListN.{length, drop}
@@ -13,8 +13,7 @@ use Rattle.checker.proofs.check_in.Given as goal
 pub record Stands (trace given counts marks bounds : List ℕ) (k : Checking) : Type 0 where
   pub reaches : Reaches trace given (memory k.place counts) k
   pub banked : Banked k.place counts marks bounds
-  pub goes : k.more ≡ true → k.same ≡ true
-  pub last : k.more ≡ false → k.same ≡ true → ended (drop k.taken trace) ≡ false
+  pub last : k.more ≡ false → ended (drop k.taken trace) ≡ false
 
 abbrev pub left : List ℕ → Checking → ℕ
 left trace k = cond k.more (suc (length trace - k.taken)) 0

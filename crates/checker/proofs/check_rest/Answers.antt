@@ -1,34 +1,34 @@
 -- `checker::check_rest` meets its contract: by what the end of the trace requires, and by what comparing that came to.
-use native.Mathlib.Nat.{sub-zero}
+use native.Mathlib.Numerals.{add-one}
 use native.Mathlib.Omega.{arith}
-use borrow.Author.Tests.{not-true, not-false}
 use Rattle.checker.specs.Comparison.{verdict_of}
-use Rattle.checker.proofs.Checks.{last_most, last_off, last_surplus, last_fits, last_passes, rest_all}
+use Rattle.checker.proofs.Checks.{last_most, last_lines, last_off, last_surplus, last_fits, last_passes, rest_all}
 use Rattle.checker.proofs.check_rest.Goals as goal
 
-pub overflow_add-line : goal.overflow_add-line
-overflow_add-line c =
-    let e = rw (sub-zero c.list_end-end.result) at c.compare-found.ensures in
-    record { fits = omega (arith, last_most c.args.k.lines c.list_end-end.ensures c.args.given.now c.args.k.passed e c.requires.2 c.requires.1, c.well_formed) }
+pub departs_behind-requires : goal.departs_behind-requires
+departs_behind-requires c =
+    omega (arith, last_lines c.args.k.lines c.list_end-end.ensures c.args.given.now c.args.k.passed _ c.in-Ok.ensures c.requires.2 c.requires.1, c.well_formed)
 
-pub returns-then-not-found : goal.returns-then-not-found
-unfolding verdict_of
-returns-then-not-found c =
-    let p = rw (rest_all c.args.trace.now c.args.k.taken) at c.list_end-end.ensures in
-    let e = rw (sub-zero c.list_end-end.result) at c.compare-found.ensures in
-    last_off c.args.k.lines p c.args.given.now c.args.k.passed e _ (not-true _ c.if-not-found.true) (omega arith)
+pub departs_behind-requires-in-Err : goal.departs_behind-requires-in-Err
+departs_behind-requires-in-Err c =
+    omega (arith, last_most c.args.k.lines c.list_end-end.ensures c.args.given.now c.args.k.passed _ c.in-Err.ensures c.requires.2 c.requires.1, c.well_formed)
 
-pub returns-then-end-given : goal.returns-then-end-given
+pub returns-in-Ok : goal.returns-in-Ok
 unfolding verdict_of
-returns-then-end-given c =
+returns-in-Ok c =
     let p = rw (rest_all c.args.trace.now c.args.k.taken) at c.list_end-end.ensures in
-    let e = rw (sub-zero c.list_end-end.result) at c.compare-found.ensures in
-    last_surplus c.args.k.lines p c.args.given.now c.args.k.passed e _ (not-false _ c.if-not-found.false) (λ same. omega (arith, same, c.if-end-given.true)) (omega arith)
+    rw (c.departs_behind.ensures, add-one c.in-Ok.lines)
+    (last_surplus c.args.k.lines p c.args.given.now c.args.k.passed _ c.in-Ok.ensures (λ same. omega (arith, same, c.if-end-given.true)))
 
-pub returns : goal.returns
+pub returns-in-Ok-2 : goal.returns-in-Ok-2
 unfolding verdict_of
-returns c =
+returns-in-Ok-2 c =
     let p = rw (rest_all c.args.trace.now c.args.k.taken) at c.list_end-end.ensures in
-    let e = rw (sub-zero c.list_end-end.result) at c.compare-found.ensures in
-    let all = (not-false _ c.if-not-found.false) in
-    last_passes c.args.k.lines p c.args.given.now c.args.k.passed e all (omega (arith, c.if-end-given.false, last_fits c.args.k.lines p c.args.given.now c.args.k.passed e all))
+    let fits = last_fits c.args.k.lines p c.args.given.now c.args.k.passed _ c.in-Ok-2.ensures in
+    last_passes c.args.k.lines p c.args.given.now c.args.k.passed _ c.in-Ok-2.ensures (omega (arith, c.if-end-given.false, fits))
+
+pub returns-in-Err : goal.returns-in-Err
+unfolding verdict_of
+returns-in-Err c =
+    let p = rw (rest_all c.args.trace.now c.args.k.taken) at c.list_end-end.ensures in
+    rw (c.departs_behind-in-Err.ensures, add-one c.in-Err.lines) (last_off c.args.k.lines p c.args.given.now c.args.k.passed _ c.in-Err.ensures)

@@ -1,6 +1,6 @@
 -- `checker::compare_bytes` meets its contract. The invariant: what comparing the rest comes to is what comparing all comes to.
 use mathlib.Core.Path.{◌≡◌, refl, sym, ◌∙◌, ap}
-use mathlib.Core.Bool.{true, false}
+use Rattle.std.specs.Prelude.{Ok, Err}
 use mathlib.Core.List.{List}
 use Prim.Native.Nat.{ℕ, ◌+◌, ◌≤◌, ◌<◌}
 use native.Mathlib.Numerals.{add-one}
@@ -16,12 +16,12 @@ use Rattle.checker.proofs.compare_bytes.Invariants.{Left}
 use Rattle.checker.proofs.compare_bytes.Goals as goal
 
 module _ {required given : List ℕ} {from lines at i ended : ℕ} (l : Left required given from lines at i ended) where
-  whole : length required ≤ i → record { all = true; lines = ended } ≡ compared lines required (drop from given)
+  whole : length required ≤ i → Ok ended ≡ compared lines required (drop from given)
   unfolding compared
   whole h = rw (drop_of_length-le required {i = i} h) at l.same
 
   module _ (h : i < length required) where
-    short : at ≡ length given → record { all = false; lines = ended } ≡ compared lines required (drop from given)
+    short : at ≡ length given → Err ended ≡ compared lines required (drop from given)
     unfolding compared
     short e = rw (drop-cons required i 0 h, drop_of_length-le given {i = at} (omega arith)) at l.same
 
@@ -29,7 +29,7 @@ module _ {required given : List ℕ} {from lines at i ended : ℕ} (l : Left req
     before_end e = omega (arith, l.within)
 
     module _ (inside : at < length given) where
-      differs : (get_or required i 0 ≡ get_or given at 0 → ⊥) → record { all = false; lines = ended } ≡ compared lines required (drop from given)
+      differs : (get_or required i 0 ≡ get_or given at 0 → ⊥) → Err ended ≡ compared lines required (drop from given)
       unfolding compared
       differs e = rw (drop-cons required i 0 h, drop-cons given at 0 inside, ne_eqb (get_or required i 0) (get_or given at 0) e) at l.same
 
@@ -52,19 +52,19 @@ module _ {required given : List ℕ} {from lines at i ended : ℕ} (l : Left req
                 ap (λ (n : ℕ). compared n (drop (i + 1) required) (drop (at + 1) given)) (sym (one_more ended ends)) ∙ further e;
           }
 
-pub loop-i-init : goal.loop-i-init
-loop-i-init c = record { within = c.requires.0; fits = c.requires.1; same = refl }
+pub loop-b-init : goal.loop-b-init
+loop-b-init c = record { within = c.requires.0; fits = c.requires.1; same = refl }
 
 pub returns-then-at-given : goal.returns-then-at-given
-returns-then-at-given c = short c.loop-i.invariant c.loop-i-test.true c.if-at-given.true
+returns-then-at-given c = short c.loop-b.invariant (omega arith) c.if-at-given.true
 
 pub bounds-given-at : goal.bounds-given-at
-bounds-given-at c = before_end c.loop-i.invariant c.loop-i-test.true c.if-at-given.false
+bounds-given-at c = before_end c.loop-b.invariant (omega arith) c.if-at-given.false
 
 pub returns-then-b-given : goal.returns-then-b-given
 returns-then-b-given c =
-    let l = c.loop-i.invariant in
-    let h = c.loop-i-test.true in
+    let l = c.loop-b.invariant in
+    let h : c.loop-b.b-index < length c.args.required.now = omega arith in
     differs l h (before_end l h c.if-at-given.false) (λ same. omega (arith, same, c.if-b-given.true))
 
 pub overflow_cast-ended : goal.overflow_cast-ended
@@ -72,21 +72,21 @@ overflow_cast-ended c = tt
 
 pub overflow_add-ended : goal.overflow_add-ended
 overflow_add-ended c =
-    let l = c.loop-i.invariant in
-    let h = c.loop-i-test.true in
-    record { fits = omega (arith, counted_fits l h (before_end l h c.if-at-given.false), one_most (eqb (get_or c.args.required.now c.loop-i.i 0) 10)) }
+    let l = c.loop-b.invariant in
+    let h : c.loop-b.b-index < length c.args.required.now = omega arith in
+    record { fits = omega (arith, counted_fits l h (before_end l h c.if-at-given.false), one_most (eqb (get_or c.args.required.now c.loop-b.b-index 0) 10)) }
 
 pub overflow_add-at : goal.overflow_add-at
 overflow_add-at c =
-    let l = c.loop-i.invariant in
-    let h = c.loop-i-test.true in
+    let l = c.loop-b.invariant in
+    let h : c.loop-b.b-index < length c.args.required.now = omega arith in
     record { fits = omega (arith, before_end l h c.if-at-given.false, c.well_formed) }
 
-pub loop-i-preserved : goal.loop-i-preserved
-loop-i-preserved c =
-    let l = c.loop-i.invariant in
-    let h = c.loop-i-test.true in
+pub loop-b-preserved : goal.loop-b-preserved
+loop-b-preserved c =
+    let l = c.loop-b.invariant in
+    let h : c.loop-b.b-index < length c.args.required.now = omega arith in
     next l h (before_end l h c.if-at-given.false) (omega (arith, c.if-b-given.false))
 
 pub returns : goal.returns
-returns c = whole c.loop-i.invariant c.loop-i-test.false
+returns c = whole c.loop-b.invariant c.loop-b-test.false

@@ -11,8 +11,5 @@ pub record Left (required given : List ℕ) (from lines at i ended : ℕ) : Type
   pub fits : ended + (length given - at) ≤ 18446744073709551615
   pub same : compared ended (drop i required) (drop at given) ≡ compared lines required (drop from given)
 
-abbrev pub invariant-loop-i : goal.invariant-loop-i
-invariant-loop-i l = Left l.required l.given l.from l.lines l.at l.i l.ended
-
-abbrev pub decreases-loop-i : goal.decreases-loop-i
-decreases-loop-i l = length l.required - l.i
+abbrev pub invariant-loop-b : goal.invariant-loop-b
+invariant-loop-b l = Left l.required l.given l.from l.lines l.at l.b-index l.ended

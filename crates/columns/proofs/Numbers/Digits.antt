@@ -1,6 +1,10 @@
 -- Digits in columns: a number column by column, and how large it gets.
-use mathlib.Core.Path.{◌≡◌, ap}
+use mathlib.Core.Path.{◌≡◌, refl, sym, ap, ◌∙◌}
 use mathlib.Core.Bool.{true, false}
+use Rattle.std.specs.Prelude.{Some, None, not, position}
+use Rattle.std.specs.List.{position_from}
+use Rattle.std.proofs.lemmas.Iterator.Adapters.{position_from-zero}
+use lib.Dec.{eqb}
 use mathlib.Core.List.{List, [], ◌∷◌}
 use mathlib.Core.Option.{none, some, some-injective}
 use Prim.Native.Nat.{ℕ, zero, suc, ◌+◌, ◌-◌, ◌*◌, ◌^◌, ◌≤◌, ◌<◌}
@@ -10,17 +14,10 @@ use native.Mathlib.Omega.{arith}
 use borrow.Author.Tests.{eq-eqb, ne_eqb, leb-true, le-leb, lt-leb}
 use lib.Dec.{leb}
 use lib.ListN.{length, get_or, take, drop}
-use lib.Seq.{slice, slice-cons, slice_empty, take-nil}
+use lib.Seq.{slice, drop-cons, take-nil}
+use Rattle.std.specs.Char.{is_ascii_digit}
 use Rattle.laws.proofs.Cases.{split, and_both, cond_test, cond_some}
 use Rattle.columns.specs.Numbers.{is_digit, digits, number}
-
-pub is_digit_below : (b : ℕ) → b < 48 → is_digit b ≡ false
-unfolding is_digit
-is_digit_below b h = rw (lt-leb _ _ h)
-
-pub is_digit_above : (b : ℕ) → 57 < b → is_digit b ≡ false
-unfolding is_digit
-is_digit_above b h = split (leb 48 b) (λ e. rw (e, lt-leb _ _ h)) (λ e. rw e)
 
 pub is_digit_within : (b : ℕ) → 48 ≤ b → b ≤ 57 → is_digit b ≡ true
 unfolding is_digit
@@ -31,40 +28,53 @@ pub is_digit_range : (b : ℕ) → is_digit b ≡ true → (48 ≤ b) × (b ≤ 
 unfolding is_digit
 is_digit_range b h = let both = and_both (leb 48 b) (leb b 57) h in (leb-true 48 b both.0, leb-true b 57 both.1)
 
--- digits that were found begin with a digit, so not with a blank
-number_of_digits : (m b : ℕ) (bytes : List ℕ) → digits 0 (b ∷ bytes) ≡ some m → number (b ∷ bytes) ≡ some m
-unfolding digits number
-number_of_digits m b bytes h =
-    let least = (is_digit_range b (cond_test (is_digit b) (digits (0 * 10 + (b - 48)) bytes) m h)).0 in
-    rw (ne_eqb b 32 (λ w. absurd (omega arith))) h
+module _ (bytes : List ℕ) (i : ℕ) (h : i < length bytes) where
+  pub digits_other : (n : ℕ) → is_ascii_digit (get_or bytes i 0) ≡ false → digits n (drop i bytes) ≡ none
+  unfolding digits is_digit
+  digits_other n e = rw (drop-cons bytes i 0 h, e)
 
-module _ (text : List ℕ) (i end : ℕ) (h : i < end) (fits : end ≤ length text) where
-  pub digits_other : (n : ℕ) → is_digit (get_or text i 0) ≡ false → digits n (slice i end text) ≡ none
-  unfolding digits
-  digits_other n e = rw (slice-cons i end text 0 h fits, e)
+  pub digits_digit : (n : ℕ) → is_ascii_digit (get_or bytes i 0) ≡ true → digits n (drop i bytes) ≡ digits (n * 10 + (get_or bytes i 0 - 48)) (drop (i + 1) bytes)
+  unfolding digits is_digit
+  digits_digit n e = rw (drop-cons bytes i 0 h, e, add-one i)
 
-  pub digits_digit : (n : ℕ) → is_digit (get_or text i 0) ≡ true → digits n (slice i end text) ≡ digits (n * 10 + (get_or text i 0 - 48)) (slice (i + 1) end text)
-  unfolding digits
-  digits_digit n e = rw (slice-cons i end text 0 h fits, e, add-one i)
-
-  pub number_blank : get_or text i 0 ≡ 32 → number (slice i end text) ≡ number (slice (i + 1) end text)
-  unfolding number
-  number_blank e = rw (slice-cons i end text 0 h fits, eq-eqb _ _ e, add-one i)
-
-  pub number_not_blank : (get_or text i 0 ≡ 32 → ⊥) → number (slice i end text) ≡ digits 0 (slice i end text)
-  unfolding number
-  number_not_blank e = rw (slice-cons i end text 0 h fits, ne_eqb _ _ e)
-
-  pub number_digits : (m : ℕ) → digits 0 (slice i end text) ≡ some m → number (slice i end text) ≡ some m
-  number_digits m e = rw (slice-cons i end text 0 h fits) (number_of_digits m _ _ (rw (slice-cons i end text 0 h fits) at e))
-
-pub digits_empty : (n end : ℕ) (text : List ℕ) → digits n (slice end end text) ≡ some n
-unfolding digits
-digits_empty n end text = rw (slice_empty end text)
-
-pub number_empty : (end : ℕ) (text : List ℕ) → number (slice end end text) ≡ none
+-- where the first column that is no blank stands, counted from i
+position_at : (bytes : List ℕ) (i k : ℕ) → position_from (λ b. not (eqb b 32)) i bytes ≡ Some k → (i ≤ k) × (number bytes ≡ digits 0 (drop (k - i) bytes))
 unfolding number
-number_empty end text = rw (slice_empty end text)
+position_at [] i k e = cc
+position_at (b ∷ bytes) i k e =
+    split (eqb b 32)
+    (λ s.
+    let rest = position_at bytes (i + 1) k (rw s at e) in
+    let less : k - i ≡ suc (k - (i + 1)) = omega (arith, rest.0) in
+    (omega (arith, rest.0), rw (s, less) rest.1))
+    (λ s.
+    let found : Some i ≡ Some k = rw s at e in
+    let same : i ≡ k = cc in
+    let front : k - i ≡ 0 = omega arith in
+    (omega arith, rw (s, front)))
+
+position_nowhere : (bytes : List ℕ) (i : ℕ) → position_from (λ b. not (eqb b 32)) i bytes ≡ None → number bytes ≡ none
+unfolding number
+position_nowhere [] i e = refl
+position_nowhere (b ∷ bytes) i e =
+    split (eqb b 32)
+    (λ s. rw s (position_nowhere bytes (i + 1) (rw s at e)))
+    (λ s. let never : Some i ≡ None = rw s at e in cc)
+
+module _ (bytes : List ℕ) where
+  pub number_at : (k : ℕ) → position (λ b. not (eqb b 32)) bytes ≡ Some k → number bytes ≡ digits 0 (drop k bytes)
+  number_at k e = let all : k - 0 ≡ k = omega arith in rw all at (position_at bytes 0 k (sym (position_from-zero (λ b. not (eqb b 32)) bytes) ∙ e)).1
+
+  pub number_nowhere : position (λ b. not (eqb b 32)) bytes ≡ None → number bytes ≡ none
+  number_nowhere e = position_nowhere bytes 0 (sym (position_from-zero (λ b. not (eqb b 32)) bytes) ∙ e)
+
+-- digits that were found begin with a digit, so not with a blank
+number_of_digits : (m : ℕ) (bytes : List ℕ) → 0 < length bytes → digits 0 bytes ≡ some m → number bytes ≡ some m
+unfolding digits number
+number_of_digits m [] h e = absurd (omega arith)
+number_of_digits m (b ∷ bytes) h e =
+    let least = (is_digit_range b (cond_test (is_digit b) (digits (0 * 10 + (b - 48)) bytes) m e)).0 in
+    rw (ne_eqb b 32 (λ w. absurd (omega arith))) e
 
 -- columns from a place on
 pub slice_take_drop : (text : List ℕ) (from k : ℕ) → slice from (from + k) text ≡ take k (drop from text)
@@ -107,3 +117,26 @@ digits_behind n k m (b ∷ bytes) h =
     let power : n * (10 ^ length bytes * 10) + m ≡ n * 10 * 10 ^ length bytes + m = omega arith in
     rw (cond_test (is_digit b) rest m h, front, pow-suc 10 (length bytes), power)
     (digits_behind (n * 10) (k * 10 + (b - 48)) m bytes (cond_some (is_digit b) rest m h))
+
+-- behind two columns: a blank, and a blank, a digit or something else
+pub number_of_rest : (low : ℕ) (columns : List ℕ) → 2 < length columns → get_or columns 0 0 ≡ 32 → get_or columns 1 0 ≡ 32 → digits 0 (drop 2 columns) ≡ some low → number columns ≡ some low
+unfolding number
+number_of_rest low [] h first second e = absurd (omega arith)
+number_of_rest low (a ∷ []) h first second e = absurd (omega arith)
+number_of_rest low (a ∷ b ∷ rest) h first second e = rw (first, second) (number_of_digits low rest (omega arith) e)
+
+pub number_of_digit : (low : ℕ) (columns : List ℕ) → 1 < length columns → get_or columns 0 0 ≡ 32 → is_digit (get_or columns 1 0) ≡ true → digits 0 (drop 2 columns) ≡ some low
+    → number columns ≡ some ((get_or columns 1 0 - 48) * 10 ^ length (drop 2 columns) + low)
+unfolding number digits
+number_of_digit low [] h first second e = absurd (omega arith)
+number_of_digit low (a ∷ []) h first second e = absurd (omega arith)
+number_of_digit low (a ∷ b ∷ rest) h first second e =
+    let least = (is_digit_range b second).0 in
+    let front : 0 * 10 + (b - 48) ≡ b - 48 + 0 = omega arith in
+    rw (first, ne_eqb b 32 (λ w. absurd (omega arith)), second, front) (digits_behind (b - 48) 0 low rest e)
+
+pub number_of_other : (columns : List ℕ) → 1 < length columns → get_or columns 0 0 ≡ 32 → (get_or columns 1 0 ≡ 32 → ⊥) → is_digit (get_or columns 1 0) ≡ false → number columns ≡ none
+unfolding number digits
+number_of_other [] h first not_blank second = absurd (omega arith)
+number_of_other (a ∷ []) h first not_blank second = absurd (omega arith)
+number_of_other (a ∷ b ∷ rest) h first not_blank second = rw (first, ne_eqb b 32 not_blank, second)

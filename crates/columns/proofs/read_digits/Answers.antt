@@ -1,60 +1,46 @@
--- `columns::read_digits` meets its contract. The invariant: the digits from i on, behind n, make what all of them make; and n leaves room for them.
+-- `columns::read_digits` meets its contract. The invariant: the digits still to be read, behind n, make what all of them make; and n leaves room for them.
 use mathlib.Core.Path.{◌≡◌, refl, sym, ◌∙◌}
-use mathlib.Core.List.{List}
-use Prim.Native.Nat.{ℕ, suc, ◌+◌, ◌-◌, ◌*◌, ◌≤◌, ◌<◌}
+use mathlib.Core.Bool.{true}
+use Prim.Native.Nat.{ℕ, suc, ◌+◌, ◌-◌}
 use native.Mathlib.Omega.{arith}
 use lib.ListN.{length, get_or}
-use lib.Seq.{slice}
-use Rattle.columns.specs.Answers.{number_found}
-use Rattle.columns.specs.Numbers.{digits}
-use Rattle.columns.proofs.Answers.{number_found_none, number_found_some}
-use Rattle.columns.proofs.Numbers.Digits.{is_digit_below, is_digit_above, is_digit_within, digits_other, digits_digit, digits_empty, room_zero, room_lt, room_digit}
-use Rattle.columns.proofs.read_digits.Invariants.{Left}
+use lib.Seq.{drop-length}
+use Rattle.std.specs.Char.{is_ascii_digit}
+use Rattle.columns.specs.Numbers.{is_digit, digits}
+use Rattle.columns.specs.Answers.{found}
+use Rattle.columns.proofs.Numbers.Digits.{is_digit_range, digits_other, digits_digit, room_zero, room_lt, room_digit}
 use Rattle.columns.proofs.read_digits.Goals as goal
 
-small : {text : List ℕ} {from end n i : ℕ} → Left text from end n i → n < 1000000
-small {text} {from} {end} {n} {i} l = room_lt n (end - i) l.room
+pub loop-b-init : goal.loop-b-init
+loop-b-init c = record { same = refl; room = room_zero _ (omega arith) }
 
-again : {text : List ℕ} {from end n i : ℕ} → Left text from end n i → i < end → end ≤ length text → 48 ≤ get_or text i 0 → get_or text i 0 ≤ 57
-    → Left text from end (n * 10 + (get_or text i 0 - 48)) (i + 1)
-again {text} {from} {end} {n} {i} l h fits low high =
-    let one_more : end - i ≡ suc (end - (i + 1)) = omega arith in
-    record {
-      same = sym (digits_digit text i end h fits n (is_digit_within _ low high)) ∙ l.same;
-      most = omega arith;
-      room = room_digit n (get_or text i 0 - 48) (end - (i + 1)) (rw one_more at l.room) (omega arith);
-    }
-
-done : {text : List ℕ} {from end n i : ℕ} → Left text from end n i → i ≡ end → number_found n ≡ digits 0 (slice from end text)
-done {text} {from} {end} {n} {i} l h =
-    let lt = small l in
-    number_found_some n (λ e. absurd (omega (arith, lt))) ∙ sym (digits_empty n end text) ∙ rw h at l.same
-
-pub loop-i-init : goal.loop-i-init
-loop-i-init c = record { same = refl; most = omega arith; room = room_zero _ (omega arith) }
-
-pub returns-then-b-lt48 : goal.returns-then-b-lt48
-returns-then-b-lt48 c =
-    let l = c.loop-i in
-    let a = c.args in
-    number_found_none _ refl
-    ∙ sym (digits_other a.text.now l.i a.end (omega arith) (omega arith) l.n (is_digit_below _ c.if-b-lt48.true)) ∙ l.invariant.same
-
-pub returns-then-b-gt57 : goal.returns-then-b-gt57
-returns-then-b-gt57 c =
-    let l = c.loop-i in
-    let a = c.args in
-    number_found_none _ refl
-    ∙ sym (digits_other a.text.now l.i a.end (omega arith) (omega arith) l.n (is_digit_above _ c.if-b-gt57.true)) ∙ l.invariant.same
+pub returns-then-not-is_ascii_digit : goal.returns-then-not-is_ascii_digit
+unfolding found
+returns-then-not-is_ascii_digit c =
+    let l = c.loop-b in
+    sym (digits_other c.args.columns.now l.b-index (omega arith) l.n (sym c.is_ascii_digit.ensures.value ∙ c.if-not-is_ascii_digit.true)) ∙ l.invariant.same
 
 pub overflow_mul-n : goal.overflow_mul-n
-overflow_mul-n c = omega (arith, small c.loop-i.invariant)
+overflow_mul-n c = omega (arith, room_lt _ _ c.loop-b.invariant.room)
 
 pub overflow_add-n : goal.overflow_add-n
-overflow_add-n c = omega (arith, small c.loop-i.invariant)
+overflow_add-n c = omega (arith, room_lt _ _ c.loop-b.invariant.room)
 
-pub loop-i-preserved : goal.loop-i-preserved
-loop-i-preserved c = again c.loop-i.invariant (omega arith) (omega arith) c.if-b-lt48.false c.if-b-gt57.false
+pub loop-b-preserved : goal.loop-b-preserved
+unfolding is_digit
+loop-b-preserved c =
+    let l = c.loop-b in
+    let columns = c.args.columns.now in
+    let is : is_ascii_digit (get_or columns l.b-index 0) ≡ true = sym c.is_ascii_digit.ensures.value ∙ c.if-not-is_ascii_digit.false in
+    let left : length columns - l.b-index ≡ suc (length columns - (l.b-index + 1)) = omega arith in
+    record {
+      same = sym (digits_digit columns l.b-index (omega arith) l.n is) ∙ l.invariant.same;
+      room = room_digit l.n (get_or columns l.b-index 0 - 48) (length columns - (l.b-index + 1)) (rw left at l.invariant.room) (omega (arith, (is_digit_range (get_or columns l.b-index 0) is).1));
+    }
 
 pub returns : goal.returns
-returns c = done c.loop-i.invariant (omega arith)
+unfolding found digits
+returns c =
+    let l = c.loop-b in
+    let all : l.b-index ≡ length c.args.columns.now = omega arith in
+    rw (all, drop-length) at l.invariant.same

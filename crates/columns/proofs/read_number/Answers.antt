@@ -1,82 +1,74 @@
 -- `columns::read_number` meets its contract. The last four columns are digits, so the two in front of them say what the field holds.
-use mathlib.Core.Path.{◌≡◌, refl, sym, ap, ◌∙◌}
-use mathlib.Core.Bool.{false}
+use mathlib.Core.Path.{◌≡◌, refl, sym, ◌∙◌}
+use mathlib.Core.Bool.{true, false}
 use mathlib.Core.List.{List}
 use mathlib.Core.Option.{none, some}
 use Prim.Native.Nat.{ℕ, ◌+◌, ◌-◌, ◌*◌, ◌≤◌, ◌<◌}
 use native.Mathlib.Omega.{arith}
-use lib.ListN.{length, get_or}
-use lib.Seq.{slice, length-slice}
+use lib.ListN.{length, get_or, take, drop, length-drop}
+use lib.Seq.{length-take-le}
+use Rattle.std.proofs.lemmas.List.{take_rest}
+use Rattle.columns.specs.Answers.{found}
 use Rattle.columns.specs.Numbers.{is_digit, digits, number, field}
-use Rattle.columns.proofs.Answers.{number_found_none, number_found_some}
-use Rattle.columns.proofs.Numbers.Digits.{is_digit_below, is_digit_above, is_digit_within, digits_other, digits_digit, number_blank, number_not_blank, number_digits, slice_take_drop, room_zero, digits_lt, digits_behind}
+use Rattle.columns.proofs.Numbers.Digits.{is_digit_range, number_of_rest, number_of_digit, number_of_other, room_zero, digits_lt}
 use Rattle.columns.proofs.read_number.Goals as goal
 
--- a field whose first column is blank
-module _ (text : List ℕ) (from : ℕ) (fits : from + 6 ≤ length text) (blank : get_or text from 0 ≡ 32) where
-  five : field from text ≡ number (slice (from + 1) (from + 6) text)
+module _ (text : List ℕ) (from : ℕ) (fits : from + 6 ≤ length text) where
+  abbrev columns : List ℕ
+  columns = take (from + 6 - from) (drop from text)
+
+  six : from + 6 - from ≡ 6
+  six = omega arith
+
+  wide : length columns ≡ 6
+  wide = rw six (length-take-le 6 (drop from text) (omega (arith, length-drop from text)))
+
+  is_field : number columns ≡ field from text
   unfolding field
-  five = ap number (sym (slice_take_drop text from 6)) ∙ number_blank text from (from + 6) (omega arith) fits blank
+  is_field = rw six
 
-  other : (get_or text (from + 1) 0 ≡ 32 → ⊥) → is_digit (get_or text (from + 1) 0) ≡ false → none ≡ field from text
-  other h e =
-      let lt : from + 1 < from + 6 = omega arith in
-      sym (five ∙ number_not_blank text (from + 1) (from + 6) lt fits h ∙ digits_other text (from + 1) (from + 6) lt fits 0 e)
+  -- where the last four columns are digits
+  module _ (low : ℕ) (last : some low ≡ digits 0 (take (length columns - 2) (drop 2 columns))) where
+    four : digits 0 (drop 2 columns) ≡ some low
+    four = sym (rw take_rest at last)
 
--- and whose last four are digits
-module _ (text : List ℕ) (from low : ℕ) (fits : from + 6 ≤ length text) (last : digits 0 (slice (from + 2) (from + 6) text) ≡ some low) where
-  width : length (slice (from + 2) (from + 6) text) ≡ 4
-  width = let all = length-slice (from + 2) (from + 6) text fits in omega (arith, all)
+    low_lt : low < 1000000
+    low_lt = digits_lt low 0 (drop 2 columns) (room_zero _ (omega (arith, wide, length-drop 2 columns))) four
 
-  low_lt : low < 1000000
-  low_lt = digits_lt low 0 _ (room_zero _ (omega (arith, width))) last
+    module _ (blank : get_or columns 0 0 ≡ 32) where
+      holds_four : get_or columns 1 0 ≡ 32 → some low ≡ field from text
+      holds_four second = sym (number_of_rest low columns (omega (arith, wide)) blank second four) ∙ is_field
 
-  four_digits : get_or text from 0 ≡ 32 → get_or text (from + 1) 0 ≡ 32 → some low ≡ field from text
-  four_digits blank h =
-      let two : from + 1 + 1 ≡ from + 2 = omega arith in
-      sym (five text from fits blank ∙ number_blank text (from + 1) (from + 6) (omega arith) fits h
-      ∙ rw two (number_digits text (from + 2) (from + 6) (omega arith) fits low last))
+      holds_five : is_digit (get_or columns 1 0) ≡ true → some ((get_or columns 1 0 - 48) * 10000 + low) ≡ field from text
+      holds_five second =
+          let width : length (drop 2 columns) ≡ 4 = omega (arith, wide, length-drop 2 columns) in
+          sym (rw width at (number_of_digit low columns (omega (arith, wide)) blank second four)) ∙ is_field
 
-  five_digits : get_or text from 0 ≡ 32 → (get_or text (from + 1) 0 ≡ 32 → ⊥) → 48 ≤ get_or text (from + 1) 0 → get_or text (from + 1) 0 ≤ 57
-      → some ((get_or text (from + 1) 0 - 48) * 10000 + low) ≡ field from text
-  five_digits blank h least most =
-      let lt : from + 1 < from + 6 = omega arith in
-      let d = get_or text (from + 1) 0 - 48 in
-      let two : from + 1 + 1 ≡ from + 2 = omega arith in
-      let front : 0 * 10 + d ≡ d + 0 = omega arith in
-      sym (five text from fits blank ∙ number_not_blank text (from + 1) (from + 6) lt fits h
-      ∙ digits_digit text (from + 1) (from + 6) lt fits 0 (is_digit_within _ least most)
-      ∙ rw (two, front) (rw width at (digits_behind d 0 low (slice (from + 2) (from + 6) text) last)))
+      holds_none : (get_or columns 1 0 ≡ 32 → ⊥) → is_digit (get_or columns 1 0) ≡ false → none ≡ field from text
+      holds_none not_blank second = sym (number_of_other columns (omega (arith, wide)) blank not_blank second) ∙ is_field
+
+pub returns-in_default : goal.returns-in_default
+returns-in_default c = c.read_padded.ensures ∙ is_field c.args.text.now c.args.from c.requires
+
+pub returns-then-columns-ne32 : goal.returns-then-columns-ne32
+returns-then-columns-ne32 c = c.read_padded-then-columns-ne32.ensures ∙ is_field c.args.text.now c.args.from c.requires
 
 pub returns-then-first-eq32 : goal.returns-then-first-eq32
-returns-then-first-eq32 c =
-    let a = c.args in
-    let some_low = number_found_some _ c.if-low.false in
-    some_low ∙ four_digits a.text.now a.from _ (omega arith) (sym c.read_digits-low.ensures ∙ some_low) c.if-text-from-ne32.false c.if-first-eq32.true
+unfolding found
+returns-then-first-eq32 c = holds_four c.args.text.now c.args.from c.requires c.in-Some.low c.in-Some.ensures c.if-columns-ne32.false c.if-first-eq32.true
 
-pub returns-then-first-lt48 : goal.returns-then-first-lt48
-returns-then-first-lt48 c =
-    let a = c.args in
-    number_found_none _ refl
-    ∙ other a.text.now a.from (omega arith) c.if-text-from-ne32.false c.if-first-eq32.false (is_digit_below _ (omega (arith, c.if-first-lt48.true)))
-
-pub returns-then-first-gt57 : goal.returns-then-first-gt57
-returns-then-first-gt57 c =
-    let a = c.args in
-    number_found_none _ refl
-    ∙ other a.text.now a.from (omega arith) c.if-text-from-ne32.false c.if-first-eq32.false (is_digit_above _ c.if-first-gt57.true)
+pub returns-then-not-is_ascii_digit : goal.returns-then-not-is_ascii_digit
+unfolding found is_digit
+returns-then-not-is_ascii_digit c =
+    holds_none c.args.text.now c.args.from c.requires c.in-Some.low c.in-Some.ensures c.if-columns-ne32.false c.if-first-eq32.false
+    (sym c.is_ascii_digit.ensures.value ∙ c.if-not-is_ascii_digit.true)
 
 pub overflow_add-result : goal.overflow_add-result
-overflow_add-result c =
-    let a = c.args in
-    let last = sym c.read_digits-low.ensures ∙ number_found_some _ c.if-low.false in
-    let lt = low_lt a.text.now a.from _ (omega arith) last in
-    omega (arith, lt)
+unfolding found
+overflow_add-result c = omega (arith, low_lt c.args.text.now c.args.from c.requires c.in-Some.low c.in-Some.ensures)
 
 pub returns : goal.returns
+unfolding found is_digit
 returns c =
-    let a = c.args in
-    let last = sym c.read_digits-low.ensures ∙ number_found_some _ c.if-low.false in
-    let lt = low_lt a.text.now a.from _ (omega arith) last in
-    number_found_some _ (λ e. absurd (omega (arith, lt)))
-    ∙ five_digits a.text.now a.from _ (omega arith) last c.if-text-from-ne32.false c.if-first-eq32.false (omega (arith, c.if-first-lt48.false)) c.if-first-gt57.false
+    holds_five c.args.text.now c.args.from c.requires c.in-Some.low c.in-Some.ensures c.if-columns-ne32.false
+    (sym c.is_ascii_digit.ensures.value ∙ c.if-not-is_ascii_digit.false)

@@ -9,12 +9,12 @@ use borrow.Author.Tests.{lt-ltb, le-ltb}
 use lib.ListN.{length}
 use Rattle.laws.proofs.Cases.{le_or_lt}
 use Rattle.trace.specs.Lines.{ended}
-use Rattle.columns.specs.Output.{refusal_line}
+use Rattle.columns.specs.Output.{refusal_line, Prints}
 use Rattle.steps.specs.Steps.{Progress, refused_step, line_step_to, step_to}
 use Rattle.listing.specs.Texts.{listed_to, listing_to, listing}
 use Rattle.steps.specs.Memory.{Memory, Represents, next_number}
 use Rattle.listing.specs.Chunks.{last_line}
-use Rattle.columns.proofs.Output.{counted_on, refusal_alike, length_refusal_line}
+use Rattle.columns.proofs.Output.{prints_nothing, counted_on, refusal_alike, length_refusal_line}
 use Rattle.trace.proofs.Texts.FirstLine.{outcomes_none, outcomes_unended}
 
 none_listed : (g : Progress) (text : List ℕ) → length text ≡ 0 → listing g text ≡ []
@@ -41,6 +41,14 @@ pub last_line_some : (number : ℕ) (text : List ℕ) (room : ℕ) → 0 < lengt
 unfolding last_line
 last_line_some number [] room some h = absurd (omega arith)
 last_line_some number (b ∷ text) room some h = rw (le-ltb room 18 h)
+
+-- the same of a buffer that it is printed into
+module _ (number : ℕ) (text buffer : List ℕ) where
+  pub prints_none : length text ≡ 0 → Prints buffer 0 (last_line number text (length buffer)) buffer 0
+  prints_none e = rw (last_line_none number text (length buffer) e) (prints_nothing buffer 0 (omega arith))
+
+  pub prints_short : length buffer < 18 → Prints buffer 0 (last_line number text (length buffer)) buffer 0
+  prints_short h = rw (last_line_short number text (length buffer) h) (prints_nothing buffer 0 (omega arith))
 
 -- and it is the listing of what is left
 pub last_line_listing : (m : Memory) (g : Progress) (text : List ℕ) (room : ℕ) → Represents m g → ended text ≡ false → 18 ≤ room → last_line (next_number m.lines) text room ≡ listing g text

@@ -99,7 +99,7 @@ taken_gone {g} {text} {buffer} {q} t less h =
       spent = omega (arith, t.spent, length_step_line number q.memory.loaded q.memory.tracker line ok.0 running);
     }
 
-none_ended : (text : List ℕ) → length text ≡ 0 → ended text ≡ false
+pub none_ended : (text : List ℕ) → length text ≡ 0 → ended text ≡ false
 unfolding ended
 none_ended [] e = refl
 none_ended (b ∷ bs) e = absurd (omega arith)

@@ -43,15 +43,14 @@ unfolding activation_refusal refuse hold_allowed within
 one_unit_free p row on inside less =
     rw (on, lt-ltb row p.settings.rows inside, le-leb (p.activations + 1) p.settings.interval (omega arith))
 
--- how far a run has come: the place that its numbers make, and the line that stands next
-pub record Running (text : List ℕ) (p : Place) (counts₀ : List ℕ) (from : ℕ) (counts marks bounds : List ℕ) (activations : ℕ) (tally : Tally) (at row : ℕ) : Type 0 where
+-- how far a run has come: the place that its numbers make
+pub record Running (text : List ℕ) (p : Place) (counts₀ : List ℕ) (from : ℕ) (counts marks bounds : List ℕ) (activations : ℕ) (tally : Tally) (at : ℕ) : Type 0 where
   pub count : ℕ
   pub far : at ≡ from + 8 * count
   pub runs : RunsOn text (memory p counts₀) from (memory (moved p p.events activations tally (numbers_on p.lines count)) counts) at
   pub banked : Banked (moved p p.events activations tally (numbers_on p.lines count)) counts marks bounds
-  pub next : Activates text at row
 
-module _ {text : List ℕ} {p : Place} {counts₀ : List ℕ} {from : ℕ} {counts marks bounds : List ℕ} {activations : ℕ} {tally : Tally} {at row : ℕ} (l : Running text p counts₀ from counts marks bounds activations tally at row) (on : p.active ≡ true) (inside : row < p.settings.rows) (less : activations < p.settings.interval) (small : row < 1000000) where
+module _ {text : List ℕ} {p : Place} {counts₀ : List ℕ} {from : ℕ} {counts marks bounds : List ℕ} {activations : ℕ} {tally : Tally} {at : ℕ} (l : Running text p counts₀ from counts marks bounds activations tally at) (on : p.active ≡ true) (row : ℕ) (inside : row < p.settings.rows) (less : activations < p.settings.interval) where
   pub run_free : activation_refusal (moved p p.events activations tally (numbers_on p.lines l.count)) row 1 ≡ 0
   run_free = one_unit_free (moved p p.events activations tally (numbers_on p.lines l.count)) row on inside less
 
@@ -69,26 +68,23 @@ module _ {text : List ℕ} {p : Place} {counts₀ : List ℕ} {from : ℕ} {coun
           left = left;
         }
 
-    pub running_more : {row' : ℕ} → Activates text (at + 8) row' → Running text p counts₀ from counts' marks' bounds' (activations + 1) t (at + 8) row'
+    pub running_more : Activates text at row → Running text p counts₀ from counts' marks' bounds' (activations + 1) t (at + 8)
     unfolding numbers_on
-    running_more next' =
-        let reads = l.next.reads small in
-        let says : (reading text at).outcome ≡ accepted (Activate row 1) = ap (λ (r : Reading). r.outcome) reads in
-        let behind : (reading text at).place ≡ at + 8 = ap (λ (r : Reading). r.place) reads in
-        let within = l.next.inside small in
+    running_more next =
+        let says : (reading text at).outcome ≡ accepted (Activate row 1) = ap (λ (r : Reading). r.outcome) next.reads in
+        let behind : (reading text at).place ≡ at + 8 = ap (λ (r : Reading). r.place) next.reads in
         record {
           count = suc l.count;
           far = omega (arith, l.far);
           runs = record {
             ready = rw left (ready_next l.runs.ready (accepted (Activate row 1)));
-            within = within;
+            within = next.inside;
             onward = omega (arith, l.runs.onward);
             same = λ buffer end room.
                 let left_by : Leaves (step_in (memory (moved p p.events activations tally (numbers_on p.lines l.count)) counts) (reading text at).outcome) (loaded_behind p.loaded (reading text at).outcome) (numbers_on p.lines (suc l.count)) (memory (moved p p.events (activations + 1) t (numbers_on p.lines (suc l.count))) counts') buffer end buffer end =
                 rw says (leaves buffer end (omega arith)) in
                 l.runs.same buffer end room ∙
-                rw behind at (going_on text (come (moved p p.events activations tally (numbers_on p.lines l.count)) counts buffer at end) (omega arith) (l.next.ends small) room left_by);
+                rw behind at (going_on text (come (moved p p.events activations tally (numbers_on p.lines l.count)) counts buffer at end) (omega arith) next.ends room left_by);
           };
           banked = banked_moved p p.events (activations + 1) (numbers_on p.lines (suc l.count)) turned;
-          next = next';
         }

@@ -5,8 +5,8 @@ use Rattle.steps.specs.Memory.{Banked}
 use Rattle.listing.proofs.Chunks.PartLoop.{come, Turning}
 use Rattle.listing.proofs.list_part.Given as goal
 
-abbrev pub invariant-loop-at : goal.invariant-loop-at
-invariant-loop-at l = Turning l.text (come l.initial.place l.initial.counts l.initial.out 0 0) (come l.place l.counts l.out l.at l.end) × Banked l.place l.counts l.marks l.bounds
+abbrev pub invariant-loop-out : goal.invariant-loop-out
+invariant-loop-out l = Turning l.text (come l.initial.place l.initial.counts l.initial.out 0 0) (come l.place l.counts l.out l.at l.end) × Banked l.place l.counts l.marks l.bounds
 
-abbrev pub decreases-loop-at : goal.decreases-loop-at
-decreases-loop-at l = length l.text - l.at
+abbrev pub decreases-loop-out : goal.decreases-loop-out
+decreases-loop-out l = length l.text - l.at

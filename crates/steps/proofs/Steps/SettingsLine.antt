@@ -4,18 +4,20 @@ use mathlib.Core.Bool.{Bool, true}
 use mathlib.Core.List.{List}
 use mathlib.Core.Option.{Option, none, some}
 use Prim.Native.Nat.{ℕ, zero, suc}
-use borrow.Author.Tests.{eqb-true, eqb-false}
+use native.Mathlib.Omega.{arith}
+use borrow.Author.Tests.{eqb-true, eqb-false, ne_eqb}
 use lib.Dec.{eqb}
+use Rattle.std.specs.Prelude.{Result, Ok, Err, is_ok}
 use lib.ListN.{replicate, length-replicate}
 use Rattle.laws.proofs.Cases.{split}
 use Rattle.device.specs.declared.Settings.{Settings}
-use Rattle.device.specs.Refusal.{first_failed, Outcome, accepted, tested}
+use Rattle.device.specs.declared.refusal.Refusal.{Refusal}
+use Rattle.device.specs.Refusal.{first_failed, Outcome, accepted, tested, outcome}
 use Rattle.device.specs.Acceptance.{settings_tests}
 use Rattle.device.specs.Remap.{remap_allowed}
 use Rattle.device.proofs.Tests.{or_later}
 use Rattle.bound.specs.Totals.{bound_of}
-use Rattle.bound.specs.declared.Answer.{Answer}
-use Rattle.bound.specs.Answers.{outcome, bound_answer_to, bound_answer}
+use Rattle.bound.specs.Answers.{bound_answer_to, bound_answer}
 use Rattle.summary.specs.Steps.{empty}
 use Rattle.state.specs.declared.Position.{Position}
 use Rattle.state.specs.State.{state_of}
@@ -43,6 +45,18 @@ unfolding set_up_step tested or_later refused_step
 refused_by number s remap call p zero h = absurd (h refl)
 refused_by number s remap call p (suc k) h = refl
 
+answers_by : (answer : Result ℕ Refusal) (k h : ℕ) → outcome answer ≡ tested k (accepted h) → is_ok answer ≡ eqb k 0
+unfolding tested outcome
+answers_by (Ok x) zero h e = refl
+answers_by (Ok x) (suc k) h e = cc
+answers_by (Err r) zero h e = cc
+answers_by (Err r) (suc k) h e = sym (ne_eqb (suc k) 0 (λ zero. omega arith))
+
+-- the bound is given where the settings are accepted
+pub bound_given : (s : Settings) (answer : Result ℕ Refusal) → outcome answer ≡ bound_answer s → is_ok answer ≡ eqb (first_failed (settings_tests s)) 0
+unfolding bound_answer_to
+bound_given s answer e = answers_by answer (first_failed (settings_tests s)) (bound_of s) e
+
 -- the loaded remap is an accepted one
 module _ (loaded : List ℕ) (ok : remap_allowed loaded ≡ true) where
   settings_print : (number : ℕ) (s : Settings) (t : Option Tracker) → (record_step number loaded t (Set s)).prints ≡ settings_line number (bound_answer s)
@@ -69,6 +83,6 @@ module _ (loaded : List ℕ) (ok : remap_allowed loaded ≡ true) where
       (λ on. rw (stands, on, settings_stand number s t (eqb-true (first_failed (settings_tests s)) 0 on), no_rows))
       (λ off. rw (stands, off, settings_refused number s t (eqb-false (first_failed (settings_tests s)) 0 off)))
 
-  pub settings_printed : {before after : List ℕ} {at end : ℕ} (number : ℕ) (s : Settings) (t : Option Tracker) (answer : Answer) → outcome answer ≡ bound_answer s → Prints before at (settings_line number (outcome answer)) after end → Prints before at (record_step number loaded t (Set s)).prints after end
+  pub settings_printed : {before after : List ℕ} {at end : ℕ} (number : ℕ) (s : Settings) (t : Option Tracker) (answer : Result ℕ Refusal) → outcome answer ≡ bound_answer s → Prints before at (settings_line number (outcome answer)) after end → Prints before at (record_step number loaded t (Set s)).prints after end
   settings_printed {before} {after} {at} {end} number s t answer e p =
       subst (λ (text : List ℕ). Prints before at text after end) (ap (λ (o : Outcome ℕ). settings_line number o) e ∙ sym (settings_print number s t)) p

@@ -10,17 +10,17 @@ use native.Mathlib.Omega.{arith}
 use borrow.Author.Tests.{eq-eqb, ne_eqb}
 use lib.ListN.{length, get_or, drop, drop_of_length-le}
 use lib.Seq.{drop-cons}
-use Rattle.trace.specs.declared.Read.TheVariants.{Line, Refused}
+use Rattle.device.specs.Refusal.{accepted, refused}
 use Rattle.trace.specs.declared.Record.{Record}
 use Rattle.trace.specs.declared.Record.TheVariants.{Blank}
 use Rattle.trace.specs.Bytes.{letter_A, letter_F, letter_H, letter_R, letter_S}
 use Rattle.trace.specs.Lines.{line, ended, extent}
-use Rattle.trace.specs.Reading.{said, or_refused, reading_by, reading}
+use Rattle.trace.specs.Reading.{or_refused, reading_by, reading}
 use Rattle.trace.specs.Records.{settings, remap, activation, held_activation, refresh, record_of}
 
 -- no byte is left
-pub reading_behind_end : (text : List ℕ) (place : ℕ) → length text ≤ place → said (Refused place) ≡ reading text place
-unfolding said reading reading_by or_refused ended extent
+pub reading_behind_end : (text : List ℕ) (place : ℕ) → length text ≤ place → reading text place ≡ record { outcome = refused 11; place = place }
+unfolding reading reading_by or_refused ended extent
 reading_behind_end text place h = rw (drop_of_length-le text {i = place} h, add-zero)
 
 cond_none : (b : Bool) → cond {A = Option Record} b none none ≡ none
@@ -28,8 +28,8 @@ cond_none true = refl
 cond_none false = refl
 
 module _ (text : List ℕ) (place : ℕ) (h : place < length text) where
-  pub reading_blank : get_or text place 0 ≡ 10 → said (Line Blank (place + 1)) ≡ reading text place
-  unfolding said reading reading_by or_refused line ended extent record_of
+  pub reading_blank : get_or text place 0 ≡ 10 → reading text place ≡ record { outcome = accepted Blank; place = place + 1 }
+  unfolding reading reading_by or_refused line ended extent record_of
   reading_blank e = rw (drop-cons text place 0 h, eq-eqb _ _ e)
 
   module _ (long : get_or text place 0 ≡ 10 → ⊥) where
@@ -67,8 +67,8 @@ module _ (text : List ℕ) (place : ℕ) (h : place < length text) where
   reading_held e = reading_letter letter_H e (λ w. omega arith) held_activation (λ bytes. refl)
 
   pub reading_other : (get_or text place 0 ≡ letter_A → ⊥) → (get_or text place 0 ≡ letter_R → ⊥) → (get_or text place 0 ≡ letter_H → ⊥) → (get_or text place 0 ≡ letter_S → ⊥) → (get_or text place 0 ≡ letter_F → ⊥) → (get_or text place 0 ≡ 10 → ⊥)
-      → (next : ℕ) → next ≡ place + 1 + extent (drop (place + 1) text) → said (Refused next) ≡ reading text place
-  unfolding record_of said reading_by or_refused
-  reading_other a r o s f long next e =
+      → reading text place ≡ record { outcome = refused 11; place = place + 1 + extent (drop (place + 1) text) }
+  unfolding record_of reading_by or_refused
+  reading_other a r o s f long =
       let says_none = reading_letter_by long (λ bytes. none) (λ bytes. rw (ne_eqb _ _ s, ne_eqb _ _ a, ne_eqb _ _ r, ne_eqb _ _ f, ne_eqb _ _ o)) in
-      rw (says_none, cond_none (ended (drop (place + 1) text)), e)
+      rw (says_none, cond_none (ended (drop (place + 1) text)))

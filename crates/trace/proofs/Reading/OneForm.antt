@@ -8,24 +8,22 @@ use native.Mathlib.Omega.{arith}
 use lib.ListN.{length, get_or, take, drop, length-append}
 use lib.Seq.{length-take-le, get_or_at, take_at}
 use Rattle.laws.proofs.Cases.{split, clash, missing, either, cond_test, cond_some}
-use Rattle.trace.specs.declared.Read.TheVariants.{Line, Refused}
+use Rattle.device.specs.Refusal.{accepted, refused}
 use Rattle.trace.specs.declared.Record.{Record}
-use Rattle.trace.specs.Answers.{found_all}
 use Rattle.trace.specs.InnerContracts.{ends_after, line_fields}
-use Rattle.trace.specs.declared.Fields.{Fields}
 use Rattle.columns.specs.Numbers.{fields}
 use Rattle.trace.specs.Records.{numbered}
 use Rattle.trace.specs.Lines.{line, ended, extent}
-use Rattle.trace.specs.Reading.{said, or_refused, reading_by}
+use Rattle.trace.specs.Reading.{or_refused, reading_by}
 use Rattle.trace.proofs.InnerContracts.{ends_after_lt, ends_after_true, ends_after_rest}
 use Rattle.trace.proofs.Lines.{line_append_end, ended_append_end, extent_append_end, line_end_rest}
 use Rattle.trace.proofs.Records.{Form, numbered_form, numbered_take}
 
 module _ {says : List ℕ → Option Record} {w : ℕ} (form : Form says w) (text : List ℕ) (at : ℕ) where
-  pub reading_by_accepted : (r : Record) (next : ℕ) → next ≡ at + (w + 1) → ends_after w text ≡ true → says (take w text) ≡ some r
-      → said (Line r next) ≡ reading_by says text at
-  unfolding said reading_by or_refused
-  reading_by_accepted r next n h e =
+  pub reading_by_accepted : (r : Record) → ends_after w text ≡ true → says (take w text) ≡ some r
+      → reading_by says text at ≡ record { outcome = accepted r; place = at + (w + 1) }
+  unfolding reading_by or_refused
+  reading_by_accepted r h e =
       let rest = drop (suc w) text in
       let whole = ends_after_rest w text h in
       let plain = form.unended (take w text) r e in
@@ -34,7 +32,7 @@ module _ {says : List ℕ → Option Record} {w : ℕ} (form : Form says w) (tex
       let inside = ends_after_lt w text h in
       let long = length-take-le w text (omega arith) in
       let is_extent : extent text ≡ w + 1 = ap extent whole ∙ extent_append_end rest (take w text) plain ∙ ap (λ (n : ℕ). n + 1) long in
-      rw (is_ended, is_line, e, is_extent, n)
+      rw (is_ended, is_line, e, is_extent)
 
   -- no record where the byte 10 stands elsewhere, or where the bytes before it say none
   says_none : ((r : Record) → ends_after w text ≡ true → says (take w text) ≡ some r → ⊥) → cond (ended text) (says (line text)) none ≡ none
@@ -53,38 +51,34 @@ module _ {says : List ℕ → Option Record} {w : ℕ} (form : Form says w) (tex
       absurd (never r (ends_after_true w text inside byte) (rw is_line s))))
       (λ e. rw e)
 
-  reading_by_refused : (next : ℕ) → next ≡ at + extent text → cond (ended text) (says (line text)) none ≡ none
-      → said (Refused next) ≡ reading_by says text at
-  unfolding said reading_by or_refused
-  reading_by_refused next n z = rw (z, n)
+  reading_by_refused : cond (ended text) (says (line text)) none ≡ none → reading_by says text at ≡ record { outcome = refused 11; place = at + extent text }
+  unfolding reading_by or_refused
+  reading_by_refused z = rw z
 
-  pub reading_by_other_width : (next : ℕ) → next ≡ at + extent text → ends_after w text ≡ false → said (Refused next) ≡ reading_by says text at
-  reading_by_other_width next n h = reading_by_refused next n (says_none (λ r e s. clash (sym e ∙ h)))
+  pub reading_by_other_width : ends_after w text ≡ false → reading_by says text at ≡ record { outcome = refused 11; place = at + extent text }
+  reading_by_other_width h = reading_by_refused (says_none (λ r e s. clash (sym e ∙ h)))
 
-  pub reading_by_other_bytes : (next : ℕ) → next ≡ at + extent text → says (take w text) ≡ none → said (Refused next) ≡ reading_by says text at
-  reading_by_other_bytes next n h = reading_by_refused next n (says_none (λ r e s. missing (sym h ∙ s)))
+  pub reading_by_other_bytes : says (take w text) ≡ none → reading_by says text at ≡ record { outcome = refused 11; place = at + extent text }
+  reading_by_other_bytes h = reading_by_refused (says_none (λ r e s. missing (sym h ∙ s)))
 
 -- a line of so many fields, by what they were found to hold
-module _ (count : ℕ) (says : List ℕ → Record) (text : List ℕ) (at : ℕ) (f : Fields) (found : found_all count f ≡ line_fields count text) where
-  pub reading_numbers : (next : ℕ) → f.all ≡ true → next ≡ at + (6 * count + 1)
-      → said (Line (says (take count f.values)) next) ≡ reading_by (numbered count says) text at
-  unfolding found_all line_fields bind
-  reading_numbers next all n =
-      let numbers : List ℕ = take count f.values in
-      let e : line_fields count text ≡ some numbers = sym found ∙ rw all in
-      let ends = cond_test (ends_after (6 * count) text) (fields count text) numbers e in
-      let holds = cond_some (ends_after (6 * count) text) (fields count text) numbers e in
+module _ (count : ℕ) (says : List ℕ → Record) (text : List ℕ) (at : ℕ) where
+  pub reading_numbers : (numbers : List ℕ) → some numbers ≡ line_fields count text
+      → reading_by (numbered count says) text at ≡ record { outcome = accepted (says numbers); place = at + (6 * count + 1) }
+  unfolding line_fields bind
+  reading_numbers numbers e =
+      let ends = cond_test (ends_after (6 * count) text) (fields count text) numbers (sym e) in
+      let holds = cond_some (ends_after (6 * count) text) (fields count text) numbers (sym e) in
       let inside = ends_after_lt (6 * count) text ends in
-      reading_by_accepted (numbered_form count says) text at (says numbers) next n ends
+      reading_by_accepted (numbered_form count says) text at (says numbers) ends
       (numbered_take count says text (omega arith) ∙ rw holds)
 
-  pub reading_no_numbers : (next : ℕ) → f.all ≡ false → next ≡ at + extent text → said (Refused next) ≡ reading_by (numbered count says) text at
-  unfolding found_all line_fields bind
-  reading_no_numbers next other n =
-      let e : line_fields count text ≡ none = sym found ∙ rw other in
+  pub reading_no_numbers : none ≡ line_fields count text → reading_by (numbered count says) text at ≡ record { outcome = refused 11; place = at + extent text }
+  unfolding line_fields bind
+  reading_no_numbers e =
       split (ends_after (6 * count) text)
       (λ ends.
       let inside = ends_after_lt (6 * count) text ends in
-      reading_by_other_bytes (numbered_form count says) text at next n
-      (numbered_take count says text (omega arith) ∙ rw (rw ends at e)))
-      (λ elsewhere. reading_by_other_width (numbered_form count says) text at next n elsewhere)
+      reading_by_other_bytes (numbered_form count says) text at
+      (numbered_take count says text (omega arith) ∙ rw (sym (rw ends at e))))
+      (λ elsewhere. reading_by_other_width (numbered_form count says) text at elsewhere)

@@ -1,24 +1,19 @@
 -- `trace::read_held_activation` meets its contract.
-use native.Mathlib.Omega.{arith}
-use borrow.Author.Tests.{not-true, not-false}
+use mathlib.Core.Path.{sym, ◌∙◌}
 use lib.ListN.{drop}
-use lib.Seq.{get_or-take}
+use Rattle.columns.specs.Answers.{found}
 use Rattle.trace.specs.Records.{as_activation, held_activation}
 use Rattle.trace.proofs.Reading.OneForm.{reading_numbers, reading_no_numbers}
 use Rattle.trace.proofs.read_held_activation.Goals as goal
 
-pub returns-then-not-found : goal.returns-then-not-found
-unfolding held_activation
-returns-then-not-found c =
+pub returns-in_default : goal.returns-in_default
+unfolding found held_activation as_activation
+returns-in_default c =
     let a = c.args in
-    let f = c.line_fields-found in
-    reading_no_numbers 2 as_activation (drop a.at a.text.now) a.at f.result f.ensures _ (not-true _ c.if-not-found.true) c.line_end.ensures
+    c.refused.ensures ∙ sym (reading_no_numbers 2 as_activation (drop a.at a.text.now) a.at c.in_default.ensures)
 
 pub returns : goal.returns
-unfolding held_activation as_activation
+unfolding found held_activation as_activation
 returns c =
     let a = c.args in
-    let f = c.line_fields-found in
-    let values = f.result.values in
-    rw (← get_or-take 2 values 0 0 (omega arith), ← get_or-take 2 values 1 0 (omega arith))
-    (reading_numbers 2 as_activation (drop a.at a.text.now) a.at f.result f.ensures _ (not-false _ c.if-not-found.false) (omega arith))
+    c.line.ensures ∙ sym (reading_numbers 2 as_activation (drop a.at a.text.now) a.at c.in-Some.values c.in-Some.ensures)

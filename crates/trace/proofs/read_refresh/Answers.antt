@@ -1,7 +1,5 @@
 -- `trace::read_refresh` meets its contract.
 use mathlib.Core.Path.{refl, sym, ◌∙◌}
-use Prim.Native.Nat.{◌+◌}
-use native.Mathlib.Omega.{arith}
 use lib.ListN.{drop}
 use Rattle.trace.specs.declared.Record.TheVariants.{Refresh}
 use Rattle.trace.specs.Records.{refresh}
@@ -13,11 +11,9 @@ pub returns-then-ends_after : goal.returns-then-ends_after
 unfolding refresh
 returns-then-ends_after c =
     let a = c.args in
-    reading_by_accepted refresh_form (drop a.at a.text.now) a.at Refresh (a.at + 1) (omega arith)
-    (sym c.ends_after.ensures ∙ c.if-ends_after.true) refl
+    c.line.ensures ∙ sym (reading_by_accepted refresh_form (drop a.at a.text.now) a.at Refresh (sym c.ends_after.ensures ∙ c.if-ends_after.true) refl)
 
 pub returns-else-ends_after : goal.returns-else-ends_after
 returns-else-ends_after c =
     let a = c.args in
-    reading_by_other_width refresh_form (drop a.at a.text.now) a.at _ c.line_end.ensures
-    (sym c.ends_after.ensures ∙ c.if-ends_after.false)
+    c.refused.ensures ∙ sym (reading_by_other_width refresh_form (drop a.at a.text.now) a.at (sym c.ends_after.ensures ∙ c.if-ends_after.false))

@@ -1,24 +1,20 @@
 -- `trace::read_remap` meets its contract.
-use native.Mathlib.Omega.{arith}
-use borrow.Author.Tests.{not-true, not-false}
+use mathlib.Core.Path.{sym, ◌∙◌}
 use lib.ListN.{drop}
+use Rattle.columns.specs.Answers.{found}
 use Rattle.trace.specs.declared.Record.TheVariants.{Remap}
 use Rattle.trace.specs.Records.{as_sixteen, remap}
 use Rattle.trace.proofs.Reading.OneForm.{reading_numbers, reading_no_numbers}
-use Rattle.trace.proofs.Records.{as_sixteen_take}
 use Rattle.trace.proofs.read_remap.Goals as goal
 
-pub returns-then-not-found : goal.returns-then-not-found
-unfolding remap
-returns-then-not-found c =
+pub returns-in_default : goal.returns-in_default
+unfolding found remap
+returns-in_default c =
     let a = c.args in
-    let f = c.line_fields-found in
-    reading_no_numbers 16 (λ numbers. Remap (as_sixteen numbers)) (drop a.at a.text.now) a.at f.result f.ensures _ (not-true _ c.if-not-found.true) c.line_end.ensures
+    c.refused.ensures ∙ sym (reading_no_numbers 16 (λ numbers. Remap (as_sixteen numbers)) (drop a.at a.text.now) a.at c.in_default.ensures)
 
 pub returns : goal.returns
-unfolding remap
+unfolding found remap
 returns c =
     let a = c.args in
-    let f = c.line_fields-found in
-    rw (c.as_sixteen.ensures, ← as_sixteen_take f.result.values)
-    (reading_numbers 16 (λ numbers. Remap (as_sixteen numbers)) (drop a.at a.text.now) a.at f.result f.ensures _ (not-false _ c.if-not-found.false) (omega arith))
+    c.line.ensures ∙ (rw c.from.ensures (sym (reading_numbers 16 (λ numbers. Remap (as_sixteen numbers)) (drop a.at a.text.now) a.at c.in-Some.values c.in-Some.ensures)))

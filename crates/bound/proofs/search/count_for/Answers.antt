@@ -4,7 +4,7 @@ use Prim.Native.Nat.{◌*◌, ◌/◌, max}
 use native.Mathlib.Omega.{arith}
 use borrow.Author.Tests.{le-leb, lt-leb}
 use Rattle.bound.specs.Least.{or_else}
-use Rattle.bound.specs.Answers.{outcome}
+use Rattle.device.specs.Refusal.{outcome}
 use Rattle.bound.proofs.search.count_for.Goals as goal
 use Rattle.bound.proofs.search.count_for.Goals.{then-first-volume, else-first-volume}
 

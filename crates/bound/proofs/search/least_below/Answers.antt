@@ -3,7 +3,7 @@ use mathlib.Core.Path.{◌∙◌}
 use Prim.Native.Nat.{◌*◌, ◌^◌, ◌≤◌, ◌<◌}
 use native.Mathlib.Nat.{mul-le-mul}
 use native.Mathlib.Omega.{arith}
-use Rattle.bound.specs.Answers.{outcome}
+use Rattle.device.specs.Refusal.{outcome}
 use Rattle.bound.proofs.Shares.{share_begins, shared_room, share_small, share_enough, share_next}
 use Rattle.bound.proofs.Walk.{all_below, walk_begins, walked_small, room_positive, walk_goes_on, walk_gives_up, walk_ends, walk_finds}
 use Rattle.bound.proofs.search.least_below.Goals as goal

@@ -1,12 +1,13 @@
 -- `listing::run::run_activations` meets its contract. The invariant: what is left to do from `at` on is what was to be done at the start.
-use mathlib.Core.Path.{◌≡◌}
 use Prim.Native.Nat.{◌-◌, ◌/◌, ◌<◌, ◌%◌}
+use mathlib.Core.Path.{◌≡◌}
 use native.Mathlib.Nat.{mod-lt}
 use native.Mathlib.Omega.{arith}
 use borrow.Author.Tests.{not-false}
 use lib.Dec.{lit<}
 use Rattle.device.specs.Remap.{physical}
 use Rattle.device.proofs.Remap.{entry_below}
+use Rattle.columns.specs.Answers.{found}
 use Rattle.summary.proofs.Rules.Room.{room_more}
 use Rattle.trace.proofs.Reading.Activations.{activates_told}
 use Rattle.steps.specs.InnerContracts.{moved}
@@ -21,74 +22,48 @@ returns-then-not-p c = record { runs_on = runs_none c.args.text.now c.args.from 
 
 pub loop-row-init : goal.loop-row-init
 unfolding numbers_on
-loop-row-init c = record { count = 0; far = omega arith; runs = runs_none c.args.text.now c.args.from c.requires.0 c.requires.2; banked = c.requires.1; next = activates_told c.args.text.now c.args.from _ c.activation_row-row.ensures }
+loop-row-init c = record { count = 0; far = omega arith; runs = runs_none c.args.text.now c.args.from c.requires.0 c.requires.2; banked = c.requires.1 }
 
 pub overflow_add-row : goal.overflow_add-row
 overflow_add-row c =
     let l = c.loop-row in
     let on = not-false _ c.if-not-p.false in
-    let inside = c.loop-row-test.true in
-    let less : l.activations < c.args.p.settings.interval = omega arith in
-    let free = run_free l.invariant on inside less (omega (arith, (c.requires.1.bank on).most)) in
-    let facts = activation_facts (moved c.args.p c.args.p.events l.activations l.tally (numbers_on c.args.p.lines l.invariant.count)) l.counts l.invariant.runs.ready l.row 1 free in
-    omega (arith, entry_below c.args.p.remap facts.allowed (l.row % 16) (mod-lt l.row (lit< tt)), inside, (c.requires.1.bank on).most)
+    let row = c.in-Some.row in
+    let free = run_free l.invariant on row c.if-row-s.true c.if-activations-s.true in
+    let facts = activation_facts (moved c.args.p c.args.p.events l.activations l.tally (numbers_on c.args.p.lines l.invariant.count)) l.counts l.invariant.runs.ready row 1 free in
+    omega (arith, entry_below c.args.p.remap facts.allowed (row % 16) (mod-lt row (lit< tt)), c.if-row-s.true, (c.requires.1.bank on).most)
 
 pub activate-tally-requires : goal.activate-tally-requires
 unfolding physical
 activate-tally-requires c =
     let l = c.loop-row in
     let on = not-false _ c.if-not-p.false in
-    let inside = c.loop-row-test.true in
-    let less : l.activations < c.args.p.settings.interval = omega arith in
-    let free = run_free l.invariant on inside less (omega (arith, (c.requires.1.bank on).most)) in
+    let row = c.in-Some.row in
+    let free = run_free l.invariant on row c.if-row-s.true c.if-activations-s.true in
     let q = moved c.args.p c.args.p.events l.activations l.tally (numbers_on c.args.p.lines l.invariant.count) in record {
       holds = l.invariant.banked.bank on;
       diameter_bound = (
-        activation_diameter q l.counts l.invariant.runs.ready l.row 1 free,
-        physical_inside q l.counts l.invariant.runs.ready l.row 1 free,
+        activation_diameter q l.counts l.invariant.runs.ready row 1 free,
+        physical_inside q l.counts l.invariant.runs.ready row 1 free,
         omega arith,
         omega arith,
-        room_more (activation_room q l.counts l.invariant.runs.ready l.row 1 free) (omega arith),
+        room_more (activation_room q l.counts l.invariant.runs.ready row 1 free) (omega arith),
       );
     }
 
-pub overflow_add-activations : goal.overflow_add-activations
-overflow_add-activations c =
-    let l = c.loop-row in
-    omega (arith, activations_few (moved c.args.p c.args.p.events l.activations l.tally (numbers_on c.args.p.lines l.invariant.count)) l.counts l.invariant.runs.ready (not-false _ c.if-not-p.false))
-
 pub overflow_add-at : goal.overflow_add-at
-overflow_add-at c =
-    let l = c.loop-row in
-    let on = not-false _ c.if-not-p.false in
-    let small : l.row < 1000000 = omega (arith, c.loop-row-test.true, (c.requires.1.bank on).most) in
-    omega (arith, l.invariant.next.inside small)
-
-pub activation_row-row-requires-in-loop-row : goal.activation_row-row-requires-in-loop-row
-activation_row-row-requires-in-loop-row c =
-    let l = c.loop-row in
-    let on = not-false _ c.if-not-p.false in
-    let small : l.row < 1000000 = omega (arith, c.loop-row-test.true, (c.requires.1.bank on).most) in
-    l.invariant.next.inside small
+unfolding found
+overflow_add-at c = omega (arith, (activates_told c.args.text.now c.loop-row.at c.in-Some.row c.in-Some.ensures).inside)
 
 pub loop-row-smaller : goal.loop-row-smaller
-loop-row-smaller c =
-    let l = c.loop-row in
-    let on = not-false _ c.if-not-p.false in
-    let small : l.row < 1000000 = omega (arith, c.loop-row-test.true, (c.requires.1.bank on).most) in
-    omega (arith, l.invariant.next.inside small)
+unfolding found
+loop-row-smaller c = omega (arith, (activates_told c.args.text.now c.loop-row.at c.in-Some.row c.in-Some.ensures).inside)
 
 pub loop-row-preserved : goal.loop-row-preserved
-unfolding physical next_number
+unfolding physical next_number found
 loop-row-preserved c =
-    let l = c.loop-row in
-    let on = not-false _ c.if-not-p.false in
-    let inside = c.loop-row-test.true in
-    let less : l.activations < c.args.p.settings.interval = omega arith in
-    running_more l.invariant on inside less (omega (arith, inside, (c.requires.1.bank on).most)) c.activate-tally.ensures (activates_told c.args.text.now _ _ c.activation_row-row-in-loop-row.ensures)
-
-pub overflow_sub-at : goal.overflow_sub-at
-overflow_sub-at c = c.loop-row.invariant.runs.onward
+    running_more c.loop-row.invariant (not-false _ c.if-not-p.false) c.in-Some.row c.if-row-s.true c.if-activations-s.true c.activate-tally.ensures
+    (activates_told c.args.text.now c.loop-row.at c.in-Some.row c.in-Some.ensures)
 
 pub lines_behind-lines-requires : goal.lines_behind-lines-requires
 lines_behind-lines-requires c = omega (arith, c.loop-row.invariant.runs.within, c.well_formed)

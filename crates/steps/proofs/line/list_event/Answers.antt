@@ -10,7 +10,7 @@ pub returns-then-not-p : goal.returns-then-not-p
 unfolding refused_step record_step_to
 returns-then-not-p c =
     let none = tracker_inactive c.args.p c.args.counts.now (not-true _ c.if-not-p.true) in
-    let same = c.at_line.ensures in record { lists_line = rw none (rw none at (leaves_unmoved c.args.p c.args.counts.now same _ c.print_refusal-end.ensures)); banked_in = banked_unmoved c.args.p c.args.counts.now same c.requires.1 }
+    let r = c.list_refusal.ensures in record { lists_line = rw none (rw none at (leaves_unmoved c.args.p c.args.counts.now r.place_value _ r.prints_into)); banked_in = banked_unmoved c.args.p c.args.counts.now r.place_value c.requires.1 }
 
 pub refresh-picked-requires : goal.refresh-picked-requires
 refresh-picked-requires c = let on = not-false _ c.if-not-p.false in record { holds = c.requires.1.bank on; ranges = (event_ranges c.args.p c.args.counts.now c.requires.0 on 16 (omega arith), event_room c.args.p c.args.counts.now c.requires.0 on) }
