@@ -1,37 +1,34 @@
--- Texts and numbers that are printed byte by byte.
+-- Texts and numbers that are printed, and what they say.
 use mathlib.Core.Path.{◌≡◌, refl, sym, ◌∙◌, ap}
 use mathlib.Core.Bool.{true, false}
-use mathlib.Core.List.{List, [], ◌∷◌, ◌++◌}
+use mathlib.Core.List.{List, [], ◌∷◌, ◌++◌, append_assoc}
 use mathlib.Core.Logic.{⊎_elim}
 use Prim.Native.Nat.{ℕ, zero, suc, ◌+◌, ◌-◌, ◌*◌, ◌/◌, ◌%◌, ◌^◌, ◌≤◌, ◌<◌}
 use native.Mathlib.Omega.{arith}
-use native.Mathlib.Numerals.{add-one, sub-one}
+use native.Mathlib.Numerals.{sub-one}
 use native.Mathlib.Nat.{pow-suc, one-le-pow, pow-le-pow_right}
 use borrow.Author.Tests.{lt-ltb, le-ltb}
+use borrow.Rule.Slice.PartMut.{put_mid}
 use lib.Dec.{ltb}
-use lib.ListN.{length, take, get_or, set, length-append}
-use lib.Seq.{take-suc, take_all}
+use lib.ListN.{length, length-append}
+use lib.Seq.{drop-drop}
 use Rattle.laws.proofs.Cases.{le_or_lt}
 use Rattle.io.specs.Digits.{hex_digit_ascii, last_digits as digits, IsDigitCount}
 use Rattle.columns.specs.Bytes.{digit_0}
+use Rattle.columns.specs.Numbers.{written}
 use Rattle.columns.specs.Output.{Prints}
-use Rattle.columns.proofs.Output.{prints_byte, prints_then, prints_long}
+use Rattle.columns.proofs.Output.{prints_then}
 use Rattle.rowcheck.specs.declared.Answer.{Answer}
 use Rattle.rowcheck.specs.declared.Answer.TheVariants.{Open, Passes, Departs, TraceFailed, ListingFailed}
 use Rattle.rowcheck.specs.declared.Check.{Check}
 use Rattle.rowcheck.specs.Answers.{digits_before, decimal, passes_line, departs_words, line_of, answer_line, has_answer}
 
--- one byte more of a text
-pub prints_next : (before : List ℕ) (at : ℕ) (text out : List ℕ) (i : ℕ) → i < length text → at + length text ≤ length before → Prints before at (take i text) out (at + i) → Prints before at (take (i + 1) text) (set out (at + i) (get_or text i 0)) (at + (i + 1))
-prints_next before at text out i inside room p =
-    let byte = prints_byte out (at + i) (get_or text i 0) (omega (arith, prints_long p)) in
-    let longer : take (i + 1) text ≡ take i text ++ get_or text i 0 ∷ [] = ap (λ (n : ℕ). take n text) (add-one i) ∙ take-suc text i 0 inside in
-    let further : at + i + 1 ≡ at + (i + 1) = omega arith in
-    rw (longer, ← further) (prints_then p byte)
-
--- all of it
-pub prints_all : (before : List ℕ) (at : ℕ) (text out : List ℕ) (i : ℕ) → i ≤ length text → length text ≤ i → Prints before at (take i text) out (at + i) → Prints before at text out (at + i)
-prints_all before at text out i few all p = rw (take_all i text all) at p
+-- a text that is copied to its place
+pub prints_copied : (before : List ℕ) (at : ℕ) (text copy : List ℕ) → at + length text ≤ length before → copy ≡ text → Prints before at text (put_mid at (at + length text - at) before copy) (at + length text)
+unfolding written
+prints_copied before at text copy fits same =
+    let size : at + length text - at ≡ length text = omega arith in
+    record { fits = fits; holds = rw (same, size, drop-drop (length text) at before) (simp append_assoc); behind = refl }
 
 -- a digit's byte
 glyph_digit : (m : ℕ) → hex_digit_ascii (m % 10) ≡ digit_0 + m % 10

@@ -8,44 +8,38 @@ use borrow.Author.Tests.{lt-ltb, le-ltb, ltb-true}
 use lib.Dec.{ltb}
 use lib.ListN.{length, take, drop, length-append}
 use lib.Seq.{take-append-le, take-take, length-slice}
+use Rattle.std.specs.Prelude.{Result, Ok, Err}
 use Rattle.laws.proofs.Cases.{split}
-use Rattle.std.proofs.lemmas.List.{drop-take}
+use Rattle.std.proofs.lemmas.Slice.{between_is}
 use Rattle.input.specs.declared.Input.{Input}
 use Rattle.input.specs.declared.Input.TheVariants.{Bytes, End, Failed}
 use Rattle.input.specs.AtHand.{Within, Came}
 use Rattle.turns.specs.declared.Turn.{Turn}
 use Rattle.turns.specs.Turns.{turn_in}
-use Rattle.checker.specs.declared.Compared.{Compared}
 use Rattle.checker.specs.Comparison.{compared}
-use Rattle.checker.proofs.Comparison.{few}
-use Rattle.rowcheck.specs.declared.Answer.TheVariants.{Open, Departs}
+use Rattle.checker.proofs.Comparison.{all_few, some_few}
+use Rattle.rowcheck.specs.declared.Answer.TheVariants.{Departs}
 use Rattle.rowcheck.specs.declared.Check.{Check}
-use Rattle.rowcheck.specs.Turns.{behind_trace, given_beside, behind_listing, beside, ReadBeside, State, wants_trace, after_listing, Stepped, of_listing}
+use Rattle.rowcheck.specs.Turns.{behind_trace, lines_among, answer_among, given_beside, behind_listing, beside, ReadBeside, State, wants_trace, after_listing, Stepped, of_listing}
 use Rattle.rowcheck.specs.InnerContracts.{Comparable, ListingChecked}
 
--- the bytes of a text from one place to another, as a part of it is lent
-part_slice : (text : List ℕ) (at len : ℕ) → at ≤ len → take (len - at) (drop at text) ≡ drop at (take len text)
-part_slice text at len h =
-    let whole : at + (len - at) ≡ len = omega arith in
-    sym (drop-take at (len - at) text) ∙ ap (λ (n : ℕ). drop at (take n text)) whole
+module _ (k : Check) (required given : List ℕ) (end len : ℕ) (inside : k.at < end) {c : Result ℕ ℕ} (e : c ≡ compared k.lines (take (len - k.at) (drop k.at required)) (take (len - k.at) (drop k.at given))) where
+  beside_compared : c ≡ compared k.lines (drop k.at (take len required)) (drop k.at (take len given))
+  beside_compared = e ∙ rw (between_is required k.at len, between_is given k.at len)
 
-module _ (k : Check) (required given : List ℕ) (end len : ℕ) (inside : k.at < end) (within : k.at ≤ len) {f : Compared} (e : f ≡ compared k.lines (take (len - k.at) (drop k.at required)) (take (len - k.at) (drop k.at given))) where
-  beside_compared : f ≡ compared k.lines (drop k.at (take len required)) (drop k.at (take len given))
-  beside_compared = e ∙ rw (part_slice required k.at len within, part_slice given k.at len within)
-
-  pub beside_alike : f.all ≡ true → record { at = len; lines = f.lines; answer = Open } ≡ given_beside k required end given len
+  pub beside_required : record { at = len; lines = lines_among c; answer = answer_among c } ≡ given_beside k required end given len
   unfolding given_beside
-  beside_alike all = rw (lt-ltb k.at end inside, ← beside_compared, all)
-
-  pub beside_other : f.all ≡ false → record { at = len; lines = f.lines; answer = Departs } ≡ given_beside k required end given len
-  unfolding given_beside
-  beside_other all = rw (lt-ltb k.at end inside, ← beside_compared, all)
+  beside_required = rw (lt-ltb k.at end inside, ← beside_compared)
 
 pub beside_surplus : (k : Check) (required given : List ℕ) (end len : ℕ) → end ≤ k.at → record { at = k.at; lines = k.lines; answer = Departs } ≡ given_beside k required end given len
 unfolding given_beside
 beside_surplus k required given end len h = rw (le-ltb k.at end h)
 
 -- no more lines end than bytes are given
+lines_few : (c : Result ℕ ℕ) (n : ℕ) (required given : List ℕ) → compared n required given ≡ c → lines_among c ≤ n + length given
+lines_few (Ok lines) n required given e = let f = all_few n required given lines e in omega arith
+lines_few (Err lines) n required given e = some_few n required given lines e
+
 module _ (k : Check) (required given : List ℕ) (end : ℕ) where
   given_lines : (len : ℕ) → (k.at < end → len ≤ length given) → (given_beside k required end given len).lines ≤ k.lines + length given
   unfolding given_beside
@@ -53,7 +47,7 @@ module _ (k : Check) (required given : List ℕ) (end : ℕ) where
       split (ltb k.at end)
       (λ on.
       let fits = within (ltb-true k.at end on) in
-      rw on (omega (arith, (few k.lines (drop k.at (take len required)) (drop k.at (take len given))).given_few, length-slice k.at len given fits)))
+      rw on (omega (arith, lines_few _ k.lines (drop k.at (take len required)) (drop k.at (take len given)) refl, length-slice k.at len given fits)))
       (λ off. rw off (omega arith))
 
   pub lines_behind : (input : Input) → Comparable k end input required given → (behind_listing k required end given input).lines ≤ k.lines + length given
@@ -61,6 +55,11 @@ module _ (k : Check) (required given : List ℕ) (end : ℕ) where
   lines_behind (Bytes len) c = given_lines len (λ inside. omega (arith, (c.most inside).1, c.given_long))
   lines_behind End c = omega arith
   lines_behind Failed c = omega arith
+
+-- a read of the listing is compared within what is required
+pub comparable : {k : Check} {end : ℕ} {input : Input} {before given : List ℕ} (required : List ℕ) → ReadBeside input k.at end before given → length given ≡ length before → end ≤ length required → end ≤ length before → k.lines + length before ≤ 18446744073709551615 → Comparable k end input required given
+comparable required read long required_long before_long few =
+    record { most = read.most; required_long = required_long; given_long = omega arith; few = omega arith }
 
 -- a read into the front of a buffer
 within_more : (input : Input) (kept : ℕ) {most most' : ℕ} → most ≤ most' → Within input kept most → Within input kept most'

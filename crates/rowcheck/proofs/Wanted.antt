@@ -1,6 +1,6 @@
 -- What is to be answered from a state of a run on, and how bytes that are compared bear on it.
 use mathlib.Core.Path.{◌≡◌, refl, sym, ◌∙◌, ap}
-use mathlib.Core.Bool.{Bool, true, false, cond}
+use mathlib.Core.Bool.{Bool, true, false}
 use mathlib.Core.List.{List, [], ◌∷◌, ◌++◌}
 use mathlib.Core.Option.{Option, none, some}
 use Prim.Native.Nat.{ℕ, suc, ◌≤◌, ◌<◌}
@@ -8,6 +8,7 @@ use native.Mathlib.Omega.{arith}
 use lib.Dec.{eqb}
 use lib.ListN.{length, take, drop, length-take, take-append-drop, drop_of_length-le}
 use lib.Seq.{take-take, drop-append-le, drop_at}
+use Rattle.std.specs.Prelude.{Result, Ok, Err}
 use Rattle.laws.proofs.Cases.{split}
 use Rattle.trace.specs.Lines.{ended}
 use Rattle.trace.specs.Texts.{joined}
@@ -17,10 +18,10 @@ use Rattle.steps.specs.Memory.{Represents}
 use Rattle.turns.specs.Turns.{Turned}
 use Rattle.checker.specs.Departure.{departing}
 use Rattle.checker.specs.Comparison.{counted, compared}
-use Rattle.checker.proofs.Comparison.{departing_missing, departing_surplus, departing_compared}
+use Rattle.checker.proofs.Comparison.{departing_missing, departing_surplus, compared_on, compared_off}
 use Rattle.rowcheck.specs.declared.Answer.{Answer}
 use Rattle.rowcheck.specs.declared.Answer.TheVariants.{Open, Passes, Departs, TraceFailed, ListingFailed}
-use Rattle.rowcheck.specs.Turns.{State}
+use Rattle.rowcheck.specs.Turns.{lines_among, answer_among, State}
 
 -- what is still required: the rest of what is to be compared now, and, while the trace has not ended, the listing of the kept bytes and of what follows
 unfoldable pub behind : Bool → Progress → List ℕ → List ℕ
@@ -69,18 +70,15 @@ compared_front n (x ∷ xs) [] zs h = absurd (omega arith)
 compared_front n (x ∷ xs) (y ∷ ys) zs h =
     split (eqb x y) (λ on. rw on (compared_front (counted n x) xs ys zs (omega arith))) (λ off. rw off)
 
-to_answer_by : (all : Bool) (n : ℕ) (more given : List ℕ) → to_answer (cond all Open Departs) n more given ≡ cond all (departing n more given) (some (suc n))
+told_by : (c : Result ℕ ℕ) (n : ℕ) (xs more given : List ℕ) → compared n xs given ≡ c → to_answer (answer_among c) (lines_among c) more (drop (length xs) given) ≡ departing n (xs ++ more) given
 unfolding to_answer
-to_answer_by true n more given = refl
-to_answer_by false n more given = refl
+told_by (Ok lines) n xs more given e = sym (compared_on n xs more given lines e)
+told_by (Err lines) n xs more given e = sym (compared_off n xs more given lines e)
 
 -- what is to be answered behind it
-pub piece_compared : (n : ℕ) (xs more ys zs : List ℕ) → length ys ≡ length xs → to_answer (cond (compared n xs ys).all Open Departs) (compared n xs ys).lines more zs ≡ departing n (xs ++ more) (ys ++ zs)
+pub piece_compared : (n : ℕ) (xs more ys zs : List ℕ) → length ys ≡ length xs → to_answer (answer_among (compared n xs ys)) (lines_among (compared n xs ys)) more zs ≡ departing n (xs ++ more) (ys ++ zs)
 piece_compared n xs more ys zs long =
-    to_answer_by (compared n xs ys).all (compared n xs ys).lines more zs ∙
-    sym
-    (departing_compared n xs more (ys ++ zs) ∙
-    rw (compared_front n xs ys zs (omega arith), drop_at ys zs (length xs) long))
+    rw (drop_at ys zs (length xs) long) at (told_by (compared n xs ys) n xs more (ys ++ zs) (compared_front n xs ys zs (omega arith)))
 
 -- bytes that only one side has
 pub surplus_departs : (n : ℕ) (part given : List ℕ) → 0 < length part → departing n [] (part ++ given) ≡ some (suc n)

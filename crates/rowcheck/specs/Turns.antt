@@ -1,10 +1,11 @@
 -- The program's steps: a read of the trace or of the listing and what lies behind it, chains of them, and what all reads come to.
-use Rattle.std.specs.Prelude.{ℕ, suc, ◌+◌, ◌*◌, ◌≤◌, ◌<◌, ◌≡◌, Bool, true, false, ◌&&◌, cond, List, [], ◌∷◌, ◌++◌, leb, ltb, length, take, drop}
+use Rattle.std.specs.Prelude.{ℕ, suc, Result, Ok, Err, ◌+◌, ◌*◌, ◌≤◌, ◌<◌, ◌≡◌, Bool, true, false, ◌&&◌, cond, List, [], ◌∷◌, ◌++◌, leb, ltb, length, take, drop}
 use Rattle.std.proofs.Math.Option.{Option, none, some}
 use Rattle.steps.specs.Memory.{start_place}
 use Rattle.listing.specs.Chunks.{line_room}
 use Rattle.input.specs.declared.Input.{Input}
 use Rattle.input.specs.declared.Input.TheVariants.{Bytes, End, Failed}
+use Rattle.turns.specs.declared.Next.TheVariants.{More}
 use Rattle.input.specs.AtHand.{Within, Came, brought}
 use Rattle.turns.specs.Turns.{Turned, turn_of, first_turned}
 use Rattle.turns.specs.Turns.{Stepped as TurnStepped}
@@ -27,12 +28,21 @@ unfoldable pub behind_trace : Check → Bool → Check
 behind_trace k false = record { at = 0; lines = k.lines; answer = Open }
 behind_trace k true = record { at = 0; lines = k.lines; answer = TraceFailed }
 
+-- what a comparison comes to: the lines that have ended among the bytes that were alike, and a departing line where not all were
+abbrev pub lines_among : Result ℕ ℕ → ℕ
+lines_among (Ok lines) = lines
+lines_among (Err lines) = lines
+
+abbrev pub answer_among : Result ℕ ℕ → Answer
+answer_among (Ok lines) = Open
+answer_among (Err lines) = Departs
+
 -- what bytes of the listing come to: where some are required, they are compared with these; where none is, they are surplus
 unfoldable pub given_beside : Check → List ℕ → ℕ → List ℕ → ℕ → Check
 given_beside k required end given len =
     let c = compared k.lines (drop k.at (take len required)) (drop k.at (take len given)) in
     cond (ltb k.at end)
-    (record { at = len; lines = c.lines; answer = cond c.all Open Departs })
+    (record { at = len; lines = lines_among c; answer = answer_among c })
     (record { at = k.at; lines = k.lines; answer = Departs })
 
 -- behind a read of the listing, so many bytes being required: at its end the first line of those that are missing departs, or nothing does
@@ -59,7 +69,7 @@ pub record State : Type 0 where
 unfoldable pub first_step : Step
 first_step =
     record {
-      turn = record { place = start_place; kept = 0; end = 0; more = true; failed = false };
+      turn = record { place = start_place; kept = 0; end = 0; next = More };
       check = record { at = 0; lines = 0; answer = Open };
     }
 

@@ -7,16 +7,14 @@ ghost use Rattle.rowcheck.specs.InnerContracts.{most_lines};
 use crate::{Answer, Check};
 
 // Prints a text at a place of a buffer; the place behind it.
+#[tactic(auto, using(crate::proofs::Lines::prints_copied))]
 fn print_text(out: &mut [u8], at: usize, text: &[u8]) -> usize
     requires { at + length text.now ≤ length out.old }
     ensures { PrintsInto out at text.now result }
 {
-    let mut i = 0;
-    while i < text.len() {
-        out[at + i] = text[i];
-        i += 1;
-    }
-    at + i
+    let end = at + text.len();
+    out[at..end].copy_from_slice(text);
+    end
 }
 
 // Prints a number without blanks or leading zeros.
@@ -26,7 +24,7 @@ fn print_decimal(out: &mut [u8], at: usize, n: u64) -> usize
 {
     let mut digits = [0u8; 20];
     let count = io::decimal(n, &mut digits);
-    print_text(out, at, &digits[0..count])
+    print_text(out, at, &digits[..count])
 }
 
 // Prints the line of a departure behind so many lines that were the same.
@@ -40,16 +38,14 @@ fn print_departure(out: &mut [u8], lines: u64) -> usize
 }
 
 // What a check has come to, from the array's front on: how many bytes.
+#[tactic(auto, unfolding(crate::specs::Answers::answer_line, crate::specs::Answers::line_of, crate::specs::Answers::passes_line), using(columns::proofs::Output::prints_nothing))]
 pub fn answer_line(k: Check, out: &mut [u8; 37]) -> usize
     requires { k.lines ≤ most_lines }
     ensures { Prints out.old 0 (answer_line k) out.new result }
 {
-    let answer = k.answer;
-    match answer {
+    match k.answer {
         Answer::Passes => print_text(out, 0, b"passes\n"),
         Answer::Departs => print_departure(out, k.lines),
-        Answer::Open => 0,
-        Answer::TraceFailed => 0,
-        Answer::ListingFailed => 0,
+        Answer::Open | Answer::TraceFailed | Answer::ListingFailed => 0,
     }
 }

@@ -4,10 +4,11 @@
 
 mod line;
 
-ghost use Rattle.std.specs.Prelude.{◌≡◌, ◌&&◌, [], ◌+◌, ◌≤◌, ◌<◌, leb, ltb, length};
+ghost use Rattle.std.specs.Prelude.{◌≡◌, ◌&&◌, [], ◌+◌, ◌≤◌, ◌<◌, leb, length, IfSome};
 ghost use Rattle.aids.specs.Marks.{Marked};
 ghost use Rattle.aids.specs.Bounds.{all_bounds};
 ghost use Rattle.input.specs.declared.Input.TheVariants.{End};
+ghost use Rattle.turns.specs.Next.{reads_on, has_failed};
 ghost use Rattle.turns.specs.Turns.{turn_before, turn_left};
 ghost use Rattle.turns.specs.Turns.{Stepped as TurnStepped};
 ghost use Rattle.turns.specs.InnerContracts.{CarriedIn};
@@ -15,9 +16,9 @@ ghost use Rattle.rowcheck.specs.Turns.{open_so_far, behind_trace, given_beside, 
 ghost use Rattle.rowcheck.specs.Answers.{has_answer};
 ghost use Rattle.rowcheck.specs.InnerContracts.{Comparable, most_lines, ListingChecked, SteppedIn, RanIn, RanFresh};
 
-use input::{File, Input};
+use input::{Errno, File, Input};
 use std::env::{Env, FillError};
-use turns::Turn;
+use turns::{Next, Turn};
 
 // The tracker's tables: a count for every row of the largest bank, a word of marks for each 64 of them and one for each 64 of these, and as many bounds.
 const ROWS: usize = 262_144;
@@ -34,29 +35,22 @@ const OUT: usize = 339_968;
 // Reads enough for any files; each passes over no more lines than a buffer has bytes, so a line's number stays below 2 to the 64th.
 const TURNS: u64 = 35_184_372_088_832;
 
-// The file of the trace, and the length of its name.
-#[derive(Drop)]
-struct TraceFile {
-    file: File,
-    length: usize,
-}
-
-// The file of the listing, and the length of its name: another type, so that neither can stand for the other.
-#[derive(Drop)]
-struct ListingFile {
-    file: File,
-    length: usize,
-}
-
-// A file that was to be opened, and the length of its name.
+// A file that is open, and the length of its name.
 #[derive(Drop)]
 struct Named {
     file: File,
     length: usize,
 }
 
+// The files of the trace and of the listing: types of their own, so that neither can stand for the other.
+#[derive(Drop)]
+struct TraceFile(File);
+
+#[derive(Drop)]
+struct ListingFile(File);
+
 // What a check has come to.
-#[derive(Clone, Copy)]
+#[derive(Clone, Copy, PartialEq, Eq)]
 pub enum Answer {
     Open,
     Passes,
@@ -81,31 +75,18 @@ pub struct Step {
 }
 
 // Behind a read of the trace: what it requires is to be compared from its start on, unless the read failed.
-fn behind_trace(from: Check, failed: bool) -> Check
-    ensures { result ≡ behind_trace from failed }
+#[tactic(auto, unfolding(crate::specs::Turns::behind_trace))]
+fn behind_trace(from: Check, next: Next) -> Check
+    ensures { result ≡ behind_trace from (has_failed next) }
 {
-    if failed {
-        return Check {
-            at: 0,
-            lines: from.lines,
-            answer: Answer::TraceFailed,
-        };
-    }
+    let answer = match next {
+        Next::More | Next::Done => Answer::Open,
+        Next::Broken => Answer::TraceFailed,
+    };
     Check {
         at: 0,
-        lines: from.lines,
-        answer: Answer::Open,
-    }
-}
-
-// The same bytes compared and the same lines, with an answer.
-fn answered(k: Check, answer: Answer) -> Check
-    ensures { result ≡ record { at = k.at; lines = k.lines; answer = answer } }
-{
-    Check {
-        at: k.at,
-        lines: k.lines,
         answer,
+        ..from
     }
 }
 
@@ -116,34 +97,40 @@ fn given_beside(from: Check, required: &[u8], end: usize, given: &[u8], len: usi
 {
     let at = from.at;
     if end <= at {
-        return answered(from, Answer::Departs);
-    }
-    let found = checker::compare(&required[at..len], &given[at..len], 0, from.lines);
-    if !found.all {
         return Check {
-            at: len,
-            lines: found.lines,
             answer: Answer::Departs,
+            ..from
         };
     }
-    Check {
-        at: len,
-        lines: found.lines,
-        answer: Answer::Open,
+    match checker::compare(&required[at..len], &given[at..len], 0, from.lines) {
+        Ok(lines) => Check {
+            at: len,
+            lines,
+            answer: Answer::Open,
+        },
+        Err(lines) => Check {
+            at: len,
+            lines,
+            answer: Answer::Departs,
+        },
     }
 }
 
 // The end of the listing: nothing is missing, or a line is.
+#[tactic(auto, unfolding(crate::specs::Turns::behind_listing))]
 fn given_end(from: Check, end: usize) -> Check
     ensures { result ≡ behind_listing from [] end [] End }
 {
-    if end <= from.at {
-        return answered(from, Answer::Passes);
-    }
-    answered(from, Answer::Departs)
+    let answer = if end <= from.at {
+        Answer::Passes
+    } else {
+        Answer::Departs
+    };
+    Check { answer, ..from }
 }
 
 // Behind a read of the listing, so many bytes being required.
+#[tactic(auto, unfolding(crate::specs::Turns::behind_listing))]
 fn behind_listing(from: Check, required: &[u8], end: usize, given: &[u8], input: Input) -> Check
     requires { Comparable from end input required.now given.now }
     ensures { result ≡ behind_listing from required.now end given.now input }
@@ -151,7 +138,10 @@ fn behind_listing(from: Check, required: &[u8], end: usize, given: &[u8], input:
     match input {
         Input::Bytes(len) => given_beside(from, required, end, given, len),
         Input::End => given_end(from, end),
-        Input::Failed => answered(from, Answer::ListingFailed),
+        Input::Failed => Check {
+            answer: Answer::ListingFailed,
+            ..from
+        },
     }
 }
 
@@ -161,18 +151,18 @@ fn read_listing(listing: &mut ListingFile, given: &mut [u8], at: usize, end: usi
     ensures { ReadBeside result at end given.old given.new }
 {
     if at < end {
-        return input::read_from(&mut listing.file, &mut given[0..end], at);
+        return input::read_from(&mut listing.0, &mut given[..end], at);
     }
-    input::read_from(&mut listing.file, given, 0)
+    input::read_from(&mut listing.0, given, 0)
 }
 
 // Before the first read.
+#[tactic(auto, unfolding(crate::specs::Turns::first_step))]
 fn first_step() -> Step
     ensures { result ≡ first_step }
 {
-    let turn = turns::first_turn();
     Step {
-        turn,
+        turn: turns::first_turn(),
         check: Check {
             at: 0,
             lines: 0,
@@ -193,14 +183,12 @@ fn trace_step(
 ) -> Step
     requires { CarriedIn from.turn counts.old marks.old bounds.old text.old out.old }
     ensures carried_in { CarriedIn result.turn counts.new marks.new bounds.new text.new out.new × (result.check.lines ≡ from.check.lines) }
-    ensures turn_stepped { TurnStepped (turn_before from.turn counts text out) (turn_left result.turn counts text out) × (result.check ≡ behind_trace from.check result.turn.failed) }
+    ensures turn_stepped { TurnStepped (turn_before from.turn counts text out) (turn_left result.turn counts text out) × (result.check ≡ behind_trace from.check (has_failed result.turn.next)) }
 {
-    let before = from.turn;
-    let so_far = from.check;
-    let turn = turns::next_turn(before, &mut trace.file, counts, marks, bounds, text, out);
+    let turn = turns::next_turn(from.turn, &mut trace.0, counts, marks, bounds, text, out);
     Step {
         turn,
-        check: behind_trace(so_far, turn.failed),
+        check: behind_trace(from.check, turn.next),
     }
 }
 
@@ -210,41 +198,27 @@ fn listing_step(from: Step, listing: &mut ListingFile, given: &mut [u8], out: &[
     ensures turn_value { (result.turn ≡ from.turn) × (result.check.lines ≤ from.check.lines + length given.old) }
     ensures listing_checked { ListingChecked from.check result.check out.now from.turn.end given.old given.new }
 {
-    let turn = from.turn;
-    let so_far = from.check;
-    let input = read_listing(listing, given, so_far.at, turn.end);
+    let Step { turn, check } = from;
+    let input = read_listing(listing, given, check.at, turn.end);
     Step {
         turn,
-        check: behind_listing(so_far, out, turn.end, given, input),
+        check: behind_listing(check, out, turn.end, given, input),
     }
 }
 
 // Whether nothing is answered yet.
+#[tactic(auto, unfolding(crate::specs::Turns::open_so_far))]
 fn is_open(k: Check) -> bool
     ensures { result ≡ open_so_far k.answer }
 {
-    let answer = k.answer;
-    match answer {
-        Answer::Open => true,
-        Answer::Passes => false,
-        Answer::Departs => false,
-        Answer::TraceFailed => false,
-        Answer::ListingFailed => false,
-    }
-}
-
-// Whether a run goes on: nothing is answered yet, and reads are left.
-fn runs_on(k: Check, left: u64) -> bool
-    ensures { result ≡ open_so_far k.answer && ltb 0 left }
-{
-    input::reads_again(is_open(k), left)
+    k.answer == Answer::Open
 }
 
 // Whether the trace is to be read next: it goes on, and all that it required so far is compared.
-fn wants_trace(more: bool, end: usize, at: usize) -> bool
-    ensures { result ≡ more && leb end at }
+fn wants_trace(from: Step) -> bool
+    ensures { result ≡ reads_on from.turn.next && leb from.turn.end from.check.at }
 {
-    more && end <= at
+    from.turn.next == Next::More && from.turn.end <= from.check.at
 }
 
 // A read of the file that is wanted next, and what lies behind it: the trace once all that it required is compared, else the listing.
@@ -263,9 +237,7 @@ fn next_step(
     ensures carried_in { CarriedIn result.turn counts.new marks.new bounds.new text.new out.new × (result.check.lines ≤ from.check.lines + 339968) }
     ensures stepped_in { SteppedIn from result counts text out given }
 {
-    let so_far = from.check;
-    let turn = from.turn;
-    if wants_trace(turn.more, turn.end, so_far.at) {
+    if wants_trace(from) {
         return trace_step(from, trace, counts, marks, bounds, text, out);
     }
     listing_step(from, listing, given, out)
@@ -287,12 +259,13 @@ fn run(
     ensures lines_le_most_lines { result.lines ≤ most_lines }
 {
     let mut step = first_step();
-    let mut left = TURNS;
-    'reads: while runs_on(step.check, left) {
+    'reads: for _ in 0..TURNS {
+        if !is_open(step.check) {
+            break;
+        }
         step = next_step(
             step, trace, listing, counts, marks, bounds, text, out, given,
         );
-        left -= 1;
     }
     step.check
 }
@@ -329,7 +302,7 @@ fn tell_usage(rt: &HostRuntime) {
 }
 
 // What is wrong with the file of a name.
-fn tell_file(rt: &HostRuntime, wrong: &[u8], name: &[u8], reason: i32) {
+fn tell_file(rt: &HostRuntime, wrong: &[u8], name: &[u8], reason: Errno) {
     input::say(rt, wrong);
     input::say(rt, b" ");
     input::tell(rt, name, reason);
@@ -338,57 +311,26 @@ fn tell_file(rt: &HostRuntime, wrong: &[u8], name: &[u8], reason: i32) {
 // Whether there is an argument of a number, however long.
 fn is_given(rt: &HostRuntime, argument: usize) -> bool {
     let mut name = io::buffer();
-    match rt.arg(argument, &mut name) {
-        Ok(_) => true,
-        Err(FillError::TooLong) => true,
-        Err(FillError::NotPresent) => false,
-    }
+    !matches!(rt.arg(argument, &mut name), Err(FillError::NotPresent))
 }
 
-// The system's numbers of an argument that is not there, and of one that is too long.
-const MISSING: i32 = 22;
-
-const TOO_LONG: i32 = 36;
-
 // Opens the file that an argument names, which goes to the buffer's front; where that fails, it is said.
-fn open(rt: &HostRuntime, argument: usize, name: &mut [u8], wrong: &[u8]) -> Named
-    ensures { result.length ≤ length name.new }
+fn open(rt: &HostRuntime, argument: usize, name: &mut [u8], wrong: &[u8]) -> Option<Named>
+    ensures { IfSome result (λ named. named.length ≤ length name.new) }
 {
     let length = match rt.arg(argument, name) {
         Ok(length) => length,
         Err(error) => {
-            let reason = match error {
-                FillError::NotPresent => MISSING,
-                FillError::TooLong => TOO_LONG,
-            };
-            input::tell(rt, wrong, reason);
-            return Named {
-                file: input::unopened(),
-                length: 0,
-            };
+            input::tell(rt, wrong, error.into());
+            return None;
         }
     };
-    let file = input::open(rt, &name[0..length]);
+    let file = input::open(rt, &name[..length]);
     if !input::is_open(&file) {
-        tell_file(rt, wrong, &name[0..length], input::reason(&file));
+        tell_file(rt, wrong, &name[..length], input::reason(&file));
+        return None;
     }
-    Named { file, length }
-}
-
-// The trace is the first argument's file.
-fn open_trace(rt: &HostRuntime, name: &mut [u8]) -> TraceFile
-    ensures { result.length ≤ length name.new }
-{
-    let Named { file, length } = open(rt, 1, name, b"rowcheck: cannot open the trace");
-    TraceFile { file, length }
-}
-
-// The listing is the second's.
-fn open_listing(rt: &HostRuntime, name: &mut [u8]) -> ListingFile
-    ensures { result.length ≤ length name.new }
-{
-    let Named { file, length } = open(rt, 2, name, b"rowcheck: cannot open the listing");
-    ListingFile { file, length }
+    Some(Named { file, length })
 }
 
 // The answer on standard output; whether there is one.
@@ -412,12 +354,11 @@ fn tell_failure(
     rt: &HostRuntime,
     k: Check,
     trace: &[u8],
-    trace_reason: i32,
+    trace_reason: Errno,
     listing: &[u8],
-    listing_reason: i32,
+    listing_reason: Errno,
 ) {
-    let answer = k.answer;
-    match answer {
+    match k.answer {
         Answer::TraceFailed => tell_file(
             rt,
             b"rowcheck: cannot read the trace",
@@ -431,8 +372,7 @@ fn tell_failure(
             listing_reason,
         ),
         Answer::Open => input::say(rt, b"rowcheck: the files do not end\n"),
-        Answer::Passes => {}
-        Answer::Departs => {}
+        Answer::Passes | Answer::Departs => {}
     }
 }
 
@@ -442,26 +382,31 @@ fn main(rt: HostRuntime) {
         return;
     }
     let mut trace_name = io::buffer();
-    let mut trace = open_trace(&rt, &mut trace_name);
-    if !input::is_open(&trace.file) {
+    let Some(trace) = open(&rt, 1, &mut trace_name, b"rowcheck: cannot open the trace") else {
         return;
-    }
+    };
     let mut listing_name = io::buffer();
-    let mut listing = open_listing(&rt, &mut listing_name);
-    if !input::is_open(&listing.file) {
+    let Some(listing) = open(
+        &rt,
+        2,
+        &mut listing_name,
+        b"rowcheck: cannot open the listing",
+    ) else {
         return;
-    }
-    let trace_end = trace.length;
-    let listing_end = listing.length;
+    };
+    let trace_name = &trace_name[..trace.length];
+    let listing_name = &listing_name[..listing.length];
+    let mut trace = TraceFile(trace.file);
+    let mut listing = ListingFile(listing.file);
     let check = check_files(&mut trace, &mut listing);
     if !tell_answer(&rt, check) {
         tell_failure(
             &rt,
             check,
-            &trace_name[0..trace_end],
-            input::reason(&trace.file),
-            &listing_name[0..listing_end],
-            input::reason(&listing.file),
+            trace_name,
+            input::reason(&trace.0),
+            listing_name,
+            input::reason(&listing.0),
         );
     }
 }

@@ -18,6 +18,7 @@ use Rattle.listing.proofs.Chunks.LastLine.{length_last_line}
 use Rattle.input.specs.declared.Input.{Input}
 use Rattle.input.specs.declared.Input.TheVariants.{Bytes, End, Failed}
 use Rattle.input.specs.AtHand.{Within}
+use Rattle.turns.specs.declared.Next.TheVariants.{More}
 use Rattle.turns.specs.Turns.{Turned, turn_of}
 use Rattle.turns.specs.InnerContracts.{Carried}
 
@@ -49,7 +50,7 @@ unfolding turn_of
 turn_end m text kept buffer p = rw (p.holds, p.behind, zero-add)
 
 -- before the first read the tables track nothing
-pub carried_first : {counts marks bounds text out : List ℕ} → Marked counts marks → length bounds ≡ all_bounds → length text ≡ 6144 → length out ≡ 339968 → Carried (record { place = start_place; kept = 0; end = 0; more = true; failed = false }) counts marks bounds text out
+pub carried_first : {counts marks bounds text out : List ℕ} → Marked counts marks → length bounds ≡ all_bounds → length text ≡ 6144 → length out ≡ 339968 → Carried (record { place = start_place; kept = 0; end = 0; next = More }) counts marks bounds text out
 carried_first {counts} marked bounds_long text_long out_long =
     record {
       ready = (represents_start counts).ready;

@@ -8,6 +8,7 @@ use Rattle.input.specs.declared.Input.{Input}
 use Rattle.input.specs.declared.Input.TheVariants.{Bytes, End, Failed}
 use Rattle.input.specs.AtHand.{Within, Came, brought}
 use Rattle.turns.specs.declared.Turn.{Turn}
+use Rattle.turns.specs.Next.{reads_on, has_failed}
 
 -- what lies between two reads leaves: memory, text and buffer, how many bytes are kept and how many are to be written, whether to read again, and whether the
 -- read failed
@@ -73,8 +74,8 @@ turn_in t counts text buffer =
       kept = t.kept;
       buffer = buffer;
       end = t.end;
-      more = t.more;
-      failed = t.failed;
+      more = reads_on t.next;
+      failed = has_failed t.next;
     }
 
 abbrev pub turn_before : Turn → Lent → Lent → Lent → Turned

@@ -1,23 +1,30 @@
 // A read of a trace and what lies behind it: the bytes that came in are listed, up to the last line's end.
 #![tactic(auto)]
 
-ghost use Rattle.std.specs.Prelude.{◌≡◌, true, false};
+ghost use Rattle.std.specs.Prelude.{◌≡◌};
 ghost use Rattle.steps.specs.Memory.{memory_of, start_place, Ready, BankedIn};
 ghost use Rattle.turns.specs.Turns.{Readable, turn_from, turn_before, turn_left, Stepped};
+ghost use Rattle.turns.specs.declared.Next.TheVariants.{More};
 ghost use Rattle.turns.specs.InnerContracts.{CarriedIn};
 
 use input::{File, Input};
 use steps::Place;
 
-// What lies between two reads left: where the listing is, how many bytes are kept at the text's front and how many are to be written, whether to
-// read again, and whether the read failed.
+// What comes next: another read, or the end of the run, where the input ended or the read failed.
+#[derive(Clone, Copy, PartialEq, Eq)]
+pub enum Next {
+    More,
+    Done,
+    Broken,
+}
+
+// What lies between two reads left: where the listing is, how many bytes are kept at the text's front, how many are to be written, and what comes next.
 #[derive(Clone, Copy)]
 pub struct Turn {
     pub place: Place,
     pub kept: usize,
     pub end: usize,
-    pub more: bool,
-    pub failed: bool,
+    pub next: Next,
 }
 
 // What lies between two reads: what came in is listed, up to the last line's end.
@@ -34,51 +41,41 @@ pub fn between_reads(
     ensures out_value { turn_left result counts text out ≡ turn_from from counts text input out }
     ensures banked_in { BankedIn result.place counts.new marks.new bounds.new }
 {
-    let place = from.place;
-    let kept = from.kept;
+    let Turn { place, kept, .. } = from;
     match input {
         Input::Bytes(len) => {
             let chunk = listing::list_chunk(place, counts, marks, bounds, text, len, out);
-            let after = chunk.place;
             Turn {
-                place: after,
+                place: chunk.place,
                 kept: chunk.kept,
                 end: chunk.end,
-                more: true,
-                failed: false,
+                next: Next::More,
             }
         }
-        Input::End => {
-            let end = listing::list_end(place, &text[0..kept], out);
-            Turn {
-                place,
-                kept,
-                end,
-                more: false,
-                failed: false,
-            }
-        }
+        Input::End => Turn {
+            place,
+            kept,
+            end: listing::list_end(place, &text[..kept], out),
+            next: Next::Done,
+        },
         Input::Failed => Turn {
             place,
             kept,
             end: 0,
-            more: false,
-            failed: true,
+            next: Next::Broken,
         },
     }
 }
 
 // Before the first read.
 pub fn first_turn() -> Turn
-    ensures { result ≡ record { place = start_place; kept = 0; end = 0; more = true; failed = false } }
+    ensures { result ≡ record { place = start_place; kept = 0; end = 0; next = More } }
 {
-    let place = listing::start();
     Turn {
-        place,
+        place: listing::start(),
         kept: 0,
         end: 0,
-        more: true,
-        failed: false,
+        next: Next::More,
     }
 }
 

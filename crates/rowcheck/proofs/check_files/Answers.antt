@@ -7,5 +7,3 @@ use Rattle.rowcheck.proofs.check_files.Goals as goal
 pub run-requires : goal.run-requires
 run-requires c = (zeros_marked 262144 refl refl refl, search rules, search rules, search rules, search rules)
 
-pub returns : goal.returns
-returns c = record { ran_fresh = c.run.ensures.ran_in; lines_le_most_lines = c.run.ensures.lines_le_most_lines }

@@ -1,7 +1,6 @@
 -- `rowcheck::tell_answer` meets its contract: a line is written exactly where there is an answer.
 use mathlib.Core.Path.{sym}
 use native.Mathlib.Omega.{arith}
-use Rattle.columns.proofs.Output.{prints_long}
 use Rattle.rowcheck.proofs.Lines.{line_none, line_some}
 use Rattle.rowcheck.proofs.tell_answer.Goals as goal
 
@@ -9,9 +8,6 @@ pub returns-then-end-eq0 : goal.returns-then-end-eq0
 returns-then-end-eq0 c =
     let p = c.answer_line-end.ensures in
     sym (line_none c.args.k (omega (arith, p.behind, c.if-end-eq0.true)))
-
-pub slice_bounds-line-end : goal.slice_bounds-line-end
-slice_bounds-line-end c = let p = c.answer_line-end.ensures in omega (arith, p.fits, p.behind, prints_long p)
 
 pub returns-in-Err : goal.returns-in-Err
 returns-in-Err c =

@@ -4,5 +4,5 @@ use borrow.Author.Rules.{rules}
 use Rattle.steps.proofs.Memory.Zeros.{zeros_marked}
 use Rattle.rowlist.proofs.main.Goals as goal
 
-pub run-requires : goal.run-requires
-run-requires c = (zeros_marked 262144 refl refl refl, search rules, search rules, search rules)
+pub run-ended-requires : goal.run-ended-requires
+run-ended-requires c = (zeros_marked 262144 refl refl refl, search rules, search rules, search rules)

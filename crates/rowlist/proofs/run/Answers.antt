@@ -2,10 +2,12 @@
 use mathlib.Core.Path.{sym, ◌∙◌}
 use mathlib.Core.List.{[]}
 use native.Mathlib.Omega.{arith}
+use Rattle.laws.proofs.Cases.{clash}
 use Rattle.input.proofs.Runs.{ran_unwritten}
+use Rattle.turns.proofs.ReadsOn.{more, no_more}
 use Rattle.turns.proofs.Turns.{carried_first}
 use Rattle.turns.specs.Turns.{first_turned, none_yet, more_in}
-use Rattle.rowlist.proofs.Runs.{some_left, goes_further, goes_no_further}
+use Rattle.rowlist.proofs.Runs.{goes_further, goes_no_further}
 use Rattle.rowlist.proofs.run.Goals as goal
 
 pub reads-init : goal.reads-init
@@ -20,47 +22,18 @@ reads-init c =
 pub next_turn-turn-requires : goal.next_turn-turn-requires
 next_turn-turn-requires c = c.reads.invariant.carried
 
-pub overflow_sub-left : goal.overflow_sub-left
-overflow_sub-left c = some_left c.reads.invariant c.reads_again.ensures c.reads-test.true
-
-pub shape_of-counts-in-Err : goal.shape_of-counts-in-Err
-shape_of-counts-in-Err c = c.next_turn-turn.ensures.carried_in.banked.marked.counts_long ∙ sym c.requires.0.counts_long
-
-pub shape_of-marks-in-Err : goal.shape_of-marks-in-Err
-shape_of-marks-in-Err c = c.next_turn-turn.ensures.carried_in.banked.marked.marks_long ∙ sym c.requires.0.marks_long
-
-pub shape_of-bounds-in-Err : goal.shape_of-bounds-in-Err
-shape_of-bounds-in-Err c = c.next_turn-turn.ensures.carried_in.banked.bounds_long ∙ sym c.requires.1
-
-pub shape_of-text-in-Err : goal.shape_of-text-in-Err
-shape_of-text-in-Err c = c.next_turn-turn.ensures.carried_in.text_long ∙ sym c.requires.2
-
-pub shape_of-out-in-Err : goal.shape_of-out-in-Err
-shape_of-out-in-Err c = c.next_turn-turn.ensures.carried_in.out_long ∙ sym c.requires.3
-
 pub returns-in-Err : goal.returns-in-Err
-returns-in-Err c = ran_unwritten more_in (goes_further c.reads.invariant c.reads_again.ensures c.reads-test.true c.next_turn-turn.ensures.carried_in c.next_turn-turn.ensures.stepped).steps
-
-pub reads-smaller : goal.reads-smaller
-reads-smaller c = omega (arith, some_left c.reads.invariant c.reads_again.ensures c.reads-test.true)
+returns-in-Err c =
+    ran_unwritten more_in
+    (goes_further c.reads.invariant c.reads-test.true (more _ (sym c.ne.ensures ∙ c.if-ne.false)) c.next_turn-turn.ensures.carried_in c.next_turn-turn.ensures.stepped).steps
 
 pub reads-preserved : goal.reads-preserved
-reads-preserved c = goes_further c.reads.invariant c.reads_again.ensures c.reads-test.true c.next_turn-turn.ensures.carried_in c.next_turn-turn.ensures.stepped
+reads-preserved c =
+    goes_further c.reads.invariant c.reads-test.true (more _ (sym c.ne.ensures ∙ c.if-ne.false)) c.next_turn-turn.ensures.carried_in c.next_turn-turn.ensures.stepped
 
-pub shape_of-counts : goal.shape_of-counts
-shape_of-counts c = c.reads.invariant.carried.banked.marked.counts_long ∙ sym c.requires.0.counts_long
+pub returns-after-reads : goal.returns-after-reads
+returns-after-reads c = goes_no_further c.reads.invariant (λ on. omega arith)
 
-pub shape_of-marks : goal.shape_of-marks
-shape_of-marks c = c.reads.invariant.carried.banked.marked.marks_long ∙ sym c.requires.0.marks_long
-
-pub shape_of-bounds : goal.shape_of-bounds
-shape_of-bounds c = c.reads.invariant.carried.banked.bounds_long ∙ sym c.requires.1
-
-pub shape_of-text : goal.shape_of-text
-shape_of-text c = c.reads.invariant.carried.text_long ∙ sym c.requires.2
-
-pub shape_of-out : goal.shape_of-out
-shape_of-out c = c.reads.invariant.carried.out_long ∙ sym c.requires.3
-
-pub returns : goal.returns
-returns c = goes_no_further c.reads.invariant c.reads_again.ensures c.reads-test.false
+pub returns-then-ne : goal.returns-then-ne
+returns-then-ne c =
+    goes_no_further c.reads.invariant (λ on. clash (sym on ∙ no_more _ (sym c.ne.ensures ∙ c.if-ne.true)))

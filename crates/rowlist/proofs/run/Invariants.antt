@@ -5,7 +5,4 @@ use Rattle.rowlist.proofs.run.Given as goal
 
 abbrev pub invariant-reads : goal.invariant-reads
 invariant-reads l =
-    Going (first_turned l.initial.counts l.initial.text l.initial.out) l.counts l.marks l.bounds l.text l.out l.turn l.left
-
-abbrev pub decreases-reads : goal.decreases-reads
-decreases-reads l = l.left
+    Going (first_turned l.initial.counts l.initial.text l.initial.out) l.counts l.marks l.bounds l.text l.out l.turn l.counter

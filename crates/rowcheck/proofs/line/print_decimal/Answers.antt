@@ -1,18 +1,10 @@
 -- `rowcheck::line::print_decimal` meets its contract.
-use Prim.Native.Nat.{◌-◌}
-use native.Mathlib.Nat.{sub-zero}
 use native.Mathlib.Omega.{arith}
-use lib.ListN.{length-take}
 use Rattle.rowcheck.proofs.Lines.{fewest_twenty, decimal_digits}
 use Rattle.rowcheck.proofs.line.print_decimal.Goals as goal
-
-pub print_text-requires : goal.print_text-requires
-print_text-requires c =
-    let d = c.decimal-count in
-    omega (arith, c.requires, length-take (d.result - 0) d.new.out, fewest_twenty c.args.n d.result (omega (arith, c.ranges.n)) d.ensures.len)
 
 pub returns : goal.returns
 returns c =
     let d = c.decimal-count in
     let all = decimal_digits c.args.n d.result (fewest_twenty c.args.n d.result (omega (arith, c.ranges.n)) d.ensures.len) d.ensures.len in
-    rw (← all, ← d.ensures.digits, ← sub-zero d.result) c.print_text.ensures
+    rw (← all, ← d.ensures.digits) c.print_text.ensures

@@ -1,9 +1,0 @@
--- `rowcheck::wants_trace` meets its contract.
-
-use Rattle.rowcheck.proofs.wants_trace.Goals as goal
-
-pub returns-then-more : goal.returns-then-more
-returns-then-more c = rw c.if-more.true
-
-pub returns-else-more : goal.returns-else-more
-returns-else-more c = rw c.if-more.false
