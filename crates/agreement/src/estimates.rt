@@ -22,7 +22,11 @@ impl Tracked<'_> {
     fn next_row(self, high: u32, i: usize) -> u32
         ensures { result ≡ next_row self.entry.rows.now self.entry.tally.tracked high i }
     {
-        if i < self.tally.tracked { self.rows[i] } else { high }
+        if i < self.tally.tracked {
+            self.rows[i]
+        } else {
+            high
+        }
     }
 
     // Whether `row` is the row at place `i`.

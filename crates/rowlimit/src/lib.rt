@@ -8,10 +8,9 @@ ghost use Rattle.bound.specs.Totals.{bound_of};
 ghost use Rattle.limit.specs.ByRow.{carried_most, row_figure};
 ghost use Rattle.rowlimit.specs.Answers.{row_limit_tests, row_limit_answer};
 
-use std::cmp::min;
-
 use device::{Refusal, Settings};
 use state::Position;
+use std::cmp::min;
 
 // The tests of the call.
 #[tactic(auto, using(crate::proofs::Tests::row_limit_tested, device::proofs::Tests::or_later_first, device::proofs::Tests::number_not_0), unfolding(device::specs::Refusal::refuse, device::proofs::Tests::or_later))]
@@ -54,12 +53,7 @@ fn figure(s: Settings, events: u32, row: u32) -> u64
 
 // The figure of a logical row where a tracker stands, whichever window it is in: the row's disturbance is at most that.
 #[tactic(auto, using(crate::proofs::Tests::row_limit_ready, crate::proofs::Tests::row_limit_refused, crate::proofs::Tests::row_limit_answered), unfolding(device::specs::Refusal::outcome))]
-pub fn row_limit(
-    s: Settings,
-    remap: [u32; 16],
-    row: u32,
-    p: Position,
-) -> Result<u64, Refusal>
+pub fn row_limit(s: Settings, remap: [u32; 16], row: u32, p: Position) -> Result<u64, Refusal>
     ensures { outcome result ≡ row_limit_answer s remap row p }
 {
     test_row_limit(s, remap, row, p)?;

@@ -6,4 +6,3 @@ use Rattle.rowcheck.proofs.check_files.Goals as goal
 
 pub run-requires : goal.run-requires
 run-requires c = (zeros_marked 262144 refl refl refl, search rules, search rules, search rules, search rules)
-
