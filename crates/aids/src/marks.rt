@@ -97,7 +97,13 @@ fn first_in_words(
 }
 
 // The first row at a count; none before a row is, and no row from an end on has a count.
-pub fn first_at(rows: usize, counts: &[u32], marks: &[u64], from: usize, count: u32) -> Option<usize>
+pub fn first_at(
+    rows: usize,
+    counts: &[u32],
+    marks: &[u64],
+    from: usize,
+    count: u32,
+) -> Option<usize>
     requires { Marked counts.now marks.now × (0 < count) × (rows ≤ most_rows) × EmptyFrom counts.now rows × Clear counts.now count from }
     ensures { FirstAt counts.now count result }
 {

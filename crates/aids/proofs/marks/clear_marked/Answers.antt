@@ -14,11 +14,11 @@ bounds-marks-w c = omega (arith, c.requires.marks_long)
 pub loop-w-preserved : goal.loop-w-preserved
 loop-w-preserved c =
     elim c.if-marks-w-ne0.branch [
-      then-marks-w-ne0 w ↦
-        let from = c.loop-w.w * 64 in
-        let part = emptied_part c.loop-w.counts w.fill.new.self from (from + 64 - from) (from + 64) (omega arith) (omega (arith, c.requires.counts_long)) (w.fill.ensures.after (λ y e. e)) in
-        rw w.counts-is (emptied_on c.loop-w.invariant part (omega arith) ((c.loop-w.w + 1) * 64) (omega arith))
-    | else-marks-w-ne0 w ↦ rw w.counts-is (emptied_word c.requires c.loop-w.w c.loop-w.invariant (omega (arith, w.if-marks-w-ne0.false)))
+      | then-marks-w-ne0 w ↦
+          let from = c.loop-w.w * 64 in
+          let part = emptied_part c.loop-w.counts w.fill.new.self from (from + 64 - from) (from + 64) (omega arith) (omega (arith, c.requires.counts_long)) (w.fill.ensures.after (λ y e. e)) in
+          rw w.counts-is (emptied_on c.loop-w.invariant part (omega arith) ((c.loop-w.w + 1) * 64) (omega arith))
+      | else-marks-w-ne0 w ↦ rw w.counts-is (emptied_word c.requires c.loop-w.w c.loop-w.invariant (omega (arith, w.if-marks-w-ne0.false)))
     ]
 
 pub returns : goal.returns
