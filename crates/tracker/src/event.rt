@@ -63,14 +63,7 @@ fn spread_unlisted<L: Ledger>(s: Settings, t: &mut L, picks: &[u32], used: usize
 }
 
 // The rows of a run that are not picked disturb their victims, ascending.
-fn spread_run<L: Ledger>(
-    s: Settings,
-    t: &mut L,
-    picks: &[u32],
-    used: usize,
-    low: u32,
-    high: u32,
-)
+fn spread_run<L: Ledger>(s: Settings, t: &mut L, picks: &[u32], used: usize, low: u32, high: u32)
     requires kept { L.kept t.old }
     requires rows_in_bank { (s.blast_diameter ≤ 4) × (s.rows ≤ most_rows) × (s.rows ≤ L.bound t.old) }
     requires run_in_bank { (used ≤ length picks.now) × (high ≤ s.rows) × (high - low ≤ 64) }

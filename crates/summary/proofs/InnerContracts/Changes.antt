@@ -123,4 +123,3 @@ pub holds_empty : (places : ℕ) {rows counts : List ℕ} → rows ≡ replicate
 unfolding empty table rows_of counts_of
 holds_empty places er ec =
     record { rows_laid = rw (er, sub-zero places); counts_laid = rw (ec, sub-zero places); tracked_is = refl; spillover_is = refl; sound = sound_empty }
-

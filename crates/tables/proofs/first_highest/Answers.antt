@@ -24,8 +24,8 @@ loop-i-preserved c =
     let less = c.loop-i-test.true in
     let on = rw (get_or-take used t l.i 0 less) at (highest_from_next (take used t) l.place (get_or t l.place 0) l.i (omega (arith, less, length-take-le used t c.requires.1))) in
     elim c.if-t-place.branch [
-      | then-t-place w ↦ rw w.place-is (sym (rw (lt-ltb _ _ w.if-t-place.true) at on) ∙ l.invariant.0, less)
-      | else-t-place w ↦ rw w.place-is (sym (rw (le-ltb _ _ w.if-t-place.false) at on) ∙ l.invariant.0, l.invariant.1)
+      | then-t-place w ↦ rw w.place-is (sym (rw (lt-ltb (get_or t l.place 0) (get_or t l.i 0) (omega (arith, w.if-t-place.true))) at on) ∙ l.invariant.0, less)
+      | else-t-place w ↦ rw w.place-is (sym (rw (le-ltb (get_or t l.place 0) (get_or t l.i 0) (omega (arith, w.if-t-place.false))) at on) ∙ l.invariant.0, l.invariant.1)
     ]
 
 pub returns : goal.returns

@@ -18,8 +18,7 @@ disturb_victims-requires-clause-row_in_bank g c =
     let p = c.requires.rows_in_bank in
     let q = c.requires.picks_in_bank in
     let i = c.loop-i.i in
-    let less = c.loop-i-test.true in
-    (
+    let less = c.loop-i-test.true in (
       p.0,
       rw (get_or-take c.args.used c.args.picks.now i 0 less) at (below_at q.2 i (omega (arith, less, length-take-le c.args.used c.args.picks.now q.1))),
       p.1,
@@ -34,8 +33,7 @@ unfolding spread
 loop-i-preserved g c =
     let l = c.loop-i.invariant in
     let i = c.loop-i.i in
-    let xs = take c.args.used c.args.picks.now in
-    (
+    let xs = take c.args.used c.args.picks.now in (
       left_step g.met.L.Ledger.same_transitive {rest' = spread (g.L.Ledger.places c.args.t.now) (victims_in c.args.s) (drop (i + 1) xs)} l.0 c.disturb_victims.ensures
           (rw (used_step c.args.picks.now c.args.used i c.requires.picks_in_bank.1 c.loop-i-test.true, add-one i, l.0.as_many) refl),
       room_more (turned_room c.disturb_victims.ensures (room_each _ _ _ l.1)) (omega (arith, victims_four c.args.s (get_or c.args.picks.now i 0) c.requires.rows_in_bank.0)),

@@ -20,8 +20,7 @@ loop-row-preserved g c =
     let row = c.loop-row.row in
     let names = take c.args.used c.args.picks.now in
     let n = g.L.Ledger.places c.args.t.now in
-    let sum = g.L.Ledger.summary c.loop-row.t in
-    (
+    let sum = g.L.Ledger.summary c.loop-row.t in (
       left_step g.met.L.Ledger.same_transitive {rest' = spread n (victims_in c.args.s) (besides names (rows_between (row + 1) c.args.high))} l.0 c.spread_unlisted.ensures
           (rw (between_step row c.args.high c.loop-row-test.true, l.0.as_many) (besides_one names row (rows_between (row + 1) c.args.high) n (victims_in c.args.s) sum)),
       room_more (turned_room c.spread_unlisted.ensures (room_besides names row _ (victims_in c.args.s) sum l.1 (victims_four c.args.s row c.requires.rows_in_bank.0))) (omega (arith, c.loop-row.auto.row)),

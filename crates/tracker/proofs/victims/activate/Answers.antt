@@ -28,8 +28,7 @@ disturb_victims-requires-clause-room_for g c = room_more c.loop-unit.invariant.1
 pub loop-unit-preserved : goal.loop-unit-preserved
 unfolding repeated
 loop-unit-preserved g c =
-    let i = c.loop-unit.invariant in
-    (
+    let i = c.loop-unit.invariant in (
       turned_then g.met.L.Ledger.same_transitive i.0 c.disturb_victims.ensures (rw (add-one c.loop-unit._unit, i.0.as_many) refl),
       room_more (turned_room c.disturb_victims.ensures (room_each _ _ _ i.1)) (omega (arith, victims_four c.args.s c.args.row c.requires.row_in_bank.0)),
     )

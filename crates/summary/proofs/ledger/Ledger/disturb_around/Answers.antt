@@ -17,8 +17,7 @@ pub loop-row-preserved : goal.loop-row-preserved
 loop-row-preserved g c =
     let t = g.Self.Ledger in
     let i = c.loop-row.invariant in
-    let row = c.loop-row.row in
-    (
+    let row = c.loop-row.row in (
       left_step g.met.Self.Ledger.same_transitive {rest' = disturb_each (t.places c.args.self.now) (rows_between (row + 1) c.args.middle)} i.0 c.disturb_row.ensures
           (rw i.0.as_many (disturb_next (t.places c.args.self.now) row c.args.middle c.loop-row-test.true (t.summary c.loop-row.self))),
       room_more (turned_room c.disturb_row.ensures (room_disturb _ row _ i.1)) (omega (arith, c.loop-row.auto.row)),
@@ -32,8 +31,7 @@ loop-row-2-init g c =
     let n = t.places c.args.self.now in
     let low = rows_between c.args.low c.args.middle in
     let high = rows_between (c.args.middle + 1) c.args.high in
-    let past = left_done i.0 (rw (between_none c.loop-row.row c.args.middle c.loop-row-test.false)) in
-    (
+    let past = left_done i.0 (rw (between_none c.loop-row.row c.args.middle c.loop-row-test.false)) in (
       record {
         keeps = past.keeps;
         left = ap (disturb_each n high) past.holds ∙ sym (each_append n low high (t.summary c.args.self.now));
@@ -54,8 +52,7 @@ pub loop-row-2-preserved : goal.loop-row-2-preserved
 loop-row-2-preserved g c =
     let t = g.Self.Ledger in
     let i = c.loop-row-2.invariant in
-    let row = c.loop-row-2.row in
-    (
+    let row = c.loop-row-2.row in (
       left_step g.met.Self.Ledger.same_transitive {rest' = disturb_each (t.places c.args.self.now) (rows_between (row + 1) c.args.high)} i.0 c.disturb_row-in-loop-row-2.ensures
           (rw i.0.as_many (disturb_next (t.places c.args.self.now) row c.args.high c.loop-row-2-test.true (t.summary c.loop-row-2.self))),
       room_more (turned_room c.disturb_row-in-loop-row-2.ensures (room_disturb _ row _ i.1)) (omega (arith, c.loop-row-2.auto.row, c.requires.around)),
