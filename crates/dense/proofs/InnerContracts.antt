@@ -1,5 +1,4 @@
--- Laws of specs/Contracts.antt.
+-- Laws of specs/InnerContracts.antt.
 pub mod Left
 pub mod DisturbedIn
 pub mod Turned
-pub mod Picking

@@ -1,10 +1,9 @@
 -- Inner relations: what a function makes of the summary in lent tables. Only contracts of functions that no caller of the listing reaches say these.
-use Rattle.std.specs.Prelude.{ℕ, ◌+◌, ◌≤◌, ◌<◌, ◌≡◌, Bool, true, false, List, get_or, set}
+use Rattle.std.specs.Prelude.{ℕ, ◌≤◌, ◌≡◌, List, get_or}
 use Rattle.laws.specs.Lent.{Lent}
 use Rattle.device.specs.Acceptance.{most_rows}
 use Rattle.summary.specs.Steps.{Summary, empty, disturb}
 use Rattle.aids.specs.Marks.{EmptyFrom}
-use Rattle.aids.specs.Bounds.{Covers}
 use Rattle.dense.specs.declared.Tally.{Tally}
 use Rattle.dense.specs.Dense.{dense, Kept, Bank}
 
@@ -26,11 +25,6 @@ pub record DisturbedIn (rows counters row : ℕ) (sum : Summary) (counts₀ coun
   pub fits : t.tracked ≤ counters
   pub others : (i : ℕ) → (i ≡ row → ⊥) → get_or counts i 0 ≤ get_or counts₀ i 0
 
--- a row's count rose by 1, and its bounds to it, or the row is not tracked and nothing changed: which of them, the answer says
-pub record Raises (counts bounds : List ℕ) (row : ℕ) (tracked : Bool) (counts' bounds' : List ℕ) : Type 0 where
-  pub rises : tracked ≡ true → (0 < get_or counts row 0) × (counts' ≡ set counts row (get_or counts row 0 + 1)) × Covers bounds bounds' row (get_or counts row 0 + 1)
-  pub stays : tracked ≡ false → (get_or counts row 0 ≡ 0) × (counts' ≡ counts) × (bounds' ≡ bounds)
-
 -- a bank holds another summary
 pub record Turned (rows counters : ℕ) (sum : Summary) (counts marks bounds : List ℕ) (t : Tally) : Type 0 where
   pub bank : Bank rows counters counts marks bounds t
@@ -39,9 +33,6 @@ pub record Turned (rows counters : ℕ) (sum : Summary) (counts marks bounds : L
 -- the same of lent tables: the summary that they hold, and what a function makes of it
 abbrev pub summary : List ℕ → Tally → Summary
 summary counts t = dense counts t.spillover
-
-abbrev pub Leaves : Lent → Lent → Tally → (Summary → Summary) → Tally → Type 0
-Leaves counts marks t step t' = Left (step (summary counts.entry.now t)) counts.entry.now counts.exit.now marks.exit.now t'
 
 -- a bank of any size that tracks nothing
 abbrev pub TracksNothing : Lent → Lent → Lent → Tally → Type 0

@@ -1,17 +1,15 @@
--- Rows are taken out: one, and a run of them, one after the other.
+-- A row is taken out.
 use mathlib.Core.Path.{◌≡◌, sym, ◌∙◌}
 use mathlib.Core.Logic.{⊎_elim}
 use mathlib.Core.List.{List, [], ◌∷◌}
-use Prim.Native.Nat.{ℕ, suc, ◌+◌, ◌-◌, ◌≤◌, ◌<◌}
+use Prim.Native.Nat.{ℕ, suc, ◌-◌, ◌<◌}
 use native.Mathlib.Omega.{arith}
 use lib.ListN.{length, get_or, set}
 use lib.Seq.{get_or-set_other}
 use Rattle.laws.proofs.Cases.{same_or_other}
 use Rattle.device.specs.Acceptance.{most_rows}
-use Rattle.device.specs.Victims.{rows_between}
-use Rattle.device.proofs.Victims.{between_step, between_none}
 use Rattle.summary.specs.Entries.{without, without_all}
-use Rattle.summary.specs.Steps.{Summary, drop_rows}
+use Rattle.summary.specs.Steps.{drop_rows}
 use Rattle.summary.proofs.Entries.Lengths.{length_without_tracked}
 use Rattle.summary.proofs.Steps.Untracked.{drop_untracked}
 use Rattle.aids.specs.Marks.{Marked}
@@ -22,7 +20,7 @@ use Rattle.dense.specs.InnerContracts.{Fewer, Left}
 use Rattle.dense.proofs.Dense.EntriesFrom.{row_tracked, row_untracked, stored_zero}
 use Rattle.dense.proofs.Dense.Kept.{floor_stored, clear_stored}
 
--- no number rose: where none changed, where one is 0 then, and over two steps
+-- no number rose: where none changed, and where one is 0 then
 pub fewer_same : (xs : List ℕ) → Fewer xs xs
 fewer_same xs = record { less = λ i. omega arith }
 
@@ -35,9 +33,6 @@ fewer_zero xs row l =
           (λ other. omega (arith, get_or-set_other xs row i 0 0 other))
           (same_or_other i row);
     }
-
-pub fewer_twice : {xs ys zs : List ℕ} → Fewer xs ys → Fewer ys zs → Fewer xs zs
-fewer_twice f g = record { less = λ i. omega (arith, f.less i, g.less i) }
 
 module _ {counts marks : List ℕ} {t : Tally} (kept : Kept counts marks t) (row : ℕ) (l : row < most_rows) where
   -- a row that is not tracked
@@ -71,24 +66,3 @@ module _ {counts marks : List ℕ} {t : Tally} (kept : Kept counts marks t) (row
         holds = rw es;
         fewer = rw e (fewer_zero counts row long);
       }
-
--- a run of rows is dropped, from `row` on
-pub record Dropping (low high : ℕ) (start : Summary) (counts₀ counts marks : List ℕ) (t : Tally) (row : ℕ) : Type 0 where
-  pub kept : Kept counts marks t
-  pub same : drop_rows (rows_between row high) (dense counts t.spillover) ≡ drop_rows (rows_between low high) start
-  pub fewer : Fewer counts₀ counts
-
-module _ {low high : ℕ} {start : Summary} {counts₀ counts marks : List ℕ} {t : Tally} {row : ℕ} (l : Dropping low high start counts₀ counts marks t row) where
-  pub dropping_again : row < high → {counts' marks' : List ℕ} {t' : Tally} →
-      Left (drop_rows (row ∷ []) (dense counts t.spillover)) counts counts' marks' t' → Dropping low high start counts₀ counts' marks' t' (row + 1)
-  unfolding drop_rows without_all
-  dropping_again less x =
-      record {
-        kept = x.kept;
-        same = rw x.holds (rw (between_step row high less) at l.same);
-        fewer = fewer_twice l.fewer x.fewer;
-      }
-
-  pub dropping_done : high ≤ row → Left (drop_rows (rows_between low high) start) counts₀ counts marks t
-  unfolding drop_rows without_all
-  dropping_done past = record { kept = l.kept; holds = rw (between_none row high past) at l.same; fewer = l.fewer }

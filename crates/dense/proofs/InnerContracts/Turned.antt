@@ -1,26 +1,22 @@
--- A bank's summary is disturbed: by one row, and by several, one after the other; and a bank that tracks nothing.
-use mathlib.Core.Path.{◌≡◌, refl, sym, ap, ◌∙◌}
-use mathlib.Core.Bool.{Bool, true, false}
-use mathlib.Core.List.{List, [], ◌∷◌, ◌++◌}
-use Prim.Native.Nat.{ℕ, ◌+◌, ◌-◌, ◌≤◌, ◌<◌}
+-- A bank's summary is disturbed by a row; and a bank that tracks nothing.
+use mathlib.Core.Path.{◌≡◌, sym, ◌∙◌}
+use mathlib.Core.List.{List, []}
+use Prim.Native.Nat.{ℕ, ◌+◌, ◌≤◌, ◌<◌}
 use native.Mathlib.Omega.{arith}
-use lib.ListN.{length, get_or, set, replicate, length-append}
+use lib.ListN.{length, get_or, set, replicate}
 use lib.Seq.{get_or-set_same, get_or-set_other}
 use Rattle.device.specs.Acceptance.{most_rows}
-use Rattle.device.specs.Victims.{rows_between}
-use Rattle.device.proofs.Victims.{between_length}
 use Rattle.summary.specs.Entries.{raised}
-use Rattle.summary.specs.Steps.{Summary, empty, disturb, disturb_each}
-use Rattle.summary.specs.Rules.{Room, RoomFor}
+use Rattle.summary.specs.Steps.{empty, disturb}
+use Rattle.summary.specs.Rules.{RoomFor}
 use Rattle.summary.proofs.Entries.Lengths.{length_raised}
 use Rattle.summary.proofs.Steps.Disturb.{disturb_raise}
-use Rattle.summary.proofs.Rules.Room.{room_more, room_disturb}
 use Rattle.aids.specs.Marks.{Marked, EmptyFrom}
-use Rattle.aids.specs.Bounds.{all_bounds, Nested, Covers}
+use Rattle.aids.specs.Bounds.{all_bounds, Covers}
 use Rattle.aids.proofs.BoundsCapped.{capped_covered, capped_none}
 use Rattle.dense.specs.declared.Tally.{Tally}
 use Rattle.dense.specs.Dense.{entries_from, dense, Bank}
-use Rattle.dense.specs.InnerContracts.{DisturbedIn, Raises, Turned}
+use Rattle.dense.specs.InnerContracts.{DisturbedIn, Turned}
 use Rattle.dense.proofs.Dense.EntriesFrom.{row_tracked, stored_more, none_tracked, count_under}
 use Rattle.dense.proofs.Dense.Kept.{floor_stored, clear_stored, empty_stored, marked_stored}
 
