@@ -115,7 +115,7 @@ fn line_fields<const N: usize>(text: &[u8], at: usize) -> Option<[u32; N]>
     None
 }
 
-// A line that says a record, and one that is refused.
+// The answer for a line that says a record.
 #[tactic(auto, unfolding(crate::specs::Reading::said, device::specs::Refusal::outcome))]
 fn line(says: Record, place: usize) -> Read
     ensures { said result ≡ record { outcome = accepted says; place = place } }
@@ -126,6 +126,7 @@ fn line(says: Record, place: usize) -> Read
     }
 }
 
+// The answer for a refused line, from behind its letter on.
 #[tactic(auto, unfolding(crate::specs::Reading::said, device::specs::Refusal::outcome))]
 fn refused(text: &[u8], at: usize) -> Read
     requires { at ≤ length text.now }
@@ -137,7 +138,7 @@ fn refused(text: &[u8], at: usize) -> Read
     }
 }
 
-// Seven numbers as settings.
+// Seven numbers as settings: no `From`, which this crate cannot write, since `Settings` is another crate's.
 #[tactic(auto, unfolding(crate::specs::Records::as_settings))]
 fn as_settings(values: [u32; 7]) -> Settings
     ensures { result ≡ as_settings values }
@@ -212,7 +213,7 @@ impl From<Sixteen> for [u32; 16] {
     }
 }
 
-// The numbers of a remap record as a remap.
+// The numbers of a remap record as a remap, by name for the crates above.
 pub fn sixteen_of(t: Sixteen) -> [u32; 16]
     ensures { result ≡ sixteen_of t }
 {
