@@ -1,4 +1,3 @@
--- Laws of numbers in columns, of what is printed, and of what columns were found to hold.
+-- Laws of numbers in columns and of what is printed.
 pub mod Numbers
 pub mod Output
-pub mod Answers

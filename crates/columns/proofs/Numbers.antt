@@ -3,3 +3,4 @@ pub mod Digits
 pub mod Fields
 pub mod Printed
 pub mod ReadBack
+pub mod LastFour

@@ -47,19 +47,6 @@ unfolding written
 prints_byte b at x h =
     record { fits = omega arith; holds = set_split b at x h ∙ rw (add-one, append_assoc); behind = refl }
 
-pub prints_number : {b c : List ℕ} (at k n : ℕ) → at + k ≤ length b → c ≡ written b at (printed k n) → Prints b at (printed k n) c (at + k)
-prints_number {b} {c} at k n h e =
-    let long = length_printed k n in
-    record { fits = omega arith; holds = e; behind = omega arith }
-
--- a number takes its columns, whatever it is
-pub number_behind : {b c : List ℕ} {at p : ℕ} (k n : ℕ) → Prints b at (printed k n) c p → p ≡ at + k
-number_behind k n f = f.behind ∙ rw (length_printed k n)
-
--- the place behind a text, worked out otherwise
-pub prints_up_to : {b c x : List ℕ} {at p q : ℕ} → Prints b at x c p → q ≡ p → Prints b at x c q
-prints_up_to f e = record { fits = f.fits; holds = f.holds; behind = e ∙ f.behind }
-
 -- the buffer stays as long as it was
 pub prints_long : {b c x : List ℕ} {at p : ℕ} → Prints b at x c p → length c ≡ length b
 prints_long {b} {c} {x} {at} {p} f = ap length f.holds ∙ length_written b x at f.fits

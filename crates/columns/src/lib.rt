@@ -35,6 +35,7 @@ fn behind_blanks(columns: &[u8]) -> Option<usize>
 }
 
 // The number in a field's columns: blanks, then digits.
+#[tactic(auto, using(crate::proofs::Numbers::Digits::positions), unfolding(crate::specs::Answers::found))]
 fn read_padded(columns: &[u8]) -> Option<u32>
     requires { length columns.now ≤ 6 }
     ensures { found result ≡ number columns.now }
@@ -45,6 +46,7 @@ fn read_padded(columns: &[u8]) -> Option<u32>
 
 // The number in the 6 columns from a place on. One of four or five digits, as most rows are, is read without a search for the first digit.
 #[inline]
+#[tactic(auto, using(crate::proofs::Numbers::LastFour::last_four), unfolding(crate::specs::Answers::found))]
 pub fn read_number(text: &[u8], from: usize) -> Option<u32>
     requires { from + 6 ≤ length text.now }
     ensures { found result ≡ field from text.now }
@@ -67,6 +69,7 @@ pub fn read_number(text: &[u8], from: usize) -> Option<u32>
 }
 
 // A column in front of the last, with what is left of the number there.
+#[tactic(auto, using(crate::proofs::Numbers::Printed::digit_or_blank_is), unfolding(crate::specs::Numbers::digit_or_blank))]
 fn digit_or_blank(left: u64) -> u8
     ensures { result ≡ digit_or_blank left }
 {
@@ -95,6 +98,7 @@ pub fn print_number(out: &mut [u8], at: usize, columns: usize, n: u64)
 }
 
 // A byte at a place; the place behind it.
+#[tactic(auto, using(crate::proofs::Output::prints_byte))]
 pub fn print_byte(out: &mut [u8], at: usize, b: u8) -> usize
     requires { at < length out.old }
     ensures { PrintsInto out at (b ∷ []) result }
@@ -104,6 +108,7 @@ pub fn print_byte(out: &mut [u8], at: usize, b: u8) -> usize
 }
 
 // A number in so many columns; the place behind it.
+#[tactic(auto, using(crate::proofs::Numbers::Printed::length_printed))]
 pub fn print_columns(out: &mut [u8], at: usize, columns: usize, n: u64) -> usize
     requires { at + columns ≤ length out.old }
     ensures { PrintsInto out at (printed columns n) result }
@@ -125,6 +130,7 @@ pub fn print_numbers(out: &mut [u8], at: usize, numbers: &[u32], count: usize) -
 }
 
 // The line of a refused line, by its number.
+#[tactic(auto, using(crate::proofs::Numbers::Printed::length_printed))]
 pub fn print_refusal(out: &mut [u8], at: usize, line: u64, k: u32) -> usize
     requires { at + 18 ≤ length out.old }
     ensures { PrintsInto out at (refusal_line line k) result }

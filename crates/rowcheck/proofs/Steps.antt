@@ -9,7 +9,7 @@ use lib.Dec.{ltb}
 use lib.ListN.{length, take, drop, length-append}
 use lib.Seq.{take-append-le, take-take, length-slice}
 use Rattle.laws.proofs.Cases.{split}
-use Rattle.columns.proofs.Numbers.Digits.{slice_take_drop}
+use Rattle.std.proofs.lemmas.List.{drop-take}
 use Rattle.input.specs.declared.Input.{Input}
 use Rattle.input.specs.declared.Input.TheVariants.{Bytes, End, Failed}
 use Rattle.input.specs.AtHand.{Within, Came}
@@ -27,7 +27,7 @@ use Rattle.rowcheck.specs.InnerContracts.{Comparable, ListingChecked}
 part_slice : (text : List ℕ) (at len : ℕ) → at ≤ len → take (len - at) (drop at text) ≡ drop at (take len text)
 part_slice text at len h =
     let whole : at + (len - at) ≡ len = omega arith in
-    sym (slice_take_drop text at (len - at)) ∙ ap (λ (n : ℕ). drop at (take n text)) whole
+    sym (drop-take at (len - at) text) ∙ ap (λ (n : ℕ). drop at (take n text)) whole
 
 module _ (k : Check) (required given : List ℕ) (end len : ℕ) (inside : k.at < end) (within : k.at ≤ len) {f : Compared} (e : f ≡ compared k.lines (take (len - k.at) (drop k.at required)) (take (len - k.at) (drop k.at given))) where
   beside_compared : f ≡ compared k.lines (drop k.at (take len required)) (drop k.at (take len given))

@@ -2,10 +2,11 @@
 use mathlib.Core.Path.{◌≡◌, sym}
 use mathlib.Core.Bool.{true}
 use mathlib.Core.List.{List, ◌∷◌, ◌++◌}
-use Prim.Native.Nat.{ℕ, suc, ◌<◌}
+use Prim.Native.Nat.{ℕ, suc, ◌+◌, ◌<◌}
+use native.Mathlib.Omega.{arith}
 use borrow.Author.Tests.{eqb-true, eq-eqb, lt-ltb, ltb-true}
 use lib.Dec.{ltb}
-use lib.ListN.{length, get_or, take, drop}
+use lib.ListN.{length, get_or, take, drop, length-drop}
 use lib.Seq.{split_at}
 use Rattle.laws.proofs.Cases.{split, clash}
 use Rattle.trace.specs.InnerContracts.{ends_after}
@@ -14,6 +15,9 @@ use Rattle.trace.specs.InnerContracts.{ends_after}
 pub ends_after_lt : (w : ℕ) (text : List ℕ) → ends_after w text ≡ true → w < length text
 unfolding ends_after
 ends_after_lt w text h = split (ltb w (length text)) (λ e. ltb-true w (length text) e) (λ e. clash (sym (rw e at h)))
+
+pub ends_after_within : (w at : ℕ) (text : List ℕ) → ends_after w (drop at text) ≡ true → at + w < length text
+ends_after_within w at text h = omega (arith, length-drop at text, ends_after_lt w (drop at text) h)
 
 ends_after_byte : (w : ℕ) (text : List ℕ) → ends_after w text ≡ true → get_or text w 0 ≡ 10
 unfolding ends_after

@@ -4,15 +4,14 @@ use mathlib.Core.Bool.{true, false}
 use mathlib.Core.Logic.{⊎_elim}
 use mathlib.Core.List.{List, [], ◌∷◌, ◌++◌}
 use Prim.Native.Nat.{ℕ, suc, ◌+◌, ◌≤◌}
-use native.Mathlib.Numerals.{add-one}
 use native.Mathlib.Omega.{arith}
-use borrow.Author.Tests.{eqb-true, eq-eqb, ne_eqb}
+use borrow.Author.Tests.{eqb-true}
 use lib.Dec.{eqb}
-use lib.ListN.{length, get_or, drop, drop_of_length-le}
-use lib.Seq.{drop-cons}
+use lib.ListN.{length, drop, drop_of_length-le}
 use Rattle.std.specs.Prelude.{Some, None, position}
 use Rattle.std.specs.List.{position_from}
 use Rattle.std.proofs.lemmas.Iterator.Adapters.{position_from-zero}
+use Rattle.std.proofs.lemmas.List.{take_rest}
 use Rattle.laws.proofs.Cases.{split, clash, le_or_lt}
 use Rattle.trace.specs.Lines.{line, ended, extent}
 
@@ -39,6 +38,8 @@ module _ (bytes : List ℕ) where
 
   pub extent_nowhere : position (λ b. eqb b 10) bytes ≡ None → extent bytes ≡ length bytes
   extent_nowhere e = extent_of_length bytes 0 (sym (position_from-zero (λ b. eqb b 10) bytes) ∙ e)
+
+pub ruleset extents = (take_rest, extent_at, extent_nowhere)
 
 -- bytes without byte 10, then a byte 10: that is the line
 module _ (rest : List ℕ) where

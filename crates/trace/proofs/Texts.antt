@@ -2,4 +2,3 @@
 pub mod FirstLine
 pub mod Cuts
 pub mod NextLine
-pub mod KeptBytes

@@ -1,6 +1,6 @@
 -- What answers of the code say where they are no record: the row that a line tells, and bytes that were copied.
-use Rattle.std.specs.Prelude.{ℕ, ◌+◌, ◌&&◌, cond, List, ◌++◌, ◌≡◌, eqb, leb, length, get_or, take, drop}
-use Rattle.std.proofs.Math.Option.{Option, none, some}
+use Rattle.std.specs.Prelude.{ℕ, ◌+◌, ◌&&◌, cond, List, ◌++◌, ◌≡◌, eqb, leb, length, get_or, drop}
+use Rattle.std.proofs.Math.Option.{Option, none}
 use Rattle.laws.specs.Lent.{Lent}
 use Rattle.trace.specs.Bytes.{letter_A}
 use Rattle.columns.specs.Numbers.{field}

@@ -71,6 +71,7 @@ fn first_end(text: &[u8]) -> Option<usize>
 }
 
 // The place behind the line's end: behind its byte 10, or the text's end.
+#[tactic(auto, using(crate::proofs::Lines::extents))]
 fn line_end(text: &[u8], place: usize) -> usize
     requires { place ≤ length text.now }
     ensures { result ≡ place + extent (drop place text.now) }
@@ -103,6 +104,7 @@ fn read_fields<const N: usize>(text: &[u8], at: usize) -> Option<[u32; N]>
 }
 
 // The numbers of a line of N fields, from behind its letter on.
+#[tactic(auto, using(crate::proofs::InnerContracts::ends_after_within), unfolding(columns::specs::Answers::found, crate::specs::InnerContracts::line_fields))]
 fn line_fields<const N: usize>(text: &[u8], at: usize) -> Option<[u32; N]>
     requires { (N ≤ 16) × (at ≤ length text.now) }
     ensures { found result ≡ line_fields N (drop at text.now) }
@@ -124,7 +126,7 @@ fn line(says: Record, place: usize) -> Read
     }
 }
 
-#[tactic(auto, unfolding(crate::specs::Reading::said, device::specs::Refusal::outcome, device::specs::Refusal::number))]
+#[tactic(auto, unfolding(crate::specs::Reading::said, device::specs::Refusal::outcome))]
 fn refused(text: &[u8], at: usize) -> Read
     requires { at ≤ length text.now }
     ensures { said result ≡ record { outcome = refused 11; place = at + extent (drop at text.now) } }
@@ -140,7 +142,15 @@ fn refused(text: &[u8], at: usize) -> Read
 fn as_settings(values: [u32; 7]) -> Settings
     ensures { result ≡ as_settings values }
 {
-    let [rows, blast_diameter, volume, counters, interval, window, block] = values;
+    let [
+        rows,
+        blast_diameter,
+        volume,
+        counters,
+        interval,
+        window,
+        block,
+    ] = values;
     Settings {
         rows,
         blast_diameter,
@@ -153,6 +163,7 @@ fn as_settings(values: [u32; 7]) -> Settings
 }
 
 // A line of settings, from behind its letter on.
+#[tactic(auto, using(crate::proofs::Reading::OneForm::by_fields), unfolding(columns::specs::Answers::found, crate::specs::Records::settings))]
 fn read_settings(text: &[u8], at: usize) -> Read
     requires { at ≤ length text.now }
     ensures { said result ≡ reading_by settings (drop at text.now) at }
@@ -209,6 +220,7 @@ pub fn sixteen_of(t: Sixteen) -> [u32; 16]
 }
 
 // A line of a remap, from behind its letter on.
+#[tactic(auto, using(crate::proofs::Reading::OneForm::by_fields), unfolding(columns::specs::Answers::found, crate::specs::Records::remap))]
 fn read_remap(text: &[u8], at: usize) -> Read
     requires { at ≤ length text.now }
     ensures { said result ≡ reading_by remap (drop at text.now) at }
@@ -220,6 +232,7 @@ fn read_remap(text: &[u8], at: usize) -> Read
 }
 
 // An activation's line, from behind its letter on.
+#[tactic(auto, using(crate::proofs::Reading::OneForm::activations), unfolding(columns::specs::Answers::found))]
 fn read_activation(text: &[u8], at: usize) -> Read
     requires { at ≤ length text.now }
     ensures { said result ≡ reading_by activation (drop at text.now) at }
@@ -234,6 +247,7 @@ fn read_activation(text: &[u8], at: usize) -> Read
 }
 
 // The line of an activation held open, from behind its letter on.
+#[tactic(auto, using(crate::proofs::Reading::OneForm::by_fields), unfolding(columns::specs::Answers::found, crate::specs::Records::held_activation, crate::specs::Records::as_activation))]
 fn read_held_activation(text: &[u8], at: usize) -> Read
     requires { at ≤ length text.now }
     ensures { said result ≡ reading_by held_activation (drop at text.now) at }
@@ -246,6 +260,7 @@ fn read_held_activation(text: &[u8], at: usize) -> Read
 }
 
 // A refresh event's line, from behind its letter on.
+#[tactic(auto, using(crate::proofs::Reading::OneForm::refreshes))]
 fn read_refresh(text: &[u8], at: usize) -> Read
     requires { at ≤ length text.now }
     ensures { said result ≡ reading_by refresh (drop at text.now) at }
@@ -277,7 +292,7 @@ pub fn activation_row(text: &[u8], place: usize) -> Option<u32>
 }
 
 // The line at a place of the text.
-#[tactic(auto, using(crate::proofs::Reading::ByLetter::reading_behind_end, crate::proofs::Reading::ByLetter::reading_blank, crate::proofs::Reading::ByLetter::reading_activation, crate::proofs::Reading::ByLetter::reading_refresh, crate::proofs::Reading::ByLetter::reading_held, crate::proofs::Reading::ByLetter::reading_settings, crate::proofs::Reading::ByLetter::reading_remap), unfolding(crate::specs::Reading::said, device::specs::Refusal::outcome))]
+#[tactic(auto, using(crate::proofs::Reading::ByLetter::letters), unfolding(crate::specs::Reading::said, device::specs::Refusal::outcome))]
 pub fn read_line(text: &[u8], place: usize) -> Read
     ensures { said result ≡ reading text.now place }
 {
@@ -308,6 +323,7 @@ pub fn rest(text: &[u8], place: usize) -> &[u8]
 }
 
 // The line at a place of the text, with the text behind it as a part of the caller's.
+#[tactic(auto, unfolding(crate::specs::Reading::said))]
 pub fn next_line<'a>(text: &'a [u8], place: usize) -> Parsed<'a>
     ensures { (said result.answer ≡ reading text.now place) × HandedOn text.entry (reading text.now place).place result.rest }
 {

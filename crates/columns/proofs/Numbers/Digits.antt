@@ -7,15 +7,16 @@ use Rattle.std.proofs.lemmas.Iterator.Adapters.{position_from-zero}
 use lib.Dec.{eqb}
 use mathlib.Core.List.{List, [], ◌∷◌}
 use mathlib.Core.Option.{none, some, some-injective}
-use Prim.Native.Nat.{ℕ, zero, suc, ◌+◌, ◌-◌, ◌*◌, ◌^◌, ◌≤◌, ◌<◌}
-use native.Mathlib.Nat.{zero-add, suc-add, pow-suc, pow-le-pow_right, one-le-pow, mul-le-mul_left, mul-le-mul_right}
+use Prim.Native.Nat.{ℕ, suc, ◌+◌, ◌-◌, ◌*◌, ◌^◌, ◌≤◌, ◌<◌}
+use native.Mathlib.Nat.{pow-suc, pow-le-pow_right, one-le-pow, mul-le-mul_left, mul-le-mul_right}
 use native.Mathlib.Numerals.{add-one}
 use native.Mathlib.Omega.{arith}
-use borrow.Author.Tests.{eq-eqb, ne_eqb, leb-true, le-leb, lt-leb}
+use borrow.Author.Tests.{ne_eqb, leb-true, le-leb}
 use lib.Dec.{leb}
-use lib.ListN.{length, get_or, take, drop}
-use lib.Seq.{slice, drop-cons, take-nil}
+use lib.ListN.{length, get_or, drop}
+use lib.Seq.{drop-cons}
 use Rattle.std.specs.Char.{is_ascii_digit}
+use Rattle.std.proofs.lemmas.List.{take_rest}
 use Rattle.laws.proofs.Cases.{split, and_both, cond_test, cond_some}
 use Rattle.columns.specs.Numbers.{is_digit, digits, number}
 
@@ -68,6 +69,8 @@ module _ (bytes : List ℕ) where
   pub number_nowhere : position (λ b. not (eqb b 32)) bytes ≡ None → number bytes ≡ none
   number_nowhere e = position_nowhere bytes 0 (sym (position_from-zero (λ b. not (eqb b 32)) bytes) ∙ e)
 
+pub ruleset positions = (take_rest, number_at, number_nowhere)
+
 -- digits that were found begin with a digit, so not with a blank
 number_of_digits : (m : ℕ) (bytes : List ℕ) → 0 < length bytes → digits 0 bytes ≡ some m → number bytes ≡ some m
 unfolding digits number
@@ -75,12 +78,6 @@ number_of_digits m [] h e = absurd (omega arith)
 number_of_digits m (b ∷ bytes) h e =
     let least = (is_digit_range b (cond_test (is_digit b) (digits (0 * 10 + (b - 48)) bytes) m e)).0 in
     rw (ne_eqb b 32 (λ w. absurd (omega arith))) e
-
--- columns from a place on
-pub slice_take_drop : (text : List ℕ) (from k : ℕ) → slice from (from + k) text ≡ take k (drop from text)
-slice_take_drop text zero k = rw zero-add
-slice_take_drop [] (suc from) k = rw (suc-add, take-nil)
-slice_take_drop (b ∷ text) (suc from) k = rw suc-add (slice_take_drop text from k)
 
 -- n leaves room for k digits more in a number of 6 digits
 pub record Room (n k : ℕ) : Type 0 where

@@ -7,7 +7,7 @@ use native.Mathlib.Omega.{arith}
 use lib.ListN.{take, drop}
 use lib.Seq.{take-take}
 use Rattle.columns.specs.Numbers.{number, field, fields}
-use Rattle.columns.proofs.Numbers.Digits.{slice_take_drop}
+use Rattle.std.proofs.lemmas.List.{drop-take}
 
 -- numbers that are read, and those found behind them
 unfoldable pub behind : List ℕ → Option (List ℕ) → Option (List ℕ)
@@ -43,7 +43,7 @@ pub field_take : (k w : ℕ) (text : List ℕ) → k + 6 ≤ w → field k (take
 unfolding field
 field_take k w text h =
     let apart : k + (w - k) ≡ w = omega arith in
-    let cut : drop k (take w text) ≡ take (w - k) (drop k text) = ap (λ (n : ℕ). drop k (take n text)) (sym apart) ∙ slice_take_drop text k (w - k) in
+    let cut : drop k (take w text) ≡ take (w - k) (drop k text) = ap (λ (n : ℕ). drop k (take n text)) (sym apart) ∙ drop-take k (w - k) text in
     ap (λ (bytes : List ℕ). number (take 6 bytes)) cut ∙ ap number (take-take 6 (w - k) (drop k text) (omega arith))
 
 -- the fields within the first bytes
@@ -52,4 +52,4 @@ unfolding fields
 fields_take zero text = refl
 fields_take (suc k) text =
     let first : 6 * suc k ≡ 6 + 6 * k = omega arith in
-    rw (first, field_take 0 (6 + 6 * k) text (omega arith), slice_take_drop text 6 (6 * k), fields_take k (drop 6 text))
+    rw (first, field_take 0 (6 + 6 * k) text (omega arith), drop-take 6 (6 * k) text, fields_take k (drop 6 text))

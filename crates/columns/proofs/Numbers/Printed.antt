@@ -9,6 +9,11 @@ use lib.Seq.{take-set-le}
 use Rattle.laws.proofs.Lists.{drop_set}
 use Rattle.columns.specs.Numbers.{digit_or_blank, columns_before, printed, written}
 
+pub digit_or_blank_is : (m : ℕ) → 0 < m → digit_or_blank m ≡ 48 + m % 10
+unfolding digit_or_blank
+digit_or_blank_is zero h = absurd (omega arith)
+digit_or_blank_is (suc m) h = refl
+
 length_columns_before : (k m : ℕ) → length (columns_before k m) ≡ k
 unfolding columns_before
 length_columns_before zero m = refl

@@ -1,6 +1,5 @@
 -- `columns::print_number` meets its contract. The invariant: with the columns in front of i still to be written, the buffer is as it is to be.
 use mathlib.Core.Path.{◌≡◌, refl, sym, ◌∙◌}
-use Prim.Native.Nat.{◌+◌}
 use native.Mathlib.Omega.{arith}
 use lib.ListN.{length-set}
 use Rattle.columns.proofs.Numbers.Printed.{with_columns_before_set, with_columns_before_none, written_printed_zero, written_printed_last}

@@ -1,6 +1,6 @@
 -- `columns::print_number` meets its contract. The invariant: with the columns in front of i still to be written, the buffer is as it is to be.
 use mathlib.Core.Path.{◌≡◌}
-use Prim.Native.Nat.{ℕ, ◌≤◌}
+use Prim.Native.Nat.{◌≤◌}
 use Rattle.columns.proofs.Numbers.Printed.{with_columns_before}
 use Rattle.columns.proofs.print_number.Given as goal
 

@@ -1,5 +1,4 @@
 -- `columns::print_numbers` meets its contract. The invariant: the numbers so far are printed.
-use Prim.Native.Nat.{◌+◌}
 use native.Mathlib.Omega.{arith}
 use lib.ListN.{take}
 use lib.Seq.{length-take-le}

@@ -1,5 +1,4 @@
 -- `columns::print_numbers` meets its contract. The invariant: the numbers so far are printed.
-use Prim.Native.Nat.{ℕ}
 use lib.ListN.{take}
 use Rattle.columns.specs.Output.{number_columns, Prints}
 use Rattle.columns.proofs.print_numbers.Given as goal

@@ -1,17 +1,7 @@
 -- `columns::print_refusal` meets its contract: a byte, two numbers and a byte, each right behind the last.
-use native.Mathlib.Omega.{arith}
 use Rattle.columns.specs.Output.{refusal_line}
-use Rattle.columns.proofs.Output.{number_behind, prints_then}
+use Rattle.columns.proofs.Output.{prints_then}
 use Rattle.columns.proofs.print_refusal.Goals as goal
-
-pub print_columns-end-requires : goal.print_columns-end-requires
-print_columns-end-requires c = omega (arith, number_behind 10 _ c.print_columns-refusal.ensures)
-
-pub print_byte-requires : goal.print_byte-requires
-print_byte-requires c =
-    let print_columns = c.print_columns-refusal in
-    let print_columns2 = c.print_columns-end in
-    omega (arith, number_behind 10 _ print_columns.ensures, number_behind 6 _ print_columns2.ensures)
 
 pub returns : goal.returns
 unfolding refusal_line

@@ -72,3 +72,5 @@ module _ (text : List ℕ) (place : ℕ) (h : place < length text) where
   reading_other a r o s f long =
       let says_none = reading_letter_by long (λ bytes. none) (λ bytes. rw (ne_eqb _ _ s, ne_eqb _ _ a, ne_eqb _ _ r, ne_eqb _ _ f, ne_eqb _ _ o)) in
       rw (says_none, cond_none (ended (drop (place + 1) text)))
+
+pub ruleset letters = (reading_behind_end, reading_blank, reading_activation, reading_refresh, reading_held, reading_settings, reading_remap, reading_other)

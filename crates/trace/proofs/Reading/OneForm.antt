@@ -1,23 +1,24 @@
 -- The reading of a line whose records all have one width: the place of its byte 10 decides. And of lines of numbers, by what their fields hold.
-use mathlib.Core.Path.{◌≡◌, sym, ap, ◌∙◌}
+use mathlib.Core.Path.{◌≡◌, refl, sym, ap, ◌∙◌}
 use mathlib.Core.Bool.{true, false, cond}
 use mathlib.Core.List.{List, ◌∷◌}
 use mathlib.Core.Option.{none, some, Option, bind}
-use Prim.Native.Nat.{ℕ, suc, ◌+◌, ◌*◌, ◌<◌}
+use Prim.Native.Nat.{ℕ, suc, ◌+◌, ◌*◌, ◌≤◌, ◌<◌}
 use native.Mathlib.Omega.{arith}
 use lib.ListN.{length, get_or, take, drop, length-append}
 use lib.Seq.{length-take-le, get_or_at, take_at}
 use Rattle.laws.proofs.Cases.{split, clash, missing, either, cond_test, cond_some}
 use Rattle.device.specs.Refusal.{accepted, refused}
 use Rattle.trace.specs.declared.Record.{Record}
+use Rattle.trace.specs.declared.Record.TheVariants.{Activate, Refresh}
 use Rattle.trace.specs.InnerContracts.{ends_after, line_fields}
-use Rattle.columns.specs.Numbers.{fields}
-use Rattle.trace.specs.Records.{numbered}
+use Rattle.columns.specs.Numbers.{field, fields}
+use Rattle.trace.specs.Records.{numbered, activation, refresh}
 use Rattle.trace.specs.Lines.{line, ended, extent}
 use Rattle.trace.specs.Reading.{or_refused, reading_by}
-use Rattle.trace.proofs.InnerContracts.{ends_after_lt, ends_after_true, ends_after_rest}
+use Rattle.trace.proofs.InnerContracts.{ends_after_within, ends_after_lt, ends_after_true, ends_after_rest}
 use Rattle.trace.proofs.Lines.{line_append_end, ended_append_end, extent_append_end, line_end_rest}
-use Rattle.trace.proofs.Records.{Form, numbered_form, numbered_take}
+use Rattle.trace.proofs.Records.{Form, refresh_form, activation_form, activation_take, numbered_form, numbered_take}
 
 module _ {says : List ℕ → Option Record} {w : ℕ} (form : Form says w) (text : List ℕ) (at : ℕ) where
   pub reading_by_accepted : (r : Record) → ends_after w text ≡ true → says (take w text) ≡ some r
@@ -82,3 +83,34 @@ module _ (count : ℕ) (says : List ℕ → Record) (text : List ℕ) (at : ℕ)
       reading_by_other_bytes (numbered_form count says) text at
       (numbered_take count says text (omega arith) ∙ rw (sym (rw ends at e))))
       (λ elsewhere. reading_by_other_width (numbered_form count says) text at elsewhere)
+
+pub ruleset by_fields = (reading_numbers, reading_no_numbers)
+
+-- a refresh event's line
+pub refresh_read : (text : List ℕ) (at : ℕ) → ends_after 0 text ≡ true → reading_by refresh text at ≡ record { outcome = accepted Refresh; place = at + 1 }
+unfolding refresh
+refresh_read text at h = reading_by_accepted refresh_form text at Refresh h refl
+
+pub refresh_refused : (text : List ℕ) (at : ℕ) → ends_after 0 text ≡ false → reading_by refresh text at ≡ record { outcome = refused 11; place = at + extent text }
+refresh_refused text at h = reading_by_other_width refresh_form text at h
+
+pub ruleset refreshes = (refresh_read, refresh_refused)
+
+-- an activation's line, by its byte 10 and its field
+module _ (text : List ℕ) (at : ℕ) where
+  pub activation_refused : ends_after 6 (drop at text) ≡ false → reading_by activation (drop at text) at ≡ record { outcome = refused 11; place = at + extent (drop at text) }
+  activation_refused h = reading_by_other_width activation_form (drop at text) at h
+
+  module _ (h : ends_after 6 (drop at text) ≡ true) where
+    within : 6 ≤ length (drop at text)
+    within = omega (arith, ends_after_lt 6 (drop at text) h)
+
+    pub activation_read : (row : ℕ) → some row ≡ field at text → reading_by activation (drop at text) at ≡ record { outcome = accepted (Activate row 1); place = at + 7 }
+    unfolding bind field
+    activation_read row e = reading_by_accepted activation_form (drop at text) at (Activate row 1) h (activation_take (drop at text) within ∙ rw (sym e))
+
+    pub activation_without_number : none ≡ field at text → reading_by activation (drop at text) at ≡ record { outcome = refused 11; place = at + extent (drop at text) }
+    unfolding bind field
+    activation_without_number e = reading_by_other_bytes activation_form (drop at text) at (activation_take (drop at text) within ∙ rw (sym e))
+
+pub ruleset activations = (ends_after_within, activation_refused, activation_read, activation_without_number)
