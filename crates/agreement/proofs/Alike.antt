@@ -1,11 +1,12 @@
 -- `same_settings`, `same_position` and `same_tracked`: they say yes exactly where settings, positions and entries are the same.
 use mathlib.Core.Path.{◌≡◌, refl, sym, ap, ◌∙◌}
-use mathlib.Core.Bool.{true}
+use mathlib.Core.Bool.{Bool, true, ◌&&◌}
 use mathlib.Core.List.{List, [], ◌∷◌}
 use Prim.Native.Nat.{ℕ, zero, suc}
 use borrow.Author.Tests.{eqb-true, eq-eqb}
 use lib.Dec.{eqb}
 use lib.ListN.{take}
+use Rattle.std.specs.Cmp.Lexicographic.{pointwise}
 use Rattle.laws.specs.Same.{same}
 use Rattle.laws.proofs.Cases.{and_both}
 use Rattle.laws.proofs.Same.{same_alike, alike_same}
@@ -62,6 +63,14 @@ alike_same_position p = simp (itself p.events, itself p.activations, itself p.tr
 pub alike_same_tracked : (st : State) → same_tracked st st ≡ true
 unfolding same_tracked
 alike_same_tracked st = rw (alike_same (take st.position.tracked st.rows), alike_same (take st.position.tracked st.counts))
+
+-- what `==` says of two slices
+pub same_compared : (l m : List ℕ) → pointwise eqb l m ≡ same l m
+unfolding same
+same_compared [] [] = refl
+same_compared [] (y ∷ ys) = refl
+same_compared (x ∷ xs) [] = refl
+same_compared (x ∷ xs) (y ∷ ys) = ap (λ (b : Bool). eqb x y && b) (same_compared xs ys)
 
 -- the entries are read from the fronts of the tables
 entries_front : (k : ℕ) (rows counts : List ℕ) → entries_of k rows counts ≡ entries_of k (take k rows) (take k counts)

@@ -60,7 +60,7 @@ finer s remap st s' remap' st' agreed =
     let k = agreed_equal s remap st s' remap' st' agreed in
     let passed = passed_estimates s st s' st' (agreement_passed s st s' st' remap remap' k.passed) in
     let each = same_estimates_alike (summary_of st) (summary_of st') 0 s.rows zero-le refl (λ row l h i. estimate (summary_of (k.states i)) row) in
-    sym (estimates_alike s st s' st' passed (λ i. (k.settings i).rows) (sym each))
+    sym (estimates_alike s st s' st' (sym passed) (λ i. (k.settings i).rows) (sym each))
 
 pub older_not_enough : OlderNotEnough
 older_not_enough = told_by_computing

@@ -1,13 +1,12 @@
 -- What is claimed of agreement, besides the calls' contracts. proofs/Claims.antt proves each under the same name.
-use Rattle.std.specs.Prelude.{ℕ, ◌<◌, ◌≡◌, true, false, List, [], ◌∷◌}
+use Rattle.std.specs.Prelude.{ℕ, ◌<◌, ◌≡◌, Bool, true, false, List, [], ◌∷◌, Result}
 use Rattle.device.specs.declared.Settings.{Settings}
-use Rattle.device.specs.Refusal.{first_failed, accepted, refused}
+use Rattle.device.specs.declared.refusal.Refusal.{Refusal}
+use Rattle.device.specs.Refusal.{first_failed, accepted, refused, outcome}
 use Rattle.device.specs.Remap.{own_remap}
 use Rattle.device.specs.Claims.{Alike}
 use Rattle.state.specs.State.{State, summary_of}
-use Rattle.agreement.specs.declared.Agreement.{Agreement}
 use Rattle.agreement.specs.Calls.{agreement_tests, agreement_to, estimates_to, agreement_of, estimates_of}
-use Rattle.agreement.specs.Answers.{agreement_outcome}
 use Rattle.agreement.specs.Later.{Call, answers, memory_behind}
 use Rattle.agreement.specs.Answered.{Came, Answered}
 use Rattle.agreement.specs.Example.{one_counter, once_activated, event_after}
@@ -60,8 +59,8 @@ ThirdAlike =
 -- the same of the library: where `agree` answered yes, any answers to the same calls that meet their contracts are equal, with all that they left
 unfoldable pub ForEverAfterOfAnswers : Type 0
 ForEverAfterOfAnswers =
-    (s : Settings) (remap : List ℕ) (st : State) (s' : Settings) (remap' : List ℕ) (st' : State) (r : Agreement) →
-    agreement_outcome r ≡ agreement_of s remap st s' remap' st' → agreement_outcome r ≡ accepted true →
+    (s : Settings) (remap : List ℕ) (st : State) (s' : Settings) (remap' : List ℕ) (st' : State) (r : Result Bool Refusal) →
+    outcome r ≡ agreement_of s remap st s' remap' st' → outcome r ≡ accepted true →
     (calls : List Call) (came came' : List Came) → Answered s remap st calls came → Answered s' remap' st' calls came' → came ≡ came'
 
 -- trackers that agree have the same estimates: 'the older yes'

@@ -14,6 +14,7 @@ ghost use Rattle.bound.specs.Answers.{bound_answer, least_answer, signed, Small,
 use device::{Refusal, Settings};
 
 // T': the rows that disturb their victims from one event to the next.
+#[tactic(auto, unfolding(crate::specs::Totals::disturbers))]
 pub fn disturbers_of(s: Settings) -> u64
     ensures { result ≡ disturbers s }
 {
@@ -80,6 +81,7 @@ pub fn signed_number(answer: Result<u64, Refusal>) -> i64
 }
 
 // The bound for crate bound_c: H, or refusal k as -k.
+#[tactic(auto, using(crate::proofs::Answers::small_bound_answer), unfolding(crate::specs::Answers::settings_of))]
 pub fn row_tracker_bound(
     rows: u32,
     blast_diameter: u32,
@@ -103,6 +105,7 @@ pub fn row_tracker_bound(
 }
 
 // The least counter count for crate bound_c: the count, or refusal k as -k.
+#[tactic(auto, using(crate::proofs::Answers::small_least_answer), unfolding(crate::specs::Answers::settings_of))]
 pub fn row_tracker_least_counters(
     rows: u32,
     blast_diameter: u32,

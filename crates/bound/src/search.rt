@@ -13,12 +13,7 @@ use device::Refusal;
 pub fn room_below(threshold: u64, disturbers: u64) -> u64
     ensures { result ≡ (threshold + 1) / 2 - disturbers }
 {
-    let half = threshold / 2 + threshold % 2;
-    if disturbers < half {
-        half - disturbers
-    } else {
-        0
-    }
+    threshold.div_ceil(2).saturating_sub(disturbers)
 }
 
 // A product over a size, rounded up, and what the rounding added: quotient × size is the product and `over`.
@@ -47,12 +42,12 @@ fn share_less(share: Share, less: u64, at: u64) -> Share
 }
 
 // The smallest count from the volume on for which sum × at is below room × (count + 1); 12 if that is none up to 2,048.
+#[tactic(auto, unfolding(device::specs::Refusal::outcome, crate::specs::Least::or_else))]
 fn count_for(volume: u64, room: u64, sum: u64, at: u64) -> Result<u64, Refusal>
     requires { (0 < room) × (sum < 2 ^ 29) × (at ≤ most_counters) }
     ensures { outcome result ≡ or_else (leb (max volume (sum * at / room)) most_counters) (max volume (sum * at / room)) (refused 12) }
 {
-    let first = sum * at / room;
-    let count = if first < volume { volume } else { first };
+    let count = (sum * at / room).max(volume);
     if count <= device::MOST_COUNTERS as u64 {
         Ok(count)
     } else {
@@ -78,6 +73,7 @@ pub fn least_below(volume: u64, added: u64, steps: u64, end: u64) -> Result<u64,
         quotient: end * volume,
         over: 0,
     };
+    // A `for` over the sizes would be no plainer: a turn needs the next size too.
     while at <= device::MOST_COUNTERS as u64 {
         let before = room + share.quotient;
         if sum < before {
@@ -87,8 +83,8 @@ pub fn least_below(volume: u64, added: u64, steps: u64, end: u64) -> Result<u64,
             return Err(Refusal::NoCount);
         }
         room = before - added;
-        sum = sum - added;
-        at = at + volume;
+        sum -= added;
+        at += volume;
         share = share_less(share, less, at);
     }
     Err(Refusal::NoCount)

@@ -3,10 +3,9 @@ use mathlib.Core.Path.{◌≡◌, refl, sym}
 use mathlib.Core.Bool.{Bool, true, false, not}
 use Prim.Native.Nat.{ℕ, zero, suc, ◌≤◌}
 use native.Mathlib.Omega.{arith}
-use Rattle.std.specs.Prelude.{Result, Ok, Err}
 use Rattle.device.specs.declared.refusal.Refusal.{Refusal}
 use Rattle.device.specs.declared.refusal.Refusal.TheVariants.{Rows, BlastDiameter, Volume, Counters, Interval, Window, Block, Tables, Row, Picks, Line, NoCount, Room, Remap, Hold, State, IntervalFull}
-use Rattle.device.specs.Refusal.{Outcome, accepted, refused, tested, refuse, number, refusal_number, outcome}
+use Rattle.device.specs.Refusal.{Outcome, refused, tested, refuse, number}
 
 pub tested_passed : {A : Type 0} {k : ℕ} (answer : Outcome A) → k ≡ 0 → tested k answer ≡ answer
 unfolding tested

@@ -37,18 +37,21 @@ pub struct Settings {
     pub block: u32,
 }
 
+#[tactic(auto, unfolding(crate::specs::Acceptance::within))]
 fn is_within(low: u32, high: u32, x: u32) -> bool
     ensures { result ≡ within low high x }
 {
     low <= x && x <= high
 }
 
+#[tactic(auto, unfolding(crate::specs::Acceptance::rows_allowed_to))]
 fn rows_in_range(n: u32) -> bool
     ensures { result ≡ rows_allowed n }
 {
     is_within(16, MOST_ROWS, n) && n % 16 == 0
 }
 
+#[tactic(auto, unfolding(crate::specs::Acceptance::diameter_allowed))]
 fn diameter_in_range(b: u32) -> bool
     ensures { result ≡ diameter_allowed b }
 {
@@ -62,6 +65,7 @@ fn covers(p: u32, n: u32, rows: u32) -> bool
     rows as u64 <= (p as u64) * (n as u64)
 }
 
+#[tactic(auto, unfolding(crate::specs::Acceptance::block_allowed))]
 fn block_in_range(p: u32, n: u32, rows: u32) -> bool
     ensures { result ≡ block_allowed p n rows }
 {
@@ -101,6 +105,7 @@ pub fn test_settings_but_counters(s: Settings) -> Result<(), Refusal>
 const OWN_REMAP: [u32; 16] = [0, 1, 3, 2, 4, 5, 7, 6, 8, 9, 11, 10, 12, 13, 15, 14];
 
 // Our own remap, in force until another is loaded.
+#[tactic(auto, unfolding(crate::specs::Remap::own_remap))]
 pub fn own_remap() -> [u32; 16]
     ensures { result ≡ own_remap }
 {
@@ -120,7 +125,6 @@ fn occurs(remap: [u32; 16], k: u32) -> bool
 }
 
 // Whether a remap is accepted: each of 0 to 15 occurs in it.
-#[tactic(auto, unfolding(crate::specs::Remap::remap_allowed, crate::specs::Remap::all_occur))]
 pub fn remap_allowed(remap: [u32; 16]) -> bool
     ensures { result ≡ remap_allowed remap }
 {
@@ -128,6 +132,7 @@ pub fn remap_allowed(remap: [u32; 16]) -> bool
 }
 
 // The physical row of a logical row, by a remap that is accepted.
+#[tactic(auto, using(crate::proofs::Remap::entry_below), unfolding(crate::specs::Remap::physical))]
 pub fn physical_row(remap: [u32; 16], row: u32) -> u32
     requires { remap_allowed remap ≡ true }
     ensures { result ≡ physical remap row }
@@ -139,6 +144,7 @@ pub fn physical_row(remap: [u32; 16], row: u32) -> u32
 const MOST_UNITS: u32 = 16;
 
 // Whether a hold is accepted.
+#[tactic(auto, unfolding(crate::specs::Hold::hold_allowed))]
 pub fn hold_allowed(hold: u32) -> bool
     ensures { result ≡ hold_allowed hold }
 {
@@ -149,7 +155,7 @@ pub fn hold_allowed(hold: u32) -> bool
 pub fn smaller(a: u32, b: u32) -> u32
     ensures { result ≡ min a b }
 {
-    if a <= b { a } else { b }
+    a.min(b)
 }
 
 // The rows of a subarray.
@@ -159,12 +165,12 @@ const SUBARRAY_ROWS: u32 = 512;
 pub fn lowest_within(row: u32, reach: u32) -> u32
     ensures { result ≡ max (subarray_start row) (row - reach) }
 {
-    row - smaller(row % SUBARRAY_ROWS, reach)
+    row - (row % SUBARRAY_ROWS).min(reach)
 }
 
 // The highest row of a row's subarray that is at most so far above it; the bank may end before it.
 pub fn highest_within(row: u32, reach: u32) -> u32
     ensures { result ≡ min (row + reach) (subarray_start row + subarray_rows - 1) }
 {
-    row + smaller(SUBARRAY_ROWS - 1 - row % SUBARRAY_ROWS, reach)
+    row + (SUBARRAY_ROWS - 1 - row % SUBARRAY_ROWS).min(reach)
 }

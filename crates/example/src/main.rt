@@ -1,9 +1,8 @@
 // A program over the tracker: it is set up, rows are activated, a refresh event names the row to refresh, and a row's figure is asked for.
 #![tactic(auto)]
 
-use bound::Answer;
-use device::Settings;
-use tracker::{Activation, Position, Refreshed, SetUp};
+use device::{Refusal, Settings};
+use tracker::Position;
 
 // The number of standard output.
 const STDOUT_FILENO: i32 = 1;
@@ -13,6 +12,10 @@ fn print(word: &[u8], number: u32) {
     io::write_all(STDOUT_FILENO, word);
     io::print_decimal(STDOUT_FILENO, number as u64);
     io::write_all(STDOUT_FILENO, b"\n");
+}
+
+fn print_refusal(refusal: Refusal) {
+    print(b"refused ", refusal.number());
 }
 
 // Activates a row for so many units. The answer holds the position for the next call, also when it refuses.
@@ -26,10 +29,10 @@ fn activate(
     hold: u32,
 ) -> Position {
     match tracker::activate(s, remap, rows, counts, p, row, hold) {
-        Activation::Accepted(next) => next,
-        Activation::Refused(k, same) => {
-            print(b"refused ", k);
-            same
+        Ok(next) => next,
+        Err(refused) => {
+            print_refusal(refused.refusal);
+            refused.position
         }
     }
 }
@@ -37,12 +40,12 @@ fn activate(
 // Prints the most that a logical row's disturbance can be where the tracker stands.
 fn print_limit(s: Settings, remap: [u32; 16], row: u32, p: Position) {
     match rowlimit::row_limit(s, remap, row, p) {
-        Answer::Value(figure) => {
+        Ok(figure) => {
             io::write_all(STDOUT_FILENO, b"at most ");
             io::print_decimal(STDOUT_FILENO, figure);
             io::write_all(STDOUT_FILENO, b"\n");
         }
-        Answer::Refused(k) => print(b"refused ", k),
+        Err(refusal) => print_refusal(refusal),
     }
 }
 
@@ -62,18 +65,18 @@ fn main() {
     let mut rows = [0u32; 2];
     let mut counts = [0u32; 2];
     let mut list = [0u32; 1];
-    let SetUp::Ready(p) = tracker::set_up(s, remap, &mut rows, &mut counts) else {
+    let Ok(p) = tracker::set_up(s, remap, &mut rows, &mut counts) else {
         return;
     };
     let p = activate(s, remap, &mut rows, &mut counts, p, 5, 2);
     let p = activate(s, remap, &mut rows, &mut counts, p, 2, 1);
     match tracker::refresh(s, &mut rows, &mut counts, p, &mut list) {
-        Refreshed::Accepted(count, next) => {
-            if count == 1 {
+        Ok(refreshed) => {
+            if refreshed.count == 1 {
                 print(b"picked ", list[0]);
             }
-            print_limit(s, remap, 11, next);
+            print_limit(s, remap, 11, refreshed.position);
         }
-        Refreshed::Refused(k, same) => print(b"refused ", k),
+        Err(refused) => print_refusal(refused.refusal),
     }
 }

@@ -7,15 +7,18 @@ use native.Mathlib.Omega.{arith}
 use borrow.Author.Tests.{ltb-true}
 use lib.Dec.{ltb, lit≤}
 use Rattle.device.specs.declared.Settings.{Settings}
-use Rattle.device.specs.Refusal.{unless, refuse, first_failed}
+use Rattle.device.specs.declared.refusal.Refusal.{Refusal}
+use Rattle.device.specs.Refusal.{unless, refuse, first_failed, number, accepted, refused}
 use Rattle.device.specs.Acceptance.{settings_tests}
-use Rattle.device.specs.Remap.{remap_allowed}
-use Rattle.device.proofs.Tests.{or_later, or_later_le, refuse_passed, refuse_le, or_later_none}
-use Rattle.device.proofs.Acceptance.{settings_then, refusals_le}
+use Rattle.device.specs.Remap.{remap_allowed, physical}
+use Rattle.device.proofs.Tests.{or_later, or_later_le, refuse_passed, refuse_le, or_later_none, outcome_refused, outcome_accepted}
+use Rattle.device.proofs.Acceptance.{settings_then, refusals_le, accepted_settings}
+use Rattle.device.proofs.Remap.{physical_below}
 use Rattle.state.specs.declared.Position.{Position}
 use Rattle.state.specs.State.{position_allowed}
 use Rattle.state.proofs.PositionAllowed.{position_facts}
-use Rattle.rowlimit.specs.Answers.{row_limit_tests}
+use Rattle.limit.specs.ByRow.{row_figure}
+use Rattle.rowlimit.specs.Answers.{row_limit_tests, row_limit_answer}
 
 -- no test failed
 pub record Passed (s : Settings) (remap : List ℕ) (row : ℕ) (p : Position) : Type 0 where
@@ -50,3 +53,18 @@ module _ (s : Settings) (remap : List ℕ) (row : ℕ) (p : Position) where
         allowed = fourteen.0;
         early = (position_facts s p last.0).early;
       }
+
+  -- what the figure needs where no test failed
+  pub row_limit_ready : 0 ≡ first_failed (row_limit_tests s remap row p) → (first_failed (settings_tests s) ≡ 0) × (remap_allowed remap ≡ true) × (p.events < s.window) × (physical remap row < s.rows)
+  row_limit_ready e =
+      let o = row_limit_passed (sym e) in
+      (o.settled, o.allowed, o.early, physical_below remap o.allowed s.rows row (accepted_settings s o.settled).others.rows_whole o.inside)
+
+  -- the answer where a test failed, and where none did
+  pub row_limit_refused : (r : Refusal) → number r ≡ first_failed (row_limit_tests s remap row p) → refused (number r) ≡ row_limit_answer s remap row p
+  unfolding row_limit_answer
+  row_limit_refused r e = outcome_refused r _ e
+
+  pub row_limit_answered : 0 ≡ first_failed (row_limit_tests s remap row p) → accepted (row_figure s p.events (physical remap row)) ≡ row_limit_answer s remap row p
+  unfolding row_limit_answer
+  row_limit_answered e = outcome_accepted _ e

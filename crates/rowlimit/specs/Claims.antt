@@ -1,11 +1,10 @@
 -- What the figure is worth: where a tracker stands after an accepted setting up, it limits the row's disturbance. proofs/Claims.antt proves each under the
 -- same name.
-use Rattle.std.specs.Prelude.{ℕ, ◌≤◌, ◌<◌, ◌≡◌, true, List}
+use Rattle.std.specs.Prelude.{ℕ, ◌≤◌, ◌<◌, ◌≡◌, true, List, Result}
 use Rattle.device.specs.declared.Settings.{Settings}
-use Rattle.device.specs.Refusal.{Outcome, accepted}
+use Rattle.device.specs.declared.refusal.Refusal.{Refusal}
+use Rattle.device.specs.Refusal.{Outcome, accepted, outcome}
 use Rattle.device.specs.Remap.{remap_allowed, physical}
-use Rattle.bound.specs.declared.Answer.{Answer}
-use Rattle.bound.specs.Answers.{outcome}
 use Rattle.state.specs.State.{State}
 use Rattle.limit.specs.Exact.{Happened, exact}
 use Rattle.limit.specs.Run.{Command, Begun, state_after, happened}
@@ -31,5 +30,5 @@ unfoldable pub CallLimitsOfAnswers : Type 0
 CallLimitsOfAnswers =
     (s : Settings) (st : State) (told : List Happened) → Answered s st told →
     (remap : List ℕ) (row : ℕ) → remap_allowed remap ≡ true → row < s.rows →
-    (r : Answer) → outcome r ≡ row_limit_answer s remap row st.position →
+    (r : Result ℕ Refusal) → outcome r ≡ row_limit_answer s remap row st.position →
     Limits (outcome r) ((exact s told).disturbance (physical remap row))

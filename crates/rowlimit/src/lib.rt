@@ -1,7 +1,7 @@
 // A closer figure for each row: the most that its disturbance can be, by where the tracker stands.
 #![tactic(auto)]
 
-ghost use Rattle.std.specs.Prelude.{◌≡◌, ◌≤◌, ◌<◌, min};
+ghost use Rattle.std.specs.Prelude.{◌≡◌, ◌≤◌, ◌<◌};
 ghost use Rattle.device.specs.Refusal.{first_failed, refusal_number, outcome};
 ghost use Rattle.device.specs.Acceptance.{settings_tests};
 ghost use Rattle.bound.specs.Totals.{bound_of};
@@ -9,10 +9,13 @@ ghost use Rattle.bound.specs.Answers.{signed, settings_of};
 ghost use Rattle.limit.specs.ByRow.{carried_most, row_figure};
 ghost use Rattle.rowlimit.specs.Answers.{row_limit_tests, row_limit_answer, position_of};
 
+use std::cmp::min;
+
 use device::{Refusal, Settings};
 use state::Position;
 
 // The tests of the call.
+#[tactic(auto, using(crate::proofs::Tests::row_limit_tested, device::proofs::Tests::or_later_first, device::proofs::Tests::number_not_0), unfolding(device::specs::Refusal::refuse, device::proofs::Tests::or_later))]
 fn test_row_limit(s: Settings, remap: [u32; 16], row: u32, p: Position) -> Result<(), Refusal>
     ensures { refusal_number result ≡ first_failed (row_limit_tests s remap row p) }
 {
@@ -20,12 +23,6 @@ fn test_row_limit(s: Settings, remap: [u32; 16], row: u32, p: Position) -> Resul
     device::test(row < s.rows, Refusal::Row)?;
     device::test(device::remap_allowed(remap), Refusal::Remap)?;
     device::test(state::position_in_range(s, p), Refusal::State)
-}
-
-fn smaller(a: u64, b: u64) -> u64
-    ensures { result ≡ min a b }
-{
-    if a <= b { a } else { b }
 }
 
 // What a physical row may carry from the window before. H is at least `least`: where no more can have gathered, H need not be worked out.
@@ -39,7 +36,7 @@ fn carried(s: Settings, row: u32, least: u64) -> u64
     if gathered <= least {
         return gathered;
     }
-    smaller(bound::bound_at(s, s.window), gathered)
+    min(bound::bound_at(s, s.window), gathered)
 }
 
 // The figure of a physical row, so many events into a window.
@@ -57,6 +54,7 @@ fn figure(s: Settings, events: u32, row: u32) -> u64
 }
 
 // The figure of a logical row where a tracker stands, whichever window it is in: the row's disturbance is at most that.
+#[tactic(auto, using(crate::proofs::Tests::row_limit_ready, crate::proofs::Tests::row_limit_refused, crate::proofs::Tests::row_limit_answered), unfolding(device::specs::Refusal::outcome))]
 pub fn row_limit(
     s: Settings,
     remap: [u32; 16],

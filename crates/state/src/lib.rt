@@ -19,43 +19,31 @@ pub struct Position {
 const MOST_COUNT: u32 = 2000000000;
 
 // Whether both tables are as long as there are counters.
+#[tactic(auto, unfolding(crate::specs::State::tables_long))]
 pub fn tables_long(s: Settings, rows: &[u32], counts: &[u32]) -> bool
     ensures { result ≡ tables_long s rows.now counts.now }
 {
     rows.len() == s.counters as usize && counts.len() == s.counters as usize
 }
 
-// Whether only zeros stand from a place on.
-fn zeros_behind(t: &[u32], from: usize) -> bool
-    ensures { result ≡ zeros (drop from t.now) }
+// Whether only zeros stand in a part of a table.
+fn only_zeros(part: &[u32]) -> bool
+    ensures { result ≡ zeros part.now }
 {
-    let mut i = from;
-    while i < t.len() {
-        if t[i] != 0 {
-            return false;
-        }
-        i += 1;
-    }
-    true
+    part.iter().all(|number| *number == 0)
 }
 
-// Whether the rows at the front, so many, ascend strictly and stay below the bank's end.
-fn ascending_rows(t: &[u32], used: usize, high: u32) -> bool
-    requires { used ≤ length t.now }
-    ensures { result ≡ ascending 0 high (take used t.now) }
+// Whether rows ascend strictly and stay below the bank's end.
+#[tactic(auto, unfolding(crate::specs::State::ascending))]
+fn ascending_rows(rows: &[u32], high: u32) -> bool
+    ensures { result ≡ ascending 0 high rows.now }
 {
     let mut low: u32 = 0;
-    let mut i = 0;
-    while i < used {
-        let row = t[i];
-        if row < low {
+    for row in rows {
+        if *row < low || high <= *row {
             return false;
         }
-        if high <= row {
-            return false;
-        }
-        low = row + 1;
-        i += 1;
+        low = *row + 1;
     }
     true
 }
@@ -67,19 +55,11 @@ fn count_in_range(count: u32, spillover: u32) -> bool
     1 <= count && spillover <= count && count <= MOST_COUNT
 }
 
-// Whether the counts at the front, so many, are all in range.
-fn counts_in_range(t: &[u32], used: usize, spillover: u32) -> bool
-    requires { used ≤ length t.now }
-    ensures { result ≡ counts_allowed spillover (take used t.now) }
+// Whether counts are all in range.
+fn counts_in_range(counts: &[u32], spillover: u32) -> bool
+    ensures { result ≡ counts_allowed spillover counts.now }
 {
-    let mut i = 0;
-    while i < used {
-        if !count_in_range(t[i], spillover) {
-            return false;
-        }
-        i += 1;
-    }
-    true
+    counts.iter().all(|count| count_in_range(*count, spillover))
 }
 
 // Whether the rows' table may stand: so many rows at the front in order, zeros behind.
@@ -87,7 +67,7 @@ fn rows_laid(t: &[u32], used: usize, high: u32) -> bool
     requires { used ≤ length t.now }
     ensures { result ≡ (ascending 0 high (take used t.now) && zeros (drop used t.now)) }
 {
-    ascending_rows(t, used, high) && zeros_behind(t, used)
+    ascending_rows(&t[..used], high) && only_zeros(&t[used..])
 }
 
 // Whether the counts' table may stand: so many counts at the front in range, zeros behind.
@@ -95,35 +75,31 @@ fn counts_laid(t: &[u32], used: usize, spillover: u32) -> bool
     requires { used ≤ length t.now }
     ensures { result ≡ (zeros (drop used t.now) && counts_allowed spillover (take used t.now)) }
 {
-    zeros_behind(t, used) && counts_in_range(t, used, spillover)
+    only_zeros(&t[used..]) && counts_in_range(&t[..used], spillover)
 }
 
 // Whether each number of the position is in its range.
 pub fn position_in_range(s: Settings, p: Position) -> bool
     ensures { result ≡ position_allowed s p }
 {
-    if s.window <= p.events {
-        return false;
-    }
-    if s.interval < p.activations {
-        return false;
-    }
-    p.tracked <= s.counters && p.spillover <= MOST_COUNT
+    p.events < s.window
+        && p.activations <= s.interval
+        && p.tracked <= s.counters
+        && p.spillover <= MOST_COUNT
 }
 
 // Whether a state of tables of the right length breaks no rule.
+#[tactic(auto, using(crate::proofs::PositionAllowed::position_facts), unfolding(crate::specs::State::valid))]
 pub fn valid_state(s: Settings, rows: &[u32], counts: &[u32], p: Position) -> bool
     requires { (length rows.now ≡ s.counters) × (length counts.now ≡ s.counters) }
     ensures { result ≡ valid s (record { rows = rows.entry.now; counts = counts.now; position = p }) }
 {
-    if !position_in_range(s, p) {
-        return false;
-    }
     let k = p.tracked as usize;
-    rows_laid(rows, k, s.rows) && counts_laid(counts, k, p.spillover)
+    position_in_range(s, p) && rows_laid(rows, k, s.rows) && counts_laid(counts, k, p.spillover)
 }
 
 // Whether tables and position may be a tracker's: both tables as long as there are counters, and no rule broken.
+#[tactic(auto, using(crate::proofs::Valid::tables_long_fit), unfolding(crate::specs::State::given))]
 pub fn valid_memory(s: Settings, rows: &[u32], counts: &[u32], p: Position) -> bool
     ensures { result ≡ (tables_long s rows.now counts.now && valid s (lent rows.now counts.now p)) }
 {

@@ -31,6 +31,7 @@ pub struct Refreshed {
 }
 
 // The tests of settings and lent tables.
+#[tactic(auto, using(device::proofs::Acceptance::settings_then, device::proofs::Tests::or_later_first, device::proofs::Tests::number_not_0), unfolding(device::specs::Refusal::first_failed, device::specs::Refusal::unless, device::proofs::Tests::or_later, crate::specs::InnerContracts::tables_tests))]
 fn test_tables(s: Settings, rows: &[u32], counts: &[u32]) -> Result<(), Refusal>
     ensures { refusal_number result ≡ first_failed (tables_tests s rows.now counts.now) }
 {
@@ -39,6 +40,7 @@ fn test_tables(s: Settings, rows: &[u32], counts: &[u32]) -> Result<(), Refusal>
 }
 
 // The tests of setting up.
+#[tactic(auto, using(crate::proofs::Calls::Tests::set_up_tested, device::proofs::Tests::or_later_first, device::proofs::Tests::number_not_0), unfolding(device::specs::Refusal::refuse, device::proofs::Tests::or_later, state::specs::State::given))]
 fn test_set_up(
     s: Settings,
     remap: [u32; 16],
@@ -52,6 +54,7 @@ fn test_set_up(
 }
 
 // The tests of an activation.
+#[tactic(auto, using(crate::proofs::Calls::Tests::activation_tested, crate::proofs::Calls::Ready::tables_fit, device::proofs::Tests::or_later_first, device::proofs::Tests::number_not_0), unfolding(device::specs::Refusal::refuse, device::proofs::Tests::or_later, state::specs::State::given))]
 fn test_activation(
     s: Settings,
     remap: [u32; 16],
@@ -72,6 +75,7 @@ fn test_activation(
 }
 
 // The tests of a refresh event.
+#[tactic(auto, using(crate::proofs::Calls::Tests::refresh_tested, crate::proofs::Calls::Ready::tables_fit, device::proofs::Tests::or_later_first, device::proofs::Tests::number_not_0), unfolding(device::specs::Refusal::refuse, device::proofs::Tests::or_later, state::specs::State::given))]
 fn test_refresh(
     s: Settings,
     rows: &[u32],
@@ -87,6 +91,7 @@ fn test_refresh(
 }
 
 // Sets up: 0 everywhere in both tables, and the position to begin with.
+#[tactic(auto, using(crate::proofs::Calls::Outcomes::set_up_refused, crate::proofs::Calls::Outcomes::set_up_done), unfolding(crate::specs::Answers::set_up_call, device::specs::Refusal::outcome))]
 pub fn set_up(s: Settings, remap: [u32; 16], rows: &mut [u32], counts: &mut [u32]) -> Result<Position, Refusal>
     ensures { set_up_left result rows counts ≡ set_up s remap rows.old counts.old }
 {
@@ -129,6 +134,7 @@ fn activate_accepted(
 }
 
 // An activation of a logical row, which the remap gives its physical row, held open for so many units.
+#[tactic(auto, using(crate::proofs::Calls::Outcomes::activation_refused, crate::proofs::Calls::Outcomes::activation_done), unfolding(crate::specs::Answers::activation_call, crate::specs::Answers::activation_accepts, crate::specs::Answers::activation_refusal, crate::specs::Answers::activation_position))]
 pub fn activate(
     s: Settings,
     remap: [u32; 16],
@@ -186,6 +192,7 @@ fn refresh_accepted(
 }
 
 // A refresh event; the picked rows come at the front of the lent picks.
+#[tactic(auto, using(crate::proofs::Calls::Outcomes::refresh_refused), unfolding(crate::specs::Answers::refresh_call, crate::specs::Answers::refresh_accepts, crate::specs::Answers::refresh_refusal, crate::specs::Answers::refresh_count, crate::specs::Answers::refresh_position))]
 pub fn refresh(
     s: Settings,
     rows: &mut [u32],

@@ -15,10 +15,11 @@ use Rattle.device.proofs.Acceptance.{settings_then}
 use Rattle.summary.specs.InnerContracts.{Holds}
 use Rattle.summary.specs.Tables.{read}
 use Rattle.summary.proofs.InnerContracts.Holds.{long_rows, long_counts}
-use Rattle.state.specs.State.{State, summary_of, valid, tables_long}
+use Rattle.state.specs.declared.Position.{Position}
+use Rattle.state.specs.State.{State, given, summary_of, valid, tables_long}
 use Rattle.state.proofs.Valid.{Facts, valid_facts}
 use Rattle.agreement.specs.Calls.{agreement_tests_to, agreement_tests, estimates_tests_to, estimates_tests}
-use Rattle.agreement.specs.InnerContracts.{both_tables_tests}
+use Rattle.agreement.specs.InnerContracts.{both_tables_tests, TracksBelow}
 
 module _ (s : Settings) (rows counts : List ℕ) (s' : Settings) (rows' counts' : List ℕ) where
   behind_settings : (later : List Test) → first_failed (settings_tests s ++ settings_tests s' ++ later) ≡ or_later (first_failed (settings_tests s)) (or_later (first_failed (settings_tests s')) (first_failed later))
@@ -71,12 +72,12 @@ module _ (s : Settings) (st : State) (s' : Settings) (st' : State) where
   passed_estimates p = rw (estimates_tested, or_later_zero _ _ p.tables, p.sound)
 
 -- both tables of both sides are long
-pub tables_passed : (s : Settings) (rows counts : List ℕ) (s' : Settings) (rows' counts' : List ℕ) → first_failed (both_tables_tests s rows counts s' rows' counts') ≡ 0 → (tables_long s rows counts && tables_long s' rows' counts') ≡ true
+pub tables_passed : (s : Settings) (rows counts : List ℕ) (s' : Settings) (rows' counts' : List ℕ) → 0 ≡ first_failed (both_tables_tests s rows counts s' rows' counts') → (tables_long s rows counts ≡ true) × (tables_long s' rows' counts' ≡ true)
 tables_passed s rows counts s' rows' counts' e =
     let long = tables_long s rows counts && tables_long s' rows' counts' in
-    let one = or_later_none (first_failed (settings_tests s)) _ (sym (both_tables_tested s rows counts s' rows' counts') ∙ e) in
+    let one = or_later_none (first_failed (settings_tests s)) _ (sym (e ∙ both_tables_tested s rows counts s' rows' counts')) in
     let two = or_later_none (first_failed (settings_tests s')) (refuse (not long) 8 0) one.1 in
-    (refuse_passed long 7 0 two.1).0
+    and_both _ _ (refuse_passed long 7 0 two.1).0
 
 -- both states are valid
 pub record Compared (s : Settings) (st : State) (s' : Settings) (st' : State) : Type 0 where
@@ -85,7 +86,7 @@ pub record Compared (s : Settings) (st : State) (s' : Settings) (st' : State) : 
 
 pub compared : (s : Settings) (st : State) (s' : Settings) (st' : State) → Passed s st s' st' → Compared s st s' st'
 compared s st s' st' p =
-    let longs = and_both _ _ (tables_passed s st.rows st.counts s' st'.rows st'.counts p.tables) in
+    let longs = tables_passed s st.rows st.counts s' st'.rows st'.counts (sym p.tables) in
     let valids = and_both (valid s st) (valid s' st') p.sound in
     record { first = valid_facts s st longs.0 valids.0; second = valid_facts s' st' longs.1 valids.1 }
 
@@ -95,8 +96,29 @@ unfolding summary_of
 holds_own_length f = rw (long_rows f.holds) f.holds
 
 -- the tracked rows have places in both tables
-pub tracked_rows : {s : Settings} {st : State} → Facts s st → st.position.tracked ≤ length st.rows
-tracked_rows f = omega (arith, f.holds.tracked_is, f.holds.sound.fits, long_rows f.holds)
+abbrev InBounds : State → Type 0
+InBounds st = (st.position.tracked ≤ length st.rows) × (st.position.tracked ≤ length st.counts)
 
-pub tracked_counts : {s : Settings} {st : State} → Facts s st → st.position.tracked ≤ length st.counts
-tracked_counts f = omega (arith, f.holds.tracked_is, f.holds.sound.fits, long_counts f.holds)
+in_bounds : {s : Settings} {st : State} → Facts s st → InBounds st
+in_bounds f =
+    (omega (arith, f.holds.tracked_is, f.holds.sound.fits, long_rows f.holds), omega (arith, f.holds.tracked_is, f.holds.sound.fits, long_counts f.holds))
+
+-- so they have where no test refuses
+pub agreement_in_bounds : (s : Settings) (remap : List ℕ) (st : State) (s' : Settings) (remap' : List ℕ) (st' : State) → 0 ≡ first_failed (agreement_tests s remap st s' remap' st') → InBounds st × InBounds st'
+agreement_in_bounds s remap st s' remap' st' e =
+    let both = compared s st s' st' (agreement_passed s st s' st' remap remap' (sym e)) in
+    (in_bounds both.first, in_bounds both.second)
+
+pub estimates_in_bounds : (s : Settings) (st : State) (s' : Settings) (st' : State) → 0 ≡ first_failed (estimates_tests s st s' st') → InBounds st × InBounds st'
+estimates_in_bounds s st s' st' e =
+    let both = compared s st s' st' (estimates_passed s st s' st' (sym e)) in
+    (in_bounds both.first, in_bounds both.second)
+
+-- and tables of banks of as many rows track rows below their end
+pub estimates_tracks : (s : Settings) (rows counts : List ℕ) (p : Position) (s' : Settings) (rows' counts' : List ℕ) (p' : Position) → 0 ≡ first_failed (estimates_tests s (given rows counts p) s' (given rows' counts' p')) → s.rows ≡ s'.rows → (TracksBelow s.rows rows counts (record { tracked = p.tracked; spillover = p.spillover })) × (TracksBelow s.rows rows' counts' (record { tracked = p'.tracked; spillover = p'.spillover }))
+unfolding given
+estimates_tracks s rows counts p s' rows' counts' p' e same =
+    let st = given rows counts p in
+    let st' = given rows' counts' p' in
+    let both = compared s st s' st' (estimates_passed s st s' st' (sym e)) in
+    (holds_own_length both.first, rw same (holds_own_length both.second))

@@ -2,6 +2,7 @@
 use Prim.Native.Nat.{ℕ, ◌*◌, ◌^◌, ◌≤◌, ◌<◌}
 use native.Mathlib.Nat.{mul-le-mul}
 use native.Mathlib.Omega.{arith}
+use Rattle.std.proofs.lemmas.Grind.{common_steps}
 use Rattle.device.proofs.Acceptance.{accepted_settings}
 use Rattle.bound.specs.Totals.{bound_of}
 use Rattle.bound.proofs.Totals.Bound.{disturbers_le}
@@ -40,4 +41,4 @@ bound_at-requires c = let n = (accepted_settings c.args.s c.requires.s_value).ot
 
 pub returns : goal.returns
 unfolding carried_most own_event bound_of
-returns c = rw (c.smaller.ensures, c.bound_at.ensures, c.disturbers_of.ensures)
+returns c = grind (arith, common_steps)

@@ -1,37 +1,25 @@
--- `state::counts_in_range` meets its contract. The invariant: the test of the counts from i on says what the whole test says.
-use mathlib.Core.Path.{◌≡◌, refl, ◌∙◌, sym}
-use mathlib.Core.Bool.{true, ◌&&◌}
-use mathlib.Core.List.{List}
-use Prim.Native.Nat.{ℕ, ◌+◌, ◌≤◌, ◌<◌}
-use native.Mathlib.Numerals.{add-one}
-use native.Mathlib.Omega.{arith}
+-- `state::counts_in_range` meets its contract.
+use mathlib.Core.Path.{◌≡◌, ◌∙◌, refl}
+use mathlib.Core.Bool.{◌&&◌}
+use mathlib.Core.List.{List, [], ◌∷◌}
+use Prim.Native.Nat.{ℕ}
 use lib.Dec.{leb}
-use lib.ListN.{length, take, drop, get_or}
+use borrow.Author.Tests.{tests}
+use Rattle.std.proofs.Common.{rules}
+use Rattle.std.specs.List.{list_all}
+use Rattle.std.proofs.lemmas.Iterator.{YieldsList-from_slice}
+use Rattle.std.proofs.lemmas.Iterator.Search.{all_from_yields_List}
 use Rattle.state.specs.State.{counts_allowed, most_count}
-use Rattle.tables.proofs.Scans.{used_step, left_none}
-use Rattle.state.proofs.counts_in_range.Invariants.{Left}
 use Rattle.state.proofs.counts_in_range.Goals as goal
 
-module _ {t : List ℕ} {used spillover i : ℕ} (l : Left t used spillover i) (fits : used ≤ length t) where
-  here : i < used → counts_allowed spillover (take used t) ≡ (leb 1 (get_or t i 0) && leb spillover (get_or t i 0) && leb (get_or t i 0) most_count && counts_allowed spillover (drop (i + 1) (take used t)))
-  unfolding counts_allowed
-  here h = sym l.same ∙ rw (used_step t used i fits h, add-one i)
-
-  done : used ≤ i → true ≡ counts_allowed spillover (take used t)
-  unfolding counts_allowed
-  done h = rw (left_none t used i fits h) at l.same
-
-pub loop-i-init : goal.loop-i-init
-loop-i-init c = record { same = refl }
-
-pub returns-then-not-count_in_range : goal.returns-then-not-count_in_range
-returns-then-not-count_in_range c = rw (here c.loop-i.invariant c.requires (omega arith), ← c.count_in_range.ensures, c.if-not-count_in_range.true)
-
-pub loop-i-preserved : goal.loop-i-preserved
-loop-i-preserved c =
-    record {
-      same = rw (here c.loop-i.invariant c.requires (omega arith), ← c.count_in_range.ensures, c.if-not-count_in_range.false);
-    }
+all_allowed : (spillover : ℕ) (counts : List ℕ) →
+    list_all (λ count. leb 1 count && leb spillover count && leb count most_count) counts ≡ counts_allowed spillover counts
+unfolding counts_allowed
+all_allowed spillover [] = refl
+all_allowed spillover (x ∷ xs) = rw (all_allowed spillover xs)
 
 pub returns : goal.returns
-returns c = done c.loop-i.invariant c.requires c.loop-i-test.false
+returns c =
+    all_from_yields_List (λ count. leb 1 count && leb c.args.spillover count && leb count most_count) _ _ _ c.all.ensures.ran
+    (YieldsList-from_slice c.args.counts.now cc) (λ x b q k. search (rules, tests))
+    ∙ all_allowed c.args.spillover c.args.counts.now

@@ -1,6 +1,6 @@
 -- What a call has in hand that no test refuses: accepted settings, tables as long as they should be, a valid state.
 use mathlib.Core.Path.{◌≡◌, sym, ◌∙◌}
-use mathlib.Core.Bool.{true, not}
+use mathlib.Core.Bool.{Bool, true, not}
 use mathlib.Core.Logic.{⊎_elim}
 use mathlib.Core.List.{List}
 use Prim.Native.Nat.{ℕ, ◌+◌, ◌≤◌, ◌<◌}
@@ -8,6 +8,7 @@ use native.Mathlib.Omega.{arith}
 use borrow.Author.Tests.{ltb-true, leb-true}
 use lib.Dec.{ltb, leb}
 use lib.ListN.{length}
+use Rattle.std.proofs.Common.{Fits, w32}
 use Rattle.device.specs.declared.Settings.{Settings}
 use Rattle.device.specs.Refusal.{refuse, first_failed}
 use Rattle.device.specs.Acceptance.{settings_tests}
@@ -20,6 +21,7 @@ use Rattle.summary.specs.Entries.{Entry}
 use Rattle.summary.specs.Rules.{Ordered, ordered_none, ordered_more}
 use Rattle.summary.specs.InnerContracts.{Holds, Held}
 use Rattle.summary.proofs.InnerContracts.Holds.{held_again}
+use Rattle.state.specs.declared.Position.{Position}
 use Rattle.state.specs.State.{State, summary_of, valid, tables_long}
 use Rattle.state.proofs.Valid.{tables_long_fit, Facts, valid_facts}
 use Rattle.tracker.specs.Calls.{set_up_tests, activation_tests, refresh_tests}
@@ -40,6 +42,11 @@ open_tables s rows counts e =
     let fit = tables_long_fit s rows counts long in
     record { settled = parts.0; long = long; rows_long = fit.0; counts_long = fit.1 }
 
+pub tables_fit : (s : Settings) (rows counts : List ℕ) → 0 ≡ first_failed (tables_tests s rows counts) → (length rows ≡ s.counters) × (length counts ≡ s.counters)
+tables_fit s rows counts e =
+    let o = open_tables s rows counts (sym e) in
+    (o.rows_long, o.counts_long)
+
 -- no refusal of setting up
 pub set_up_ready : (s : Settings) (remap rows counts : List ℕ) → first_failed (set_up_tests s remap rows counts) ≡ 0 → Open s rows counts × (remap_allowed remap ≡ true)
 set_up_ready s remap rows counts e =
@@ -56,6 +63,13 @@ ready : (s : Settings) (st : State) → first_failed (tables_tests s st.rows st.
 ready s st e v =
     let o = open_tables s st.rows st.counts e in
     record { fitting = o; settings = accepted_settings s o.settled; facts = valid_facts s st o.long v }
+
+-- the units of an accepted hold and those before it fit 32 bits
+pub units_fit : (s : Settings) (rows counts : List ℕ) (p : Position) (hold : ℕ) {held sound : Bool} → 0 ≡ first_failed (tables_tests s rows counts) → held ≡ hold_allowed hold → 0 ≡ refuse (not held) 15 0 → sound ≡ valid s (record { rows = rows; counts = counts; position = p }) → 0 ≡ refuse (not sound) 21 0 → Fits w32 (p.activations + hold)
+units_fit s rows counts p hold none is_held held is_sound sound =
+    let held : hold_allowed hold ≡ true = sym is_held ∙ (refuse_passed _ 14 0 (sym held)).0 in
+    let r = ready s (record { rows = rows; counts = counts; position = p }) (sym none) (sym is_sound ∙ (refuse_passed _ 20 0 (sym sound)).0) in
+    omega (arith, r.facts.within, r.settings.others.interval.most, (hold_between hold held).most)
 
 -- each test of an activation passed
 pub record Passed (s : Settings) (remap : List ℕ) (st : State) (row hold : ℕ) : Type 0 where

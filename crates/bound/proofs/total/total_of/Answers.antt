@@ -62,7 +62,7 @@ small_size {j = j} l h = l.low (j - 1) (omega arith)
 pub overflow_mul-t : goal.overflow_mul-t
 overflow_mul-t c =
     let a = c.args in
-    let n : a.steps - c.rising_steps-j.result ≤ 16383 = omega arith in
+    let n : a.steps - c.rising_steps-rising.result ≤ 16383 = omega arith in
     let few : a.added ≤ 16704 = omega arith in
     omega (arith, mul-le-mul n few)
 
@@ -70,7 +70,7 @@ pub loop-j-init : goal.loop-j-init
 unfolding rising
 loop-j-init c =
     let a = c.args in
-    rw (c.size_at-at.ensures, c.rising_steps-j.ensures) (begins a.volume a.counters a.added a.steps (omega arith))
+    rw (c.size_at-at.ensures, c.rising_steps-rising.ensures) (begins a.volume a.counters a.added a.steps (omega arith))
 
 pub overflow_mul-below : goal.overflow_mul-below
 overflow_mul-below c = omega (arith, small_size c.loop-j.invariant (omega arith))

@@ -14,6 +14,3 @@ pub record Left (volume counters added steps j t at : ℕ) : Type 0 where
 
 abbrev pub invariant-loop-j : goal.invariant-loop-j
 invariant-loop-j l = Left l.volume l.counters l.added l.steps l.j l.t l.at
-
-abbrev pub decreases-loop-j : goal.decreases-loop-j
-decreases-loop-j l = l.j

@@ -1,0 +1,6 @@
+use Rattle.std.proofs.Common.{rules, arith}
+use Rattle.tracker.proofs.Calls.Ready.{units_fit}
+use Rattle.tracker.proofs.test_activation.Goals as goal
+
+pub overflow_add-p : goal.overflow_add-p
+overflow_add-p c = search (rules, units_fit)
