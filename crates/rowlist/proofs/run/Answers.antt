@@ -25,11 +25,11 @@ next_turn-turn-requires c = c.reads.invariant.carried
 pub returns-in-Err : goal.returns-in-Err
 returns-in-Err c =
     ran_unwritten more_in
-    (goes_further c.reads.invariant c.reads-test.true (more _ (sym c.ne.ensures ∙ c.if-ne.false)) c.next_turn-turn.ensures.carried_in c.next_turn-turn.ensures.stepped).steps
+    (goes_further c.reads.invariant (omega arith) (more _ (sym c.ne.ensures ∙ c.if-ne.false)) c.next_turn-turn.ensures.carried_in c.next_turn-turn.ensures.stepped).steps
 
 pub reads-preserved : goal.reads-preserved
 reads-preserved c =
-    goes_further c.reads.invariant c.reads-test.true (more _ (sym c.ne.ensures ∙ c.if-ne.false)) c.next_turn-turn.ensures.carried_in c.next_turn-turn.ensures.stepped
+    goes_further c.reads.invariant (omega arith) (more _ (sym c.ne.ensures ∙ c.if-ne.false)) c.next_turn-turn.ensures.carried_in c.next_turn-turn.ensures.stepped
 
 pub returns-after-reads : goal.returns-after-reads
 returns-after-reads c = goes_no_further c.reads.invariant (λ on. omega arith)
