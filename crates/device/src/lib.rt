@@ -151,13 +151,6 @@ pub fn hold_allowed(hold: u32) -> bool
     is_within(1, MOST_UNITS, hold)
 }
 
-// The smaller of two numbers.
-pub fn smaller(a: u32, b: u32) -> u32
-    ensures { result ≡ min a b }
-{
-    a.min(b)
-}
-
 // The rows of a subarray.
 const SUBARRAY_ROWS: u32 = 512;
 
