@@ -22,7 +22,11 @@ impl Tracked<'_> {
     fn next_row(self, high: u32, i: usize) -> u32
         ensures { result ≡ next_row self.entry.rows.now self.entry.tally.tracked high i }
     {
-        if i < self.tally.tracked { self.rows[i] } else { high }
+        if i < self.tally.tracked {
+            self.rows[i]
+        } else {
+            high
+        }
     }
 
     // Whether `row` is the row at place `i`.
@@ -71,6 +75,7 @@ pub fn same_estimates(a: Tracked, b: Tracked, high: u32) -> bool
     let mut low = 0;
     let mut i = 0;
     let mut j = 0;
+    // No range or slice is walked: each turn passes as many rows as neither summary tracks.
     while low < high {
         let row = lower_row(a, i, b, j, high);
         if low < row {

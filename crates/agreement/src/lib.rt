@@ -11,10 +11,9 @@ ghost use Rattle.agreement.specs.Calls.{same_tracked, agreement_tests, estimates
 ghost use Rattle.agreement.specs.InnerContracts.{both_tables_tests, memory, valid_memory};
 
 use device::{Refusal, Settings};
+use estimates::Tracked;
 use state::Position;
 use summary::Tally;
-
-use estimates::Tracked;
 
 // The memory that a tracker is lent.
 #[derive(Clone, Copy)]
@@ -57,7 +56,10 @@ fn test_tables(s: Settings, m: Memory, s2: Settings, m2: Memory) -> Result<(), R
 fn test_states(s: Settings, m: Memory, s2: Settings, m2: Memory) -> Result<(), Refusal>
     ensures { refusal_number result ≡ refuse (not (valid_memory s m.entry && valid_memory s2 m2.entry)) 21 0 }
 {
-    device::test(state::valid_memory(s, m.rows, m.counts, m.position), Refusal::State)?;
+    device::test(
+        state::valid_memory(s, m.rows, m.counts, m.position),
+        Refusal::State,
+    )?;
     device::test(
         state::valid_memory(s2, m2.rows, m2.counts, m2.position),
         Refusal::State,

@@ -73,7 +73,14 @@ fn words_at<const N: usize>(request: &[u32; REQUEST_WORDS], at: usize) -> [u32; 
 }
 
 fn head(refusal: u32, value: u32, p: Position) -> [u32; HEAD_WORDS] {
-    [refusal, value, p.events, p.activations, p.tracked, p.spillover]
+    [
+        refusal,
+        value,
+        p.events,
+        p.activations,
+        p.tracked,
+        p.spillover,
+    ]
 }
 
 // The head of an answer that refuses and hands a position back.
@@ -89,7 +96,11 @@ fn value_head(answer: Result<u32, Refusal>, p: Position) -> [u32; HEAD_WORDS] {
     }
 }
 
-fn call_set_up(request: &[u32; REQUEST_WORDS], rows: &mut [u32], counts: &mut [u32]) -> [u32; HEAD_WORDS] {
+fn call_set_up(
+    request: &[u32; REQUEST_WORDS],
+    rows: &mut [u32],
+    counts: &mut [u32],
+) -> [u32; HEAD_WORDS] {
     let s = settings_of(&request[1..8]);
     match tracker::set_up(s, words_at(request, 317), rows, counts) {
         Ok(p) => head(0, 0, p),
@@ -97,7 +108,11 @@ fn call_set_up(request: &[u32; REQUEST_WORDS], rows: &mut [u32], counts: &mut [u
     }
 }
 
-fn call_activate(request: &[u32; REQUEST_WORDS], rows: &mut [u32], counts: &mut [u32]) -> [u32; HEAD_WORDS] {
+fn call_activate(
+    request: &[u32; REQUEST_WORDS],
+    rows: &mut [u32],
+    counts: &mut [u32],
+) -> [u32; HEAD_WORDS] {
     let s = settings_of(&request[1..8]);
     let p = position_of(&request[8..12]);
     let remap = words_at(request, 317);
@@ -144,7 +159,10 @@ fn call_row_limit(request: &[u32; REQUEST_WORDS]) -> [u32; HEAD_WORDS] {
     let p = position_of(&request[8..12]);
     let answer = rowlimit::row_limit(s, words_at(request, 317), request[12], p);
     // A figure that is too large for a word becomes the largest word, which no figure is.
-    value_head(answer.map(|figure| u32::try_from(figure).unwrap_or(u32::MAX)), p)
+    value_head(
+        answer.map(|figure| u32::try_from(figure).unwrap_or(u32::MAX)),
+        p,
+    )
 }
 
 // A length, cut to the most allowed.

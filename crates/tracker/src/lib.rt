@@ -41,12 +41,7 @@ fn test_tables(s: Settings, rows: &[u32], counts: &[u32]) -> Result<(), Refusal>
 
 // The tests of setting up.
 #[tactic(auto, using(crate::proofs::Calls::Tests::set_up_tested, device::proofs::Tests::or_later_first, device::proofs::Tests::number_not_0), unfolding(device::specs::Refusal::refuse, device::proofs::Tests::or_later, state::specs::State::given))]
-fn test_set_up(
-    s: Settings,
-    remap: [u32; 16],
-    rows: &[u32],
-    counts: &[u32],
-) -> Result<(), Refusal>
+fn test_set_up(s: Settings, remap: [u32; 16], rows: &[u32], counts: &[u32]) -> Result<(), Refusal>
     ensures { refusal_number result ≡ first_failed (set_up_tests s remap rows.now counts.now) }
 {
     test_tables(s, rows, counts)?;
@@ -92,7 +87,12 @@ fn test_refresh(
 
 // Sets up: 0 everywhere in both tables, and the position to begin with.
 #[tactic(auto, using(crate::proofs::Calls::Outcomes::set_up_refused, crate::proofs::Calls::Outcomes::set_up_done), unfolding(crate::specs::Answers::set_up_call, device::specs::Refusal::outcome))]
-pub fn set_up(s: Settings, remap: [u32; 16], rows: &mut [u32], counts: &mut [u32]) -> Result<Position, Refusal>
+pub fn set_up(
+    s: Settings,
+    remap: [u32; 16],
+    rows: &mut [u32],
+    counts: &mut [u32],
+) -> Result<Position, Refusal>
     ensures { set_up_left result rows counts ≡ set_up s remap rows.old counts.old }
 {
     test_set_up(s, remap, rows, counts)?;
