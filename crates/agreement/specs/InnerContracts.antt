@@ -6,12 +6,16 @@ use Rattle.device.specs.Refusal.{Test, unless}
 use Rattle.device.specs.declared.Settings.{Settings}
 use Rattle.summary.specs.InnerContracts.{Holds, summary}
 use Rattle.summary.specs.declared.Tally.{Tally}
-use Rattle.state.specs.State.{State, given, tables_long}
+use Rattle.state.specs.State.{State, given, valid, tables_long}
 use Rattle.agreement.specs.declared.Memory.{Memory}
 
 -- the state that a tracker's memory is
 abbrev pub memory : Memory → State
 memory m = given m.rows.now m.counts.now m.position
+
+-- a valid state in tables of the right length
+abbrev pub valid_memory : Settings → Memory → Bool
+valid_memory s m = tables_long s m.rows.now m.counts.now && valid s (memory m)
 
 -- both settings' tests, then 8
 unfoldable pub both_tables_tests : Settings → List ℕ → List ℕ → Settings → List ℕ → List ℕ → List Test

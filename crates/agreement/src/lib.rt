@@ -4,13 +4,14 @@
 
 mod estimates;
 
-ghost use Rattle.std.specs.Prelude.{◌≡◌, ◌≤◌, length};
-ghost use Rattle.device.specs.Refusal.{first_failed, refusal_number, outcome};
+ghost use Rattle.std.specs.Prelude.{◌≡◌, ◌≤◌, ◌&&◌, not, length};
+ghost use Rattle.device.specs.Refusal.{refuse, first_failed, refusal_number, outcome};
 ghost use Rattle.state.specs.State.{lent};
 ghost use Rattle.agreement.specs.Calls.{same_tracked, agreement_tests, estimates_tests, agreement_of, estimates_of};
-ghost use Rattle.agreement.specs.InnerContracts.{both_tables_tests, memory};
+ghost use Rattle.agreement.specs.InnerContracts.{both_tables_tests, memory, valid_memory};
 
 use device::{Refusal, Settings};
+use estimates::Tracked;
 use state::Position;
 use summary::Tally;
 
@@ -22,6 +23,23 @@ struct Memory<'a> {
     position: Position,
 }
 
+impl<'a> Memory<'a> {
+    // Its summary.
+    fn tracked(self) -> Tracked<'a>
+        requires { (self.position.tracked ≤ length self.rows.now) × (self.position.tracked ≤ length self.counts.now) }
+        ensures { (result.rows ≡ self.entry.rows) × (result.counts ≡ self.entry.counts) × (result.tally.tracked ≡ self.entry.position.tracked) × (result.tally.spillover ≡ self.entry.position.spillover) }
+    {
+        Tracked {
+            rows: self.rows,
+            counts: self.counts,
+            tally: Tally {
+                tracked: self.position.tracked as usize,
+                spillover: self.position.spillover,
+            },
+        }
+    }
+}
+
 // The tests of both settings and of the lent tables.
 #[tactic(auto, using(crate::proofs::Calls::Tests::both_tables_tested, device::proofs::Tests::or_later_first, device::proofs::Tests::number_not_0), unfolding(device::specs::Refusal::refuse, device::proofs::Tests::or_later))]
 fn test_tables(s: Settings, m: Memory, s2: Settings, m2: Memory) -> Result<(), Refusal>
@@ -31,6 +49,21 @@ fn test_tables(s: Settings, m: Memory, s2: Settings, m2: Memory) -> Result<(), R
     device::test_settings(s2)?;
     device::test(state::tables_long(s, m.rows, m.counts), Refusal::Tables)?;
     device::test(state::tables_long(s2, m2.rows, m2.counts), Refusal::Tables)
+}
+
+// The tests of both states.
+#[tactic(auto, unfolding(device::specs::Refusal::refuse, state::specs::State::given))]
+fn test_states(s: Settings, m: Memory, s2: Settings, m2: Memory) -> Result<(), Refusal>
+    ensures { refusal_number result ≡ refuse (not (valid_memory s m.entry && valid_memory s2 m2.entry)) 21 0 }
+{
+    device::test(
+        state::valid_memory(s, m.rows, m.counts, m.position),
+        Refusal::State,
+    )?;
+    device::test(
+        state::valid_memory(s2, m2.rows, m2.counts, m2.position),
+        Refusal::State,
+    )
 }
 
 // The tests of `agree`.
@@ -48,11 +81,7 @@ fn test_agreement(
     test_tables(s, m, s2, m2)?;
     device::test(device::remap_allowed(remap), Refusal::Remap)?;
     device::test(device::remap_allowed(remap2), Refusal::Remap)?;
-    device::test(state::valid_memory(s, m.rows, m.counts, m.position), Refusal::State)?;
-    device::test(
-        state::valid_memory(s2, m2.rows, m2.counts, m2.position),
-        Refusal::State,
-    )
+    test_states(s, m, s2, m2)
 }
 
 // The tests of `estimates_agree`.
@@ -61,11 +90,7 @@ fn test_estimates(s: Settings, m: Memory, s2: Settings, m2: Memory) -> Result<()
     ensures { refusal_number result ≡ first_failed (estimates_tests s (memory m.entry) s2 (memory m2.entry)) }
 {
     test_tables(s, m, s2, m2)?;
-    device::test(state::valid_memory(s, m.rows, m.counts, m.position), Refusal::State)?;
-    device::test(
-        state::valid_memory(s2, m2.rows, m2.counts, m2.position),
-        Refusal::State,
-    )
+    test_states(s, m, s2, m2)
 }
 
 // Whether the tracked rows are the same, and their counts.
@@ -111,7 +136,7 @@ pub fn agree(
 }
 
 // Whether two summaries give every row the same estimate, in banks of as many rows.
-#[tactic(auto, using(crate::proofs::Calls::Outcomes::estimates_refused, crate::proofs::Calls::Outcomes::estimates_differ, crate::proofs::Calls::Outcomes::estimates_alike, crate::proofs::Calls::Tests::estimates_tracks), unfolding(device::specs::Refusal::outcome, state::specs::State::summary_of, state::specs::State::given))]
+#[tactic(auto, using(crate::proofs::Calls::Outcomes::estimates_refused, crate::proofs::Calls::Outcomes::estimates_differ, crate::proofs::Calls::Outcomes::estimates_alike, crate::proofs::Calls::Tests::estimates_in_bounds, crate::proofs::Calls::Tests::estimates_tracks), unfolding(device::specs::Refusal::outcome, state::specs::State::summary_of, state::specs::State::given))]
 pub fn estimates_agree(
     s: Settings,
     rows: &[u32],
@@ -138,13 +163,5 @@ pub fn estimates_agree(
     if s.rows != s2.rows {
         return Ok(false);
     }
-    let t = Tally {
-        tracked: p.tracked as usize,
-        spillover: p.spillover,
-    };
-    let t2 = Tally {
-        tracked: p2.tracked as usize,
-        spillover: p2.spillover,
-    };
-    Ok(estimates::same_estimates(rows, counts, t, rows2, counts2, t2, s.rows))
+    Ok(estimates::same_estimates(m.tracked(), m2.tracked(), s.rows))
 }

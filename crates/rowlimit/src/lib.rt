@@ -9,10 +9,9 @@ ghost use Rattle.bound.specs.Answers.{signed, settings_of};
 ghost use Rattle.limit.specs.ByRow.{carried_most, row_figure};
 ghost use Rattle.rowlimit.specs.Answers.{row_limit_tests, row_limit_answer, position_of};
 
-use std::cmp::min;
-
 use device::{Refusal, Settings};
 use state::Position;
+use std::cmp::min;
 
 // The tests of the call.
 #[tactic(auto, using(crate::proofs::Tests::row_limit_tested, device::proofs::Tests::or_later_first, device::proofs::Tests::number_not_0), unfolding(device::specs::Refusal::refuse, device::proofs::Tests::or_later))]
@@ -55,19 +54,14 @@ fn figure(s: Settings, events: u32, row: u32) -> u64
 
 // The figure of a logical row where a tracker stands, whichever window it is in: the row's disturbance is at most that.
 #[tactic(auto, using(crate::proofs::Tests::row_limit_ready, crate::proofs::Tests::row_limit_refused, crate::proofs::Tests::row_limit_answered), unfolding(device::specs::Refusal::outcome))]
-pub fn row_limit(
-    s: Settings,
-    remap: [u32; 16],
-    row: u32,
-    p: Position,
-) -> Result<u64, Refusal>
+pub fn row_limit(s: Settings, remap: [u32; 16], row: u32, p: Position) -> Result<u64, Refusal>
     ensures { outcome result ≡ row_limit_answer s remap row p }
 {
     test_row_limit(s, remap, row, p)?;
     Ok(figure(s, p.events, device::physical_row(remap, row)))
 }
 
-// The same for crate rowlimit_c: the figure, or refusal k as -k.
+// The same for crate rowlimit_c: the figure, or refusal k as -k. The numbers come singly, as C passes them.
 pub fn row_tracker_row_limit(
     rows: u32,
     blast_diameter: u32,

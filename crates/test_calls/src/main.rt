@@ -2,317 +2,229 @@
 // which has the layout of both. All numbers are words of four bytes, the lowest first.
 #![tactic(auto)]
 
-ghost use Rattle.std.specs.Prelude.{◌≤◌};
+ghost use Rattle.std.specs.Prelude.{◌+◌, ◌≤◌, length};
 
-use agreement::Agreement;
-use bound::Answer;
-use device::Settings;
-use tracker::{Activation, Position, Refreshed, SetUp};
+use device::{Refusal, Settings};
+use tracker::{Position, Refused};
 
 // The numbers of standard input and output.
 const STDIN_FILENO: i32 = 0;
 
 const STDOUT_FILENO: i32 = 1;
 
-// The byte at a place, or 0 behind the end.
-fn byte(buf: &[u8], at: usize) -> u32
-    ensures { result ≤ 255 }
+// The words of a request and of an answer.
+const REQUEST_WORDS: usize = 350;
+
+const ANSWER_WORDS: usize = 166;
+
+// An answer begins with the refusal or 0, the value, and the position after.
+const HEAD_WORDS: usize = 6;
+
+// The words of a request's bytes.
+fn words_of(bytes: &[u8; 4 * REQUEST_WORDS]) -> [u32; REQUEST_WORDS] {
+    let mut words = [0; REQUEST_WORDS];
+    for (word, four) in words.iter_mut().zip(bytes.as_chunks::<4>().0) {
+        *word = u32::from_le_bytes(*four);
+    }
+    words
+}
+
+// The bytes of an answer's words.
+fn bytes_of(words: &[u32; ANSWER_WORDS]) -> [u8; 4 * ANSWER_WORDS] {
+    let mut bytes = [0; 4 * ANSWER_WORDS];
+    for (i, word) in words.iter().enumerate() {
+        bytes[4 * i..4 * i + 4].copy_from_slice(&word.to_le_bytes());
+    }
+    bytes
+}
+
+fn settings_of(words: &[u32]) -> Settings
+    requires { 7 ≤ length words.now }
 {
-    if at < buf.len() {
-        return buf[at] as u32;
-    }
-    0
-}
-
-// Puts the lowest byte of x at a place, or nothing behind the end.
-fn put_byte(buf: &mut [u8], at: usize, x: u32) {
-    if at < buf.len() {
-        buf[at] = (x % 256) as u8;
-    }
-}
-
-// Where word i of the field that begins at word `field` lies; from word 1,000 on, a place behind every buffer.
-fn place(field: usize, i: usize) -> usize
-    ensures { result ≤ 10000 }
-{
-    if field < 1000 {
-        if i < 1000 {
-            return 4 * (field + i);
-        }
-    }
-    10000
-}
-
-// Word i of a field.
-fn word(buf: &[u8], field: usize, i: usize) -> u32 {
-    let at = place(field, i);
-    byte(buf, at)
-        + 256 * byte(buf, at + 1)
-        + 65536 * byte(buf, at + 2)
-        + 16777216 * byte(buf, at + 3)
-}
-
-// Puts x at word i of a field.
-fn put_word(buf: &mut [u8], field: usize, i: usize, x: u32) {
-    let at = place(field, i);
-    put_byte(buf, at, x);
-    put_byte(buf, at + 1, x / 256);
-    put_byte(buf, at + 2, x / 65536);
-    put_byte(buf, at + 3, x / 16777216);
-}
-
-// Reads a whole table.
-fn words_in(buf: &[u8], field: usize, table: &mut [u32]) {
-    let mut i = 0;
-    while i < table.len() {
-        table[i] = word(buf, field, i);
-        i += 1;
-    }
-}
-
-// Writes a whole table.
-fn words_out(buf: &mut [u8], field: usize, table: &[u32]) {
-    let mut i = 0;
-    while i < table.len() {
-        put_word(buf, field, i, table[i]);
-        i += 1;
-    }
-}
-
-// The length at a word, cut to the most allowed.
-fn length_at(buf: &[u8], at: usize, most: usize) -> usize
-    ensures { result ≤ most }
-{
-    let n = word(buf, at, 0) as usize;
-    if n < most { n } else { most }
-}
-
-// The seven settings from a word on.
-fn settings_at(buf: &[u8], at: usize) -> Settings {
     Settings {
-        rows: word(buf, at, 0),
-        blast_diameter: word(buf, at, 1),
-        volume: word(buf, at, 2),
-        counters: word(buf, at, 3),
-        interval: word(buf, at, 4),
-        window: word(buf, at, 5),
-        block: word(buf, at, 6),
+        rows: words[0],
+        blast_diameter: words[1],
+        volume: words[2],
+        counters: words[3],
+        interval: words[4],
+        window: words[5],
+        block: words[6],
     }
 }
 
-// The remap from a word on.
-fn remap_at(buf: &[u8], at: usize) -> [u32; 16] {
-    let mut remap = [0u32; 16];
-    words_in(buf, at, &mut remap);
-    remap
-}
-
-// The position from a word on.
-fn position_at(buf: &[u8], at: usize) -> Position {
+fn position_of(words: &[u32]) -> Position
+    requires { 4 ≤ length words.now }
+{
     Position {
-        events: word(buf, at, 0),
-        activations: word(buf, at, 1),
-        tracked: word(buf, at, 2),
-        spillover: word(buf, at, 3),
+        events: words[0],
+        activations: words[1],
+        tracked: words[2],
+        spillover: words[3],
     }
 }
 
-// The answer's head: the refusal or 0, the value, the position after.
-fn put_head(answer: &mut [u8], refusal: u32, value: u32, p: Position) {
-    put_word(answer, 0, 0, refusal);
-    put_word(answer, 0, 1, value);
-    put_word(answer, 0, 2, p.events);
-    put_word(answer, 0, 3, p.activations);
-    put_word(answer, 0, 4, p.tracked);
-    put_word(answer, 0, 5, p.spillover);
+// So many words of a request from a place on.
+fn words_at<const N: usize>(request: &[u32; REQUEST_WORDS], at: usize) -> [u32; N]
+    requires { at + N ≤ 350 }
+{
+    let mut words = [0; N];
+    words.copy_from_slice(&request[at..at + N]);
+    words
 }
 
-fn no_position() -> Position {
-    Position {
-        events: 0,
-        activations: 0,
-        tracked: 0,
-        spillover: 0,
+fn head(refusal: u32, value: u32, p: Position) -> [u32; HEAD_WORDS] {
+    [
+        refusal,
+        value,
+        p.events,
+        p.activations,
+        p.tracked,
+        p.spillover,
+    ]
+}
+
+// The head of an answer that refuses and hands a position back.
+fn refused_head(refused: Refused) -> [u32; HEAD_WORDS] {
+    head(refused.refusal.number(), 0, refused.position)
+}
+
+// The head of an answer that leaves the position as it was.
+fn value_head(answer: Result<u32, Refusal>, p: Position) -> [u32; HEAD_WORDS] {
+    match answer {
+        Ok(value) => head(0, value, p),
+        Err(refusal) => head(refusal.number(), 0, p),
     }
 }
 
-fn call_set_up(request: &[u8], rows: &mut [u32], counts: &mut [u32], answer: &mut [u8]) {
-    let r = tracker::set_up(
-        settings_at(request, 1),
-        remap_at(request, 317),
-        rows,
-        counts,
-    );
-    match r {
-        SetUp::Ready(p) => put_head(answer, 0, 0, p),
-        SetUp::Refused(k) => put_head(answer, k, 0, no_position()),
+fn call_set_up(
+    request: &[u32; REQUEST_WORDS],
+    rows: &mut [u32],
+    counts: &mut [u32],
+) -> [u32; HEAD_WORDS] {
+    let s = settings_of(&request[1..8]);
+    match tracker::set_up(s, words_at(request, 317), rows, counts) {
+        Ok(p) => head(0, 0, p),
+        Err(refusal) => [refusal.number(), 0, 0, 0, 0, 0],
     }
 }
 
-fn call_activate(request: &[u8], rows: &mut [u32], counts: &mut [u32], answer: &mut [u8]) {
-    let s = settings_at(request, 1);
-    let p = position_at(request, 8);
-    let remap = remap_at(request, 317);
-    let row = word(request, 12, 0);
-    let hold = word(request, 333, 0);
-    let r = tracker::activate(s, remap, rows, counts, p, row, hold);
-    match r {
-        Activation::Accepted(q) => put_head(answer, 0, 0, q),
-        Activation::Refused(k, q) => put_head(answer, k, 0, q),
+fn call_activate(
+    request: &[u32; REQUEST_WORDS],
+    rows: &mut [u32],
+    counts: &mut [u32],
+) -> [u32; HEAD_WORDS] {
+    let s = settings_of(&request[1..8]);
+    let p = position_of(&request[8..12]);
+    let remap = words_at(request, 317);
+    match tracker::activate(s, remap, rows, counts, p, request[12], request[333]) {
+        Ok(p) => head(0, 0, p),
+        Err(refused) => refused_head(refused),
     }
 }
 
 fn call_refresh(
-    request: &[u8],
+    request: &[u32; REQUEST_WORDS],
     rows: &mut [u32],
     counts: &mut [u32],
     picks: &mut [u32],
-    answer: &mut [u8],
-) {
-    let s = settings_at(request, 1);
-    let p = position_at(request, 8);
-    let r = tracker::refresh(s, rows, counts, p, picks);
-    match r {
-        Refreshed::Accepted(n, q) => put_head(answer, 0, n, q),
-        Refreshed::Refused(k, q) => put_head(answer, k, 0, q),
+) -> [u32; HEAD_WORDS] {
+    let s = settings_of(&request[1..8]);
+    let p = position_of(&request[8..12]);
+    match tracker::refresh(s, rows, counts, p, picks) {
+        Ok(refreshed) => head(0, refreshed.count, refreshed.position),
+        Err(refused) => refused_head(refused),
     }
 }
 
-// The answer's head for a yes, a no or a refusal.
-fn put_agreement(answer: &mut [u8], r: Agreement, p: Position) {
-    match r {
-        Agreement::Same(is_same) => put_head(answer, 0, if is_same { 1 } else { 0 }, p),
-        Agreement::Refused(k) => put_head(answer, k, 0, p),
-    }
-}
-
-// Both calls that compare with the second state, whose tables are lent here.
-fn call_agree_with(
-    request: &[u8],
-    rows: &[u32],
-    counts: &[u32],
-    rows2: &[u32],
-    counts2: &[u32],
-    answer: &mut [u8],
-) {
-    let s = settings_at(request, 1);
-    let remap = remap_at(request, 317);
-    let p = position_at(request, 8);
-    let s2 = settings_at(request, 176);
-    let remap2 = remap_at(request, 334);
-    let p2 = position_at(request, 183);
-    if word(request, 0, 0) == 3 {
-        let r = agreement::agree(s, remap, rows, counts, p, s2, remap2, rows2, counts2, p2);
-        put_agreement(answer, r, p);
+// Both calls that compare with the request's second state.
+fn call_agree(request: &[u32; REQUEST_WORDS], rows: &[u32], counts: &[u32]) -> [u32; HEAD_WORDS] {
+    let s = settings_of(&request[1..8]);
+    let p = position_of(&request[8..12]);
+    let s2 = settings_of(&request[176..183]);
+    let p2 = position_of(&request[183..187]);
+    let rows2 = &request[189..253][..length_of(request[187], 64)];
+    let counts2 = &request[253..317][..length_of(request[188], 64)];
+    let answer = if request[0] == 3 {
+        let remap = words_at(request, 317);
+        let remap2 = words_at(request, 334);
+        agreement::agree(s, remap, rows, counts, p, s2, remap2, rows2, counts2, p2)
     } else {
-        let r = agreement::estimates_agree(s, rows, counts, p, s2, rows2, counts2, p2);
-        put_agreement(answer, r, p);
-    }
+        agreement::estimates_agree(s, rows, counts, p, s2, rows2, counts2, p2)
+    };
+    value_head(answer.map(u32::from), p)
 }
 
-fn call_agree(request: &[u8], rows: &[u32], counts: &[u32], answer: &mut [u8]) {
-    let mut rows2 = [0u32; 64];
-    let mut counts2 = [0u32; 64];
-    words_in(request, 189, &mut rows2);
-    words_in(request, 253, &mut counts2);
-    let n = length_at(request, 187, 64);
-    let m = length_at(request, 188, 64);
-    call_agree_with(request, rows, counts, &rows2[0..n], &counts2[0..m], answer);
+fn call_row_limit(request: &[u32; REQUEST_WORDS]) -> [u32; HEAD_WORDS] {
+    let s = settings_of(&request[1..8]);
+    let p = position_of(&request[8..12]);
+    let answer = rowlimit::row_limit(s, words_at(request, 317), request[12], p);
+    // A figure that is too large for a word becomes the largest word, which no figure is.
+    value_head(
+        answer.map(|figure| u32::try_from(figure).unwrap_or(u32::MAX)),
+        p,
+    )
 }
 
-// A figure as a word; one that is too large for it becomes the largest word, which no figure is.
-fn figure_word(figure: u64) -> u32 {
-    if figure < 4294967295 {
-        figure as u32
-    } else {
-        4294967295
-    }
-}
-
-fn call_row_limit(request: &[u8], answer: &mut [u8]) {
-    let s = settings_at(request, 1);
-    let p = position_at(request, 8);
-    let remap = remap_at(request, 317);
-    let row = word(request, 12, 0);
-    let r = rowlimit::row_limit(s, remap, row, p);
-    match r {
-        Answer::Value(figure) => put_head(answer, 0, figure_word(figure), p),
-        Answer::Refused(k) => put_head(answer, k, 0, p),
-    }
+// A length, cut to the most allowed.
+fn length_of(word: u32, most: usize) -> usize
+    ensures { result ≤ most }
+{
+    (word as usize).min(most)
 }
 
 // Makes the call that the request names; one that is none of the six is taken as that for a row's figure.
 fn call(
-    request: &[u8],
+    request: &[u32; REQUEST_WORDS],
     rows: &mut [u32],
     counts: &mut [u32],
     picks: &mut [u32],
-    answer: &mut [u8],
-) {
-    let op = word(request, 0, 0);
-    if op == 0 {
-        call_set_up(request, rows, counts, answer);
-    } else if op == 1 {
-        call_activate(request, rows, counts, answer);
-    } else if op == 2 {
-        call_refresh(request, rows, counts, picks, answer);
-    } else if op == 3 || op == 5 {
-        call_agree(request, rows, counts, answer);
-    } else {
-        call_row_limit(request, answer);
+) -> [u32; HEAD_WORDS] {
+    match request[0] {
+        0 => call_set_up(request, rows, counts),
+        1 => call_activate(request, rows, counts),
+        2 => call_refresh(request, rows, counts, picks),
+        3 | 5 => call_agree(request, rows, counts),
+        _ => call_row_limit(request),
     }
 }
 
-// Makes the call on the parts of the tables and of the picks that the request lends.
-fn call_on_parts(
-    request: &[u8],
-    rows: &mut [u32],
-    counts: &mut [u32],
-    picks: &mut [u32],
-    answer: &mut [u8],
-) {
-    let n = length_at(request, 13, rows.len());
-    let m = length_at(request, 14, counts.len());
-    let l = length_at(request, 15, picks.len());
-    call(
+// The answer to one request, which lends parts of the tables and of the picks.
+fn serve(request: &[u32; REQUEST_WORDS]) -> [u32; ANSWER_WORDS] {
+    let mut rows: [u32; 64] = words_at(request, 16);
+    let mut counts: [u32; 64] = words_at(request, 80);
+    let mut picks: [u32; 32] = words_at(request, 144);
+    let lent = length_of(request[13], 64);
+    let lent_counts = length_of(request[14], 64);
+    let lent_picks = length_of(request[15], 32);
+    let head = call(
         request,
-        &mut rows[0..n],
-        &mut counts[0..m],
-        &mut picks[0..l],
-        answer,
+        &mut rows[..lent],
+        &mut counts[..lent_counts],
+        &mut picks[..lent_picks],
     );
-}
-
-// The answer to one request.
-fn serve(request: &[u8], answer: &mut [u8]) {
-    let mut rows = [0u32; 64];
-    let mut counts = [0u32; 64];
-    let mut picks = [0u32; 32];
-    words_in(request, 16, &mut rows);
-    words_in(request, 80, &mut counts);
-    words_in(request, 144, &mut picks);
-    call_on_parts(request, &mut rows, &mut counts, &mut picks, answer);
-    words_out(answer, 6, &rows);
-    words_out(answer, 70, &counts);
-    words_out(answer, 134, &picks);
+    let mut answer = [0; ANSWER_WORDS];
+    let parts = head.iter().chain(&rows).chain(&counts).chain(&picks);
+    for (word, part) in answer.iter_mut().zip(parts) {
+        *word = *part;
+    }
+    answer
 }
 
 // Reads one request and writes its answer; whether there was a whole one.
 fn serve_next() -> bool {
-    let mut request = [0u8; 1400];
-    let mut answer = [0u8; 664];
-    let got = io::read_full(STDIN_FILENO, &mut request);
-    if got < 1400 {
+    let mut request = [0; 4 * REQUEST_WORDS];
+    if io::read_full(STDIN_FILENO, &mut request) < request.len() {
         return false;
     }
-    serve(&request, &mut answer);
-    io::write_all(STDOUT_FILENO, &answer)
+    let answer = serve(&words_of(&request));
+    io::write_all(STDOUT_FILENO, &bytes_of(&answer))
 }
 
 // A proved loop has to end, so it counts its turns down from a number that no run uses up.
 fn main() {
-    let mut turns = u64::MAX;
-    while turns > 0 && serve_next() {
-        turns -= 1;
+    for _ in 0..u64::MAX {
+        if !serve_next() {
+            break;
+        }
     }
 }

@@ -96,22 +96,25 @@ unfolding summary_of
 holds_own_length f = rw (long_rows f.holds) f.holds
 
 -- the tracked rows have places in both tables
-pub tracked_rows : {s : Settings} {st : State} → Facts s st → st.position.tracked ≤ length st.rows
-tracked_rows f = omega (arith, f.holds.tracked_is, f.holds.sound.fits, long_rows f.holds)
+abbrev InBounds : State → Type 0
+InBounds st = (st.position.tracked ≤ length st.rows) × (st.position.tracked ≤ length st.counts)
 
-pub tracked_counts : {s : Settings} {st : State} → Facts s st → st.position.tracked ≤ length st.counts
-tracked_counts f = omega (arith, f.holds.tracked_is, f.holds.sound.fits, long_counts f.holds)
+in_bounds : {s : Settings} {st : State} → Facts s st → InBounds st
+in_bounds f =
+    (omega (arith, f.holds.tracked_is, f.holds.sound.fits, long_rows f.holds), omega (arith, f.holds.tracked_is, f.holds.sound.fits, long_counts f.holds))
 
--- so they have where no test of `agree` refuses
-pub agreement_in_bounds : (s : Settings) (remap rows counts : List ℕ) (p : Position) (s' : Settings) (remap' rows' counts' : List ℕ) (p' : Position) → 0 ≡ first_failed (agreement_tests s remap (given rows counts p) s' remap' (given rows' counts' p')) → ((p.tracked ≤ length rows) × (p.tracked ≤ length counts)) × ((p'.tracked ≤ length rows') × (p'.tracked ≤ length counts'))
-unfolding given
-agreement_in_bounds s remap rows counts p s' remap' rows' counts' p' e =
-    let st = given rows counts p in
-    let st' = given rows' counts' p' in
+-- so they have where no test refuses
+pub agreement_in_bounds : (s : Settings) (remap : List ℕ) (st : State) (s' : Settings) (remap' : List ℕ) (st' : State) → 0 ≡ first_failed (agreement_tests s remap st s' remap' st') → InBounds st × InBounds st'
+agreement_in_bounds s remap st s' remap' st' e =
     let both = compared s st s' st' (agreement_passed s st s' st' remap remap' (sym e)) in
-    ((tracked_rows both.first, tracked_counts both.first), (tracked_rows both.second, tracked_counts both.second))
+    (in_bounds both.first, in_bounds both.second)
 
--- and tables of banks of as many rows track rows below their end, where no test of `estimates_agree` refuses
+pub estimates_in_bounds : (s : Settings) (st : State) (s' : Settings) (st' : State) → 0 ≡ first_failed (estimates_tests s st s' st') → InBounds st × InBounds st'
+estimates_in_bounds s st s' st' e =
+    let both = compared s st s' st' (estimates_passed s st s' st' (sym e)) in
+    (in_bounds both.first, in_bounds both.second)
+
+-- and tables of banks of as many rows track rows below their end
 pub estimates_tracks : (s : Settings) (rows counts : List ℕ) (p : Position) (s' : Settings) (rows' counts' : List ℕ) (p' : Position) → 0 ≡ first_failed (estimates_tests s (given rows counts p) s' (given rows' counts' p')) → s.rows ≡ s'.rows → (TracksBelow s.rows rows counts (record { tracked = p.tracked; spillover = p.spillover })) × (TracksBelow s.rows rows' counts' (record { tracked = p'.tracked; spillover = p'.spillover }))
 unfolding given
 estimates_tracks s rows counts p s' rows' counts' p' e same =

@@ -3,30 +3,21 @@
 use mathlib.Core.Path.{◌≡◌, ◌∙◌, sym}
 use native.Mathlib.Omega.{arith}
 use Rattle.agreement.proofs.InnerContracts.TwoWalks.{walks_begin, lower_in_bank, gap_differs, walks_past_gap, row_differs, walks_past_row}
-use Rattle.agreement.proofs.estimates.same_estimates.Goals.{then-low-row+else-t-t2, else-low-row}
+use Rattle.agreement.proofs.estimates.same_estimates.Goals.{then-low-row+else-a-b, else-low-row}
 use Rattle.agreement.proofs.estimates.same_estimates.Goals as goal
 
 pub loop-low-init : goal.loop-low-init
 loop-low-init c = walks_begin c.requires.tracks_below c.requires.tracks_below_2
 
-pub lower_row-row-requires : goal.lower_row-row-requires
-lower_row-row-requires c = record { tracked_in_bounds = c.loop-low.invariant.first.rows_long; tracked_in_bounds_2 = c.loop-low.invariant.second.rows_long }
-
-pub returns-then-t-t2 : goal.returns-then-t-t2
-returns-then-t-t2 c = sym (gap_differs c.lower_row-row.result c.loop-low.invariant c.lower_row-row.ensures c.if-low-row.true c.if-t-t2.true)
+pub returns-then-a-b : goal.returns-then-a-b
+returns-then-a-b c = sym (gap_differs c.lower_row-row.result c.loop-low.invariant c.lower_row-row.ensures c.if-low-row.true c.if-a-b.true)
 
 pub returns-then-row-high : goal.returns-then-row-high
 returns-then-row-high c =
     let come =
     walks_past_gap c.lower_row-row.result c.loop-low.invariant c.lower_row-row.ensures
-    (λ h. elim c.if-low-row.branch [ then-low-row+else-t-t2 w ↦ w.if-t-t2.false | else-low-row w ↦ absurd (omega arith) ]) in
+    (λ h. elim c.if-low-row.branch [ then-low-row+else-a-b w ↦ w.if-a-b.false | else-low-row w ↦ absurd (omega arith) ]) in
     sym (rw c.if-row-high.true at come.same)
-
-pub estimate_at-x-requires : goal.estimate_at-x-requires
-estimate_at-x-requires c = record { tracked_in_bounds = c.loop-low.invariant.first.rows_long; tracked_in_bounds_2 = c.loop-low.invariant.first.counts_long }
-
-pub estimate_at-requires : goal.estimate_at-requires
-estimate_at-requires c = let turn = c.loop-low in record { tracked_in_bounds = turn.invariant.second.rows_long; tracked_in_bounds_2 = turn.invariant.second.counts_long }
 
 pub returns-then-x-estimate_at : goal.returns-then-x-estimate_at
 returns-then-x-estimate_at c =
@@ -34,18 +25,8 @@ returns-then-x-estimate_at c =
     let lower_row = c.lower_row-row in
     let come =
     walks_past_gap lower_row.result turn.invariant lower_row.ensures
-    (λ h. elim c.if-low-row.branch [ then-low-row+else-t-t2 w ↦ w.if-t-t2.false | else-low-row w ↦ absurd (omega arith) ]) in
+    (λ h. elim c.if-low-row.branch [ then-low-row+else-a-b w ↦ w.if-a-b.false | else-low-row w ↦ absurd (omega arith) ]) in
     sym (row_differs come (omega (arith, come.within)) (λ e. c.if-x-estimate_at.true (c.estimate_at-x.ensures ∙ e ∙ sym c.estimate_at.ensures)))
-
-pub place_after-i-requires : goal.place_after-i-requires
-place_after-i-requires c =
-    let turn = c.loop-low in
-    turn.invariant.first.rows_long
-
-pub place_after-j-requires : goal.place_after-j-requires
-place_after-j-requires c =
-    let turn = c.loop-low in
-    turn.invariant.second.rows_long
 
 pub overflow_add-low : goal.overflow_add-low
 overflow_add-low c =
@@ -65,7 +46,7 @@ loop-low-preserved c =
     let lower_row = c.lower_row-row in
     let come =
     walks_past_gap lower_row.result turn.invariant lower_row.ensures
-    (λ h. elim c.if-low-row.branch [ then-low-row+else-t-t2 w ↦ w.if-t-t2.false | else-low-row w ↦ absurd (omega arith) ]) in
+    (λ h. elim c.if-low-row.branch [ then-low-row+else-a-b w ↦ w.if-a-b.false | else-low-row w ↦ absurd (omega arith) ]) in
     rw (c.place_after-j.ensures, c.place_after-i.ensures)
     (walks_past_row come (omega (arith, come.within)) (sym c.estimate_at-x.ensures ∙ c.if-x-estimate_at.false ∙ c.estimate_at.ensures))
 

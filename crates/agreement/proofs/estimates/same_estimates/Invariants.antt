@@ -5,7 +5,7 @@ use Rattle.agreement.proofs.InnerContracts.TwoWalks.{TwoWalks}
 use Rattle.agreement.proofs.estimates.same_estimates.Given as goal
 
 abbrev pub invariant-loop-low : goal.invariant-loop-low
-invariant-loop-low l = TwoWalks l.rows l.counts l.t.tracked l.t.spillover l.rows2 l.counts2 l.t2.tracked l.t2.spillover l.high l.low l.i l.j
+invariant-loop-low l = TwoWalks l.a.rows.now l.a.counts.now l.a.tally.tracked l.a.tally.spillover l.b.rows.now l.b.counts.now l.b.tally.tracked l.b.tally.spillover l.high l.low l.i l.j
 
 abbrev pub decreases-loop-low : goal.decreases-loop-low
 decreases-loop-low l = l.high - l.low
