@@ -75,6 +75,7 @@ pub fn same_estimates(a: Tracked, b: Tracked, high: u32) -> bool
     let mut low = 0;
     let mut i = 0;
     let mut j = 0;
+    // No range or slice is walked: each turn passes as many rows as neither summary tracks.
     while low < high {
         let row = lower_row(a, i, b, j, high);
         if low < row {

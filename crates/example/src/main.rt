@@ -14,6 +14,7 @@ fn print(word: &[u8], number: u32) {
     io::write_all(STDOUT_FILENO, b"\n");
 }
 
+// Prints a refusal's number.
 fn print_refusal(refusal: Refusal) {
     print(b"refused ", refusal.number());
 }

@@ -10,7 +10,8 @@ ghost use Rattle.tracker.specs.Calls.{victims_in};
 use device::Settings;
 use summary::ledger::Ledger;
 
-// A row disturbs its victims, ascending.
+// A row disturbs its victims, ascending. Inlined, as what calls it: behind a reference that is handed on, each number of the memory would be read anew.
+#[inline(always)]
 pub fn disturb_victims<L: Ledger>(s: Settings, t: &mut L, row: u32)
     requires kept { L.kept t.old }
     requires row_in_bank { (s.blast_diameter ≤ 4) × (row < s.rows) × (s.rows ≤ most_rows) × (s.rows ≤ L.bound t.old) }
@@ -25,6 +26,7 @@ pub fn disturb_victims<L: Ledger>(s: Settings, t: &mut L, row: u32)
 
 // A row is activated for so many units: it is dropped if tracked, and each unit disturbs its victims. It is none of them, so no later unit has it to drop. A
 // unit raises no count, and not the spillover, by more than 4.
+#[inline(always)]
 pub fn activate<L: Ledger>(s: Settings, t: &mut L, row: u32, units: u32)
     requires kept { L.kept t.old }
     requires row_in_bank { (s.blast_diameter ≤ 4) × (row < s.rows) × (s.rows ≤ most_rows) × (s.rows ≤ L.bound t.old) }

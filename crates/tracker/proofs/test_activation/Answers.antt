@@ -1,4 +1,5 @@
-use Rattle.std.proofs.Common.{rules, arith}
+-- `tracker::test_activation` meets its contract.
+use Rattle.std.proofs.Common.{rules}
 use Rattle.tracker.proofs.Calls.Ready.{units_fit}
 use Rattle.tracker.proofs.test_activation.Goals as goal
 
