@@ -6,11 +6,7 @@ ghost use Rattle.device.specs.Refusal.{first_failed, refusal_number, outcome};
 ghost use Rattle.device.specs.Acceptance.{settings_tests};
 ghost use Rattle.bound.specs.Totals.{bound_of};
 ghost use Rattle.limit.specs.ByRow.{carried_most, row_figure};
-<<<<<<< HEAD
 ghost use Rattle.rowlimit.specs.Answers.{row_limit_tests, row_limit_answer};
-=======
-ghost use Rattle.rowlimit.specs.Answers.{row_limit_tests, row_limit_answer, position_of};
->>>>>>> 47ae7217c14bee1f0ff02c28e287204c1d098bf0
 
 use device::{Refusal, Settings};
 use state::Position;
@@ -63,42 +59,3 @@ pub fn row_limit(s: Settings, remap: [u32; 16], row: u32, p: Position) -> Result
     test_row_limit(s, remap, row, p)?;
     Ok(figure(s, p.events, device::physical_row(remap, row)))
 }
-<<<<<<< HEAD
-=======
-
-// The same for crate rowlimit_c: the figure, or refusal k as -k. The numbers come singly, as C passes them.
-pub fn row_tracker_row_limit(
-    rows: u32,
-    blast_diameter: u32,
-    volume: u32,
-    counters: u32,
-    interval: u32,
-    window: u32,
-    block: u32,
-    remap: &[u32; 16],
-    row: u32,
-    events: u32,
-    activations: u32,
-    tracked: u32,
-    spillover: u32,
-) -> i64
-    ensures { result ≡ signed (row_limit_answer (settings_of rows blast_diameter volume counters interval window block) remap.now row (position_of events activations tracked spillover)) }
-{
-    let s = Settings {
-        rows,
-        blast_diameter,
-        volume,
-        counters,
-        interval,
-        window,
-        block,
-    };
-    let p = Position {
-        events,
-        activations,
-        tracked,
-        spillover,
-    };
-    bound::signed_number(row_limit(s, *remap, row, p))
-}
->>>>>>> 47ae7217c14bee1f0ff02c28e287204c1d098bf0
