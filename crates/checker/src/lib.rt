@@ -133,7 +133,14 @@ fn check_part(
     ensures departs { IfErr result (λ at. departure trace.now given.now ≡ some at.line) }
 {
     let mut piece = [0u8; PIECE];
-    let part = listing::list_part(k.place, counts, marks, bounds, &trace[k.taken..], &mut piece);
+    let part = listing::list_part(
+        k.place,
+        counts,
+        marks,
+        bounds,
+        &trace[k.taken..],
+        &mut piece,
+    );
     match compare(&piece[..part.end], given, k.passed, k.lines) {
         Ok(lines) => Ok(Checking {
             place: part.place,

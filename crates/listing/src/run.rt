@@ -43,7 +43,10 @@ pub fn run_activations(
     let mut activations = p.activations;
     let mut tally = p.tally;
     let mut at = from;
-    while let Some(row) = trace::activation_row(text, at) && row < s.rows && activations < s.interval {
+    while let Some(row) = trace::activation_row(text, at)
+        && row < s.rows
+        && activations < s.interval
+    {
         tally = engine::activate(
             s.rows,
             s.blast_diameter,

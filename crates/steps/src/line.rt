@@ -54,7 +54,10 @@ fn test_activation(p: Place, row: u32, hold: u32) -> Result<(), Refusal>
     test(p.active, Refusal::Line)?;
     test(row < p.settings.rows, Refusal::Row)?;
     test(device::hold_allowed(hold), Refusal::Hold)?;
-    test(p.activations + hold <= p.settings.interval, Refusal::IntervalFull)
+    test(
+        p.activations + hold <= p.settings.interval,
+        Refusal::IntervalFull,
+    )
 }
 
 // An activation that no test refuses.
