@@ -7,13 +7,14 @@ use native.Mathlib.Omega.{arith}
 use lib.ListN.{length, take, replicate, length-replicate}
 use Rattle.laws.proofs.Cases.{split}
 use Rattle.device.specs.declared.Settings.{Settings}
-use Rattle.device.specs.Refusal.{first_failed, refuse}
+use Rattle.device.specs.declared.refusal.Refusal.{Refusal}
+use Rattle.device.specs.Refusal.{first_failed, refuse, number}
 use Rattle.device.specs.Remap.{physical}
 use Rattle.device.specs.Hold.{repeated}
 use Rattle.device.specs.Victims.{victims}
 use Rattle.device.proofs.Acceptance.{accepted_settings}
 use Rattle.device.proofs.Remap.{physical_below}
-use Rattle.device.proofs.Tests.{refuse_passed}
+use Rattle.device.proofs.Tests.{refuse_passed, number_not_0}
 use Rattle.summary.specs.Steps.{Summary, activation, event}
 use Rattle.summary.specs.Rules.{Room, RoomFor}
 use Rattle.summary.specs.InnerContracts.{PickedFrom}
@@ -65,12 +66,12 @@ module _ (p : Place) (counts : List ℕ) (ready : Ready (memory p counts)) where
       activation_refused_with r.0 p.remap row hold ∙ rw (r.1, e)
 
   -- a refused activation: the tracker, if one stands, is as it was
-  pub activation_refused_step : (line row hold k : ℕ) → k ≡ activation_refusal p row hold → (k ≡ 0 → ⊥) → record { prints = refusal_line line k; tracker = tracker_in p counts } ≡ record_step line p.loaded (tracker_in p counts) (Activate row hold)
+  pub activation_refused_step : (line row hold : ℕ) (r : Refusal) → number r ≡ activation_refusal p row hold → record { prints = refusal_line line (number r); tracker = tracker_in p counts } ≡ record_step line p.loaded (tracker_in p counts) (Activate row hold)
   unfolding activation_refusal refuse record_step_to refused_step activation_step
-  activation_refused_step line row hold k e other =
+  activation_refused_step line row hold r e =
       split p.active
       (λ on.
-      rw (tracker_active p counts on, ← activation_refused p.settings p.remap (state_in p counts) row hold k (e ∙ sym (tests_fail on row hold)) other, ← answered_refusal line k [] other))
+      rw (tracker_active p counts on, ← activation_refused p.settings p.remap (state_in p counts) row hold r (e ∙ sym (tests_fail on row hold)), ← answered_refusal line (number r) [] (number_not_0 r)))
       (λ off. rw (tracker_inactive p counts off, (rw off at e)))
 
   -- an accepted one: what it asks for is there, it prints nothing, and what the tables hold then is what it leaves

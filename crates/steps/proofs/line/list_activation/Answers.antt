@@ -1,7 +1,6 @@
 -- `steps::line::list_activation` meets its contract: refused, the tracker and the tables are as they were.
 use mathlib.Core.Path.{sym}
 use native.Mathlib.Omega.{arith}
-use Rattle.device.proofs.Tests.{number_not_0}
 use Rattle.columns.proofs.Output.{prints_nothing}
 use Rattle.steps.proofs.Memory.Tracker.{leaves_unmoved, banked_unmoved}
 use Rattle.steps.proofs.Steps.CallLines.{activations_few, activation_refused_step, activation_prints}
@@ -26,7 +25,7 @@ returns-in-Ok c =
 pub returns-in-Err : goal.returns-in-Err
 returns-in-Err c =
     let r = c.list_refusal.ensures in record {
-      lists_line = rw (← activation_refused_step c.args.p c.args.counts.now c.requires.0 c.args.line c.args.row c.args.hold _ c.in-Err.ensures (number_not_0 c.in-Err.refusal))
+      lists_line = rw (← activation_refused_step c.args.p c.args.counts.now c.requires.0 c.args.line c.args.row c.args.hold c.in-Err.refusal c.in-Err.ensures)
           (leaves_unmoved c.args.p c.args.counts.now r.place_value _ r.prints_into);
       banked_in = banked_unmoved c.args.p c.args.counts.now r.place_value c.requires.1;
     }
