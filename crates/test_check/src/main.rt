@@ -10,7 +10,7 @@ const STDIN_FILENO: i32 = 0;
 
 const STDOUT_FILENO: i32 = 1;
 
-// The place of the first byte 0, or the text's end. Written with `position` the check of this crate did not end within 10 minutes.
+// The place of the first byte 0, or the text's end.
 fn first_zero(text: &[u8]) -> usize
     ensures { result ≤ length text.now }
 {
