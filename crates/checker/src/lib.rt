@@ -59,6 +59,7 @@ fn lines_ended(text: &[u8], lines: u64) -> u64
     requires { (length text.now ≤ 1000000000) × (lines + length text.now ≤ 18446744073709551615) }
     ensures { Ok result ≡ compared lines text.now text.now }
 {
+    // In 32 bits, so that the compiler counts several at once.
     let mut ended: u32 = 0;
     for b in text {
         ended += (*b == b'\n') as u32;
@@ -71,6 +72,7 @@ fn compare_bytes(required: &[u8], given: &[u8], from: usize, lines: u64) -> Resu
     requires { (from ≤ length given.now) × (lines + (length given.now - from) ≤ 18446744073709551615) }
     ensures { result ≡ compared lines required.now (drop from given.now) }
 {
+    // The place in the text is counted: of two walked together the shorter would end both, and which of them ends decides.
     let mut at = from;
     let mut ended = lines;
     for b in required {

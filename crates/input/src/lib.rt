@@ -40,6 +40,14 @@ pub enum Input {
 
 const NO_ERROR: Errno = Errno(0);
 
+// What comes next in a run of reads: another read, or the end, where the input or what it is read for ended, or the read failed.
+#[derive(Clone, Copy, PartialEq, Eq)]
+pub enum Next {
+    More,
+    Done,
+    Broken,
+}
+
 // The system's reasons for a name that is not UTF-8, of which the library opens no file, and for a read where none is open.
 const NOT_TEXT: Errno = Errno(84);
 

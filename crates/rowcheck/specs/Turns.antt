@@ -5,7 +5,7 @@ use Rattle.steps.specs.Memory.{start_place}
 use Rattle.listing.specs.Chunks.{line_room}
 use Rattle.input.specs.declared.Input.{Input}
 use Rattle.input.specs.declared.Input.TheVariants.{Bytes, End, Failed}
-use Rattle.turns.specs.declared.Next.TheVariants.{More}
+use Rattle.input.specs.declared.Next.TheVariants.{More}
 use Rattle.input.specs.AtHand.{Within, Came, brought}
 use Rattle.turns.specs.Turns.{Turned, turn_of, first_turned}
 use Rattle.turns.specs.Turns.{Stepped as TurnStepped}

@@ -8,7 +8,7 @@ ghost use Rattle.std.specs.Prelude.{◌≡◌, ◌&&◌, [], ◌+◌, ◌≤◌,
 ghost use Rattle.aids.specs.Marks.{Marked};
 ghost use Rattle.aids.specs.Bounds.{all_bounds};
 ghost use Rattle.input.specs.declared.Input.TheVariants.{End};
-ghost use Rattle.turns.specs.Next.{reads_on, has_failed};
+ghost use Rattle.input.specs.Next.{reads_on, has_failed};
 ghost use Rattle.turns.specs.Turns.{turn_before, turn_left};
 ghost use Rattle.turns.specs.Turns.{Stepped as TurnStepped};
 ghost use Rattle.turns.specs.InnerContracts.{CarriedIn};
@@ -16,9 +16,9 @@ ghost use Rattle.rowcheck.specs.Turns.{open_so_far, behind_trace, given_beside, 
 ghost use Rattle.rowcheck.specs.Answers.{has_answer};
 ghost use Rattle.rowcheck.specs.InnerContracts.{Comparable, most_lines, ListingChecked, SteppedIn, RanIn, RanFresh};
 
-use input::{Errno, File, Input};
+use input::{Errno, File, Input, Next};
 use std::env::{Env, FillError};
-use turns::{Next, Turn};
+use turns::Turn;
 
 // The tracker's tables: a count for every row of the largest bank, a word of marks for each 64 of them and one for each 64 of these, and as many bounds.
 const ROWS: usize = 262_144;

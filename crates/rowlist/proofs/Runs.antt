@@ -9,7 +9,7 @@ use Rattle.input.specs.AtHand.{brought}
 use Rattle.input.specs.Runs.{Ran}
 use Rattle.input.proofs.Runs.{Steps, steps_further, ran_written}
 use Rattle.turns.specs.declared.Turn.{Turn}
-use Rattle.turns.specs.Next.{reads_on}
+use Rattle.input.specs.Next.{reads_on}
 use Rattle.turns.specs.Turns.{Turned, turn_in, more_in, Stepped, Chain, one_more}
 use Rattle.turns.specs.InnerContracts.{Carried}
 

@@ -6,8 +6,8 @@ ghost use Rattle.aids.specs.Marks.{Marked};
 ghost use Rattle.aids.specs.Bounds.{all_bounds};
 ghost use Rattle.rowlist.specs.Runs.{RanIn};
 
-use input::{Errno, File};
-use turns::{Next, Turn};
+use input::{Errno, File, Next};
+use turns::Turn;
 
 // A count for every row of the largest bank, a word of marks for each 64 of them and one for each 64 of these, and as many bounds; the bytes of a read,
 // and room for what they print.

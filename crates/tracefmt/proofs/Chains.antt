@@ -17,7 +17,7 @@ use Rattle.input.specs.declared.Input.TheVariants.{Bytes, End, Failed}
 use Rattle.input.specs.AtHand.{Came, brought}
 use Rattle.tracefmt.specs.declared.Place.{Place}
 use Rattle.tracefmt.specs.Rewriting.{Progress, next, next_by, end_of}
-use Rattle.tracefmt.specs.Next.{reads_on, has_failed}
+use Rattle.input.specs.Next.{reads_on, has_failed}
 use Rattle.tracefmt.specs.Turns.{refusal_of, progress_of, Turned, State, Chain, none_yet, one_more, Turns, goes_on, stops, ends}
 
 -- turns behind a state of a chain

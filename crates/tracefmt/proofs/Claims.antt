@@ -25,7 +25,7 @@ use Rattle.input.specs.declared.Input.TheVariants.{Bytes, End, Failed}
 use Rattle.input.specs.AtHand.{Within, Came, brought}
 use Rattle.input.proofs.AtHand.{at_hand}
 use Rattle.tracefmt.specs.Rewriting.{Progress, start, passed, rewriting, after, end_of, fault_line, fault_said}
-use Rattle.tracefmt.specs.Next.{reads_on, has_failed}
+use Rattle.input.specs.Next.{reads_on, has_failed}
 use Rattle.tracefmt.specs.Turns.{refusal_of, progress_of, Moves, Turned, Held, State, first_turn, first_state, Stepped, Chain, none_yet, one_more, WholeFrom, Turns, goes_on, stops, ends}
 use Rattle.tracefmt.specs.Claims.{RewrittenUpToFault, TurnsRewritten, ChainTurns, ChainRewritten, RunRewritten, ChainsExist, RewrittenAgain}
 use Rattle.tracefmt.proofs.Faults.{after_stopped, rewriting_stopped, rewritten_before, passed_fault, passed_count}
@@ -34,7 +34,7 @@ use Rattle.tracefmt.proofs.Ends.{rewriting_end, after_end}
 use Rattle.tracefmt.proofs.Chains.{chain_few, chain_goes_on, chain_ends, place_at, place_back, refusal_at_end}
 use Rattle.spelling.specs.Answers.{standing_of}
 use Rattle.std.specs.Prelude.{None}
-use Rattle.tracefmt.specs.declared.Next.TheVariants.{More, Done}
+use Rattle.input.specs.declared.Next.TheVariants.{More, Done}
 
 said_of_fault : (os : List (Outcome Record)) → fault_line (passed start os) ≡ fault_said os
 unfolding fault_line fault_said start

@@ -4,7 +4,6 @@ pub mod OneLine
 pub mod Lines
 pub mod WholePart
 pub mod Ends
-pub mod ReadsOn
 pub mod Runs
 pub mod Chains
 pub mod Claims

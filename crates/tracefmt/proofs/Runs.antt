@@ -9,7 +9,7 @@ use Rattle.input.specs.AtHand.{brought}
 use Rattle.input.specs.Runs.{Ran}
 use Rattle.input.proofs.Runs.{Steps, steps_further, ran_written}
 use Rattle.tracefmt.specs.declared.Turn.{Turn}
-use Rattle.tracefmt.specs.Next.{reads_on}
+use Rattle.input.specs.Next.{reads_on}
 use Rattle.tracefmt.specs.Turns.{State, first_turn, Stepped, Chain, one_more, more_in}
 use Rattle.tracefmt.specs.InnerContracts.{Carried}
 

@@ -7,7 +7,7 @@ use Rattle.trace.specs.Texts.{outcomes, joined, whole}
 use Rattle.canonical.specs.Spelling.{spelling}
 use Rattle.canonical.specs.Writing.{first_fault, before_fault}
 use Rattle.tracefmt.specs.Rewriting.{Progress, start, rewritten, passed, fault_line, fault_said}
-use Rattle.tracefmt.specs.Next.{reads_on, has_failed}
+use Rattle.input.specs.Next.{reads_on, has_failed}
 use Rattle.tracefmt.specs.Turns.{progress_of, State, first_state, Chain, RanFrom, WholeFrom, Turns}
 
 -- what lines write is 'the spelling of the lines before' the first faulty one, and what is said is of that one

@@ -12,10 +12,10 @@ use Rattle.input.specs.declared.Input.TheVariants.{Bytes, End, Failed}
 use Rattle.input.specs.AtHand.{Within, Came, brought}
 use Rattle.input.specs.Runs.{Ran, Whole}
 use Rattle.tracefmt.specs.declared.Place.{Place}
-use Rattle.tracefmt.specs.declared.Next.TheVariants.{More}
+use Rattle.input.specs.declared.Next.TheVariants.{More}
 use Rattle.tracefmt.specs.declared.Turn.{Turn}
 use Rattle.tracefmt.specs.declared.Unwritten.{Unwritten}
-use Rattle.tracefmt.specs.Next.{reads_on, has_failed}
+use Rattle.input.specs.Next.{reads_on, has_failed}
 use Rattle.tracefmt.specs.Rewriting.{Progress, rewriting, after, end_of}
 
 -- the number of a refusal, 0 where there is none

@@ -7,13 +7,13 @@ ghost use Rattle.trace.specs.Reading.{said};
 ghost use Rattle.columns.specs.Output.{PrintsInto};
 ghost use Rattle.canonical.specs.Spelling.{answer_spelling};
 ghost use Rattle.tracefmt.specs.Rewriting.{next, writes, end_of, fault_line};
-ghost use Rattle.tracefmt.specs.Next.{reads_on, has_failed};
+ghost use Rattle.input.specs.Next.{reads_on, has_failed};
 ghost use Rattle.tracefmt.specs.Turns.{progress_of, Rewrites, Moves, Readable, TurnLeaves, first_turn, Stepped, state_before, state_left, RanIn};
 ghost use Rattle.tracefmt.specs.InnerContracts.{CarriedIn};
 
 use columns::LINES;
 use device::Refusal;
-use input::{Errno, File, Input};
+use input::{Errno, File, Input, Next};
 use trace::Read;
 
 // The bytes of a read, and of what they write: no line's spelling is longer than the line.
@@ -49,14 +49,6 @@ struct Chunk {
     place: Place,
     end: usize,
     kept: usize,
-}
-
-// What comes next: another read, or the end of the run, where the input ended, a line was faulty, or the read failed.
-#[derive(Clone, Copy, PartialEq, Eq)]
-enum Next {
-    More,
-    Done,
-    Broken,
 }
 
 // What lies between two reads left: where the rewriting is, how many bytes are kept at the text's front and how many are to be written, and what

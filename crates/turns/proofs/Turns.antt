@@ -18,7 +18,7 @@ use Rattle.listing.proofs.Chunks.LastLine.{length_last_line}
 use Rattle.input.specs.declared.Input.{Input}
 use Rattle.input.specs.declared.Input.TheVariants.{Bytes, End, Failed}
 use Rattle.input.specs.AtHand.{Within}
-use Rattle.turns.specs.declared.Next.TheVariants.{More}
+use Rattle.input.specs.declared.Next.TheVariants.{More}
 use Rattle.turns.specs.Turns.{Turned, turn_of}
 use Rattle.turns.specs.InnerContracts.{Carried}
 

@@ -8,7 +8,7 @@ use Rattle.input.specs.declared.Input.{Input}
 use Rattle.input.specs.declared.Input.TheVariants.{Bytes, End, Failed}
 use Rattle.input.specs.AtHand.{Within, Came, brought}
 use Rattle.turns.specs.declared.Turn.{Turn}
-use Rattle.turns.specs.Next.{reads_on, has_failed}
+use Rattle.input.specs.Next.{reads_on, has_failed}
 
 -- what lies between two reads leaves: memory, text and buffer, how many bytes are kept and how many are to be written, whether to read again, and whether the
 -- read failed

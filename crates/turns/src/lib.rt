@@ -4,19 +4,11 @@
 ghost use Rattle.std.specs.Prelude.{◌≡◌};
 ghost use Rattle.steps.specs.Memory.{memory_of, start_place, Ready, BankedIn};
 ghost use Rattle.turns.specs.Turns.{Readable, turn_from, turn_before, turn_left, Stepped};
-ghost use Rattle.turns.specs.declared.Next.TheVariants.{More};
+ghost use Rattle.input.specs.declared.Next.TheVariants.{More};
 ghost use Rattle.turns.specs.InnerContracts.{CarriedIn};
 
-use input::{File, Input};
+use input::{File, Input, Next};
 use steps::Place;
-
-// What comes next: another read, or the end of the run, where the input ended or the read failed.
-#[derive(Clone, Copy, PartialEq, Eq)]
-pub enum Next {
-    More,
-    Done,
-    Broken,
-}
 
 // What lies between two reads left: where the listing is, how many bytes are kept at the text's front, how many are to be written, and what comes next.
 #[derive(Clone, Copy)]

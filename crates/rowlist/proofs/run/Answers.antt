@@ -4,7 +4,7 @@ use mathlib.Core.List.{[]}
 use native.Mathlib.Omega.{arith}
 use Rattle.laws.proofs.Cases.{clash}
 use Rattle.input.proofs.Runs.{ran_unwritten}
-use Rattle.turns.proofs.ReadsOn.{more, no_more}
+use Rattle.input.proofs.ReadsOn.{more, no_more}
 use Rattle.turns.proofs.Turns.{carried_first}
 use Rattle.turns.specs.Turns.{first_turned, none_yet, more_in}
 use Rattle.rowlist.proofs.Runs.{goes_further, goes_no_further}

@@ -5,7 +5,7 @@ use native.Mathlib.Omega.{arith}
 use Rattle.laws.proofs.Cases.{clash}
 use Rattle.input.proofs.Runs.{ran_unwritten}
 use Rattle.tracefmt.specs.Turns.{first_state, none_yet, more_in}
-use Rattle.tracefmt.proofs.ReadsOn.{more, no_more}
+use Rattle.input.proofs.ReadsOn.{more, no_more}
 use Rattle.tracefmt.proofs.Runs.{carried_first, goes_further, goes_no_further}
 use Rattle.tracefmt.proofs.run.Goals as goal
 

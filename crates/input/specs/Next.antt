@@ -1,7 +1,7 @@
 -- What comes next, by two questions.
 use Rattle.std.specs.Prelude.{Bool, true, false}
-use Rattle.tracefmt.specs.declared.Next.{Next}
-use Rattle.tracefmt.specs.declared.Next.TheVariants.{More, Done, Broken}
+use Rattle.input.specs.declared.Next.{Next}
+use Rattle.input.specs.declared.Next.TheVariants.{More, Done, Broken}
 
 -- whether there is more to read
 abbrev pub reads_on : Next → Bool

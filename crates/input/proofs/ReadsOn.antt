@@ -3,10 +3,10 @@ use mathlib.Core.Path.{◌≡◌, refl, ◌∙◌}
 use mathlib.Core.Bool.{true, false, not}
 use borrow.Author.Tests.{not-true, not-false}
 use denote.Enum.Bare.{sameb}
-use Rattle.turns.specs.contracts.Next.{the_type}
-use Rattle.turns.specs.declared.Next.{Next}
-use Rattle.turns.specs.declared.Next.TheVariants.{More, Done, Broken}
-use Rattle.turns.specs.Next.{reads_on}
+use Rattle.input.specs.contracts.Next.{the_type}
+use Rattle.input.specs.declared.Next.{Next}
+use Rattle.input.specs.declared.Next.TheVariants.{More, Done, Broken}
+use Rattle.input.specs.Next.{reads_on}
 
 same_more : (next : Next) → reads_on next ≡ sameb the_type next More
 same_more More = refl
