@@ -1,5 +1,4 @@
--- Laws of what a read comes to, of whether there is another, and of runs.
+-- Laws of what a read comes to, of whether there is more to read, and of runs.
 pub mod AtHand
-pub mod Again
 pub mod ReadsOn
 pub mod Runs

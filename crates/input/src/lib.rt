@@ -1,7 +1,7 @@
 // Files that are open for reading, and what a read behind bytes that are kept comes to.
 #![tactic(auto)]
 
-ghost use Rattle.std.specs.Prelude.{true, false, ◌≡◌, ◌&&◌, ◌+◌, ◌≤◌, ltb, length, IfOk, is_some};
+ghost use Rattle.std.specs.Prelude.{true, false, ◌≡◌, ◌+◌, ◌≤◌, length, IfOk, is_some};
 ghost use Rattle.std.specs.Io.{ReadsAtMost};
 ghost use Rattle.std.specs.Str.{IsUtf8};
 ghost use Rattle.input.specs.AtHand.{input_of, Came};
@@ -183,13 +183,6 @@ pub fn reason(file: &File) -> Errno
     ensures { result ≡ file.now.reason }
 {
     file.reason
-}
-
-// Whether a program reads again: there is more to read, and reads are left.
-pub fn reads_again(more: bool, left: u64) -> bool
-    ensures { result ≡ more && ltb 0 left }
-{
-    more && 0 < left
 }
 
 // Words on standard error, where they can be written.
