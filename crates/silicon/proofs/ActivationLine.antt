@@ -10,9 +10,9 @@ use borrow.Author.Tests.{eqb-true, eqb-false, eq-eqb}
 use lib.ListN.{length}
 use Rattle.laws.proofs.Cases.{split}
 use Rattle.device.specs.Refusal.{first_failed}
-use Rattle.state.specs.State.{state_of}
-use Rattle.tracker.specs.Calls.{ActivationCall, activation_tests, activation_to, activation_on}
-use Rattle.tracker.proofs.Calls.Outcomes.{activation_refused, activation_leaves}
+use Rattle.state.specs.State.{State, state_of}
+use Rattle.tracker.specs.Calls.{ActivationCall, activation_tests, kept_unless, activation_to, activation_on}
+use Rattle.tracker.proofs.Calls.Outcomes.{activation_leaves}
 use Rattle.limit.specs.Exact.{Happened, activated}
 use Rattle.limit.specs.Run.{activation_of, left_by, told_by}
 use Rattle.columns.specs.Output.{refusal_line}
@@ -31,12 +31,22 @@ unfolding answered
 answered_nothing number zero e = refl
 answered_nothing number (suc k) e = absurd (refusal_prints number (suc k) e)
 
+-- what came is kept where a call is refused
+kept : (k : ℕ) (came made : State) → (k ≡ 0 → ⊥) → kept_unless k came made ≡ came
+unfolding kept_unless
+kept zero came made h = absurd (h refl)
+kept (suc k) came made h = refl
+
 module _ {Own : Type 0} (t : Tracker) (did : List Happened) (m : Matched Own t did) (row hold : ℕ) where
   abbrev k : ℕ
   k = first_failed (activation_tests t.settings t.remap t.state row hold)
 
   abbrev call : ActivationCall
   call = activation_on t.settings t.remap t.state row hold
+
+  refused_keeps : (k ≡ 0 → ⊥) → call.state ≡ t.state
+  unfolding activation_to
+  refused_keeps other = kept k t.state _ other
 
   accepts_same : call.accepts ≡ takes (beside t did) row hold
   unfolding activation_to
@@ -59,10 +69,8 @@ module _ {Own : Type 0} (t : Tracker) (did : List Happened) (m : Matched Own t d
       split (takes (beside t did) row hold)
       accepted_stands
       (λ off.
-      let other = eqb-false k 0 (accepts_taken m row hold ∙ off) in
-      let kept : call.state ≡ t.state =
-      sym (ap (λ (c : ActivationCall). c.state) (activation_refused t.settings t.remap t.state row hold k refl other)) in
-      rw (off, kept) (both t did m))
+      let stays = refused_keeps (eqb-false k 0 (accepts_taken m row hold ∙ off)) in
+      rw (off, stays) (both t did m))
 
   -- the silicon takes those that print nothing
   pub taken_prints : (number : ℕ) → takes (beside t did) row hold ≡ true → (activation_step number t.settings t.remap call).prints ≡ []
