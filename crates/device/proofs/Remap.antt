@@ -3,8 +3,9 @@ use mathlib.Core.Path.{◌≡◌, refl, sym, subst}
 use mathlib.Core.Bool.{and-false, Bool, true, false, cond}
 use mathlib.Core.List.{List}
 use mathlib.Core.Logic.{⊎_elim}
-use Prim.Native.Nat.{ℕ, zero, suc, ◌+◌, ◌%◌, ◌≤◌, ◌<◌}
+use Prim.Native.Nat.{ℕ, zero, suc, ◌+◌, ◌-◌, ◌%◌, ◌≤◌, ◌<◌}
 use native.Mathlib.Nat.{mod-lt, zero-add}
+use native.Mathlib.Numerals.{sub-one}
 use native.Mathlib.Omega.{arith}
 use borrow.Author.Tests.{eq-eqb, ne_eqb, eqb-true, eqb-false, ltb-true, ltb-false, lt-ltb, le-ltb}
 use lib.Dec.{eqb, ltb, lit<}
@@ -15,6 +16,21 @@ use Rattle.std.proofs.lemmas.List.FromFn.{get_or-range_with_len, length-range_wi
 use Rattle.laws.proofs.Cases.{split, clash, and_both, le_or_lt}
 use Rattle.device.specs.Remap.{own_remap, occurs_in, all_occur, remap_allowed, physical}
 use Rattle.device.proofs.Occurrences.{hit, hit_le}
+
+-- what a search from the last place down finds, by the place it looks at
+pub occurs_here : (i k : ℕ) (v : List ℕ) → 0 < i → get_or v (i - 1) 0 ≡ k → occurs_in i v k ≡ true
+unfolding occurs_in
+occurs_here zero k v h e = absurd (omega arith)
+occurs_here (suc i) k v h e = let here : get_or v i 0 ≡ k = rw sub-one at e in rw (eq-eqb _ _ here)
+
+pub occurs_before : (i k : ℕ) (v : List ℕ) → 0 < i → (get_or v (i - 1) 0 ≡ k → ⊥) → occurs_in i v k ≡ occurs_in (i - 1) v k
+unfolding occurs_in
+occurs_before zero k v h e = absurd (omega arith)
+occurs_before (suc i) k v h e = let other : (get_or v i 0 ≡ k → ⊥) = rw sub-one at e in rw (ne_eqb _ _ other, sub-one)
+
+pub occurs_nowhere : (i k : ℕ) (v : List ℕ) → i ≡ 0 → occurs_in i v k ≡ false
+unfolding occurs_in
+occurs_nowhere i k v e = rw e
 
 -- what `all` says of each number below n
 all_there : (n : ℕ) (v : List ℕ) → ((k : ℕ) → k < n → occurs_in 16 v k ≡ true) → all_occur n v ≡ true
@@ -30,6 +46,19 @@ one_missing (suc n) k v h missing =
     (λ last. let same : k ≡ n = omega arith in rw (rw same at missing))
     (λ before. rw (one_missing n k v before missing) (and-false (occurs_in 16 v n)))
     (le_or_lt n k)
+
+-- the test from the highest number down
+pub all_missing : (n : ℕ) (v : List ℕ) → 0 < n → occurs_in 16 v (n - 1) ≡ false → all_occur n v ≡ false
+all_missing n v h e = one_missing n (n - 1) v (omega arith) e
+
+pub all_before : (n : ℕ) (v : List ℕ) → 0 < n → occurs_in 16 v (n - 1) ≡ true → all_occur n v ≡ all_occur (n - 1) v
+unfolding all_occur
+all_before zero v h e = absurd (omega arith)
+all_before (suc n) v h e = let here : occurs_in 16 v n ≡ true = rw sub-one at e in rw (here, sub-one)
+
+pub all_of_none : (n : ℕ) (v : List ℕ) → n ≡ 0 → all_occur n v ≡ true
+unfolding all_occur
+all_of_none n v e = rw e
 
 pub all_said : (n : ℕ) (b : Bool) (v : List ℕ) →
     MatchBool b
