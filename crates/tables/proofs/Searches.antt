@@ -24,10 +24,33 @@ pub equal_place_miss : (x y : ℕ) (ys : List ℕ) → (y ≡ x → ⊥) → equ
 unfolding equal_place
 equal_place_miss x y ys e = rw (ne_eqb y x e, add-one) refl
 
+-- the same at a place of a list
+pub equal_place_here : (x : ℕ) (xs : List ℕ) (i : ℕ) → i < length xs → get_or xs i 0 ≡ x → equal_place x (drop i xs) ≡ 0
+equal_place_here x xs i h e = rw (drop-cons xs i 0 h) (equal_place_hit x (get_or xs i 0) (drop (suc i) xs) e)
+
+pub equal_place_next : (x : ℕ) (xs : List ℕ) (i : ℕ) → i < length xs → (get_or xs i 0 ≡ x → ⊥) → equal_place x (drop i xs) ≡ suc (equal_place x (drop (i + 1) xs))
+unfolding equal_place
+equal_place_next x xs i h e = rw (drop-cons xs i 0 h, ne_eqb (get_or xs i 0) x e, add-one) refl
+
 pub lower_place_le : (x : ℕ) (xs : List ℕ) → lower_place x xs ≤ length xs
 unfolding lower_place
 lower_place_le x [] = omega arith
 lower_place_le x (y ∷ ys) = split (ltb y x) (λ on. rw on (omega (arith, lower_place_le x ys))) (λ off. rw off (omega arith))
+
+-- what stands before the place is below x
+pub lower_before : (x : ℕ) (xs : List ℕ) (j : ℕ) → j < lower_place x xs → get_or xs j 0 < x
+unfolding lower_place
+lower_before x [] j h = absurd (omega arith)
+lower_before x (y ∷ ys) zero h = split (ltb y x) (λ on. ltb-true y x on) (λ off. let none = rw off at h in absurd (omega arith))
+lower_before x (y ∷ ys) (suc j) h =
+    split (ltb y x) (λ on. let more = rw on at h in lower_before x ys j (omega arith)) (λ off. let none = rw off at h in absurd (omega arith))
+
+-- what stands at the place is not below x
+pub lower_at : (x : ℕ) (xs : List ℕ) → lower_place x xs < length xs → x ≤ get_or xs (lower_place x xs) 0
+unfolding lower_place
+lower_at x [] h = absurd (omega arith)
+lower_at x (y ∷ ys) h =
+    split (ltb y x) (λ on. let more = rw on at h in rw on (lower_at x ys (omega arith))) (λ off. rw off (ltb-false y x off))
 
 pub highest_place_start : (xs : List ℕ) → 0 < length xs → highest_from 0 (get_or xs 0 0) 1 (drop 1 xs) ≡ highest_place xs
 unfolding highest_place
