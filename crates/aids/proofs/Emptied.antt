@@ -1,10 +1,11 @@
--- Counts set to 0 from one place on and below another (`Emptied`): a part, a part more, and a part in which none stood.
+-- Counts set to 0 from one place on and below another (`Emptied`): a place more, a part, a part more, and a part in which none stood.
 use mathlib.Core.Path.{◌≡◌, refl, ap, ◌∙◌}
 use mathlib.Core.Logic.{⊎_elim}
 use mathlib.Core.List.{List, ◌++◌}
 use Prim.Native.Nat.{ℕ, suc, ◌+◌, ◌-◌, ◌*◌, ◌/◌, ◌≤◌, ◌<◌}
 use native.Mathlib.Omega.{arith}
-use lib.ListN.{length, get_or, replicate, take, drop, length-replicate, length-drop, length-append, get_or-eq_default}
+use lib.ListN.{length, get_or, set, replicate, take, drop, length-set, length-replicate, length-drop, length-append, get_or-eq_default}
+use lib.Seq.{get_or-set_same, get_or-set_other}
 use Rattle.std.proofs.lemmas.List.{get_or-take, get_or-drop, get_or_append_left, get_or-append_right, get_or-replicate, length-take-le}
 use Rattle.laws.proofs.Cases.{le_or_lt, same_or_other}
 use Rattle.device.specs.Acceptance.{most_rows}
@@ -13,6 +14,20 @@ use Rattle.aids.proofs.Stores.{word_positive}
 
 pub emptied_none : (xs : List ℕ) (from to : ℕ) → to ≤ from → Emptied xs xs from to
 emptied_none xs from to h = record { long = refl; zero_at = λ i l u. absurd (omega arith); before = λ i l. refl; behind = λ i l. refl }
+
+-- a place more
+pub emptied_more : {xs ys : List ℕ} {from to : ℕ} → Emptied xs ys from to → from ≤ to → to < length xs → (next : ℕ) → next ≡ to + 1 → Emptied xs (set ys to 0) from next
+emptied_more {xs} {ys} {from} {to} e h u next q =
+    record {
+      long = length-set ys to 0 ∙ e.long;
+      zero_at = λ i l v.
+          ⊎_elim
+          (λ same. rw same (get_or-set_same ys to 0 0 (omega (arith, e.long))))
+          (λ other. get_or-set_other ys to i 0 0 other ∙ e.zero_at i l (omega arith))
+          (same_or_other i to);
+      before = λ i l. get_or-set_other ys to i 0 0 (λ z. omega arith) ∙ e.before i l;
+      behind = λ i l. get_or-set_other ys to i 0 0 (λ z. omega arith) ∙ e.behind i (omega arith);
+    }
 
 -- a part is put back that holds 0 alone
 pub emptied_part : (xs ys : List ℕ) (from n to : ℕ) → from + n ≡ to → to ≤ length xs → ys ≡ replicate (length (take n (drop from xs))) 0 → Emptied xs (take from xs ++ (ys ++ drop n (drop from xs))) from to
