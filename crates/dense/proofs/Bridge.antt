@@ -1,5 +1,5 @@
 -- `Bank`: the summary in its table breaks no rule of a summary, and a bank from which rows were dropped is one.
-use mathlib.Core.Path.{ap}
+use mathlib.Core.Path.{◌≡◌, sym, ap, ◌∙◌}
 use mathlib.Core.List.{List, [], ◌∷◌}
 use Prim.Native.Nat.{ℕ, zero, suc, ◌≤◌, ◌<◌}
 use native.Mathlib.Omega.{arith}
@@ -52,3 +52,14 @@ bank_dropped_under names {counts = counts} b l capped =
 -- or stay as they were
 pub bank_dropped : (names : List ℕ) {rows counters : ℕ} {counts marks bounds : List ℕ} {t : Tally} → Bank rows counters counts marks bounds t → {counts' marks' : List ℕ} {t' : Tally} → Left (drop_rows names (dense counts t.spillover)) counts counts' marks' t' → Turned rows counters (drop_rows names (dense counts t.spillover)) counts' marks' bounds t'
 bank_dropped names b l = bank_dropped_under names b l (capped_fewer b.capped l.fewer.less)
+
+-- two banks' tables have the same lengths
+module _ {rows counters : ℕ} {counts marks bounds : List ℕ} {t : Tally} (b : Bank rows counters counts marks bounds t) {counts' marks' bounds' : List ℕ} {t' : Tally} (b' : Bank rows counters counts' marks' bounds' t') where
+  pub same_counts : length counts' ≡ length counts
+  same_counts = b'.kept.marked.counts_long ∙ sym b.kept.marked.counts_long
+
+  pub same_marks : length marks' ≡ length marks
+  same_marks = b'.kept.marked.marks_long ∙ sym b.kept.marked.marks_long
+
+  pub same_bounds : length bounds' ≡ length bounds
+  same_bounds = b'.capped.nested.bounds_long ∙ sym b.capped.nested.bounds_long

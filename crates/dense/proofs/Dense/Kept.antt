@@ -27,6 +27,11 @@ at_first s [] h = absurd (omega arith)
 at_first s (c ∷ cs) h =
     split (eqb c s) (λ on. rw on (eqb-true c s on)) (λ off. rw off (at_first s cs (omega (arith, rw off at h))))
 
+pub equal_place_le : (s : ℕ) (cs : List ℕ) → equal_place s cs ≤ length cs
+unfolding equal_place
+equal_place_le s [] = omega arith
+equal_place_le s (c ∷ cs) = split (eqb c s) (λ on. rw on (omega arith)) (λ off. rw off (omega (arith, equal_place_le s cs)))
+
 -- a number is stored in a row
 module _ (counts : List ℕ) (row v : ℕ) (l : row < length counts) where
   -- it is 0 or at least the spillover

@@ -20,7 +20,7 @@ use Rattle.dense.specs.InnerContracts.{Fewer, Left}
 use Rattle.dense.proofs.Dense.EntriesFrom.{row_tracked, row_untracked, stored_zero}
 use Rattle.dense.proofs.Dense.Kept.{floor_stored, clear_stored}
 
--- no number rose: where none changed, and where one is 0 then
+-- no number rose: where none changed, where one is 0 then, and over two steps
 pub fewer_same : (xs : List ℕ) → Fewer xs xs
 fewer_same xs = record { less = λ i. omega arith }
 
@@ -33,6 +33,9 @@ fewer_zero xs row l =
           (λ other. omega (arith, get_or-set_other xs row i 0 0 other))
           (same_or_other i row);
     }
+
+pub fewer_twice : {xs ys zs : List ℕ} → Fewer xs ys → Fewer ys zs → Fewer xs zs
+fewer_twice f g = record { less = λ i. omega (arith, f.less i, g.less i) }
 
 module _ {counts marks : List ℕ} {t : Tally} (kept : Kept counts marks t) (row : ℕ) (l : row < most_rows) where
   -- a row that is not tracked
