@@ -1,4 +1,4 @@
--- `victims_in`: the rows that a row disturbs are two runs around it, at most four rows, not the row itself.
+-- `victims_in`: the rows that a row disturbs are two runs around it, at most four rows, not the row itself, and raise counts by little.
 use mathlib.Core.Path.{◌≡◌, refl}
 use mathlib.Core.List.{List, [], ◌∷◌, ◌++◌}
 use Prim.Native.Nat.{ℕ, ◌+◌, ◌-◌, ◌/◌, ◌≤◌, ◌<◌, min, max}
@@ -11,6 +11,7 @@ use Rattle.summary.specs.Steps.{Summary, disturb, disturb_each}
 use Rattle.summary.specs.Rules.{RoomFor}
 use Rattle.summary.proofs.Rules.Room.{room_more, room_each}
 use Rattle.summary.proofs.Steps.Untracked.{Others}
+use Rattle.summary.proofs.Turned.{each_append}
 use Rattle.tracker.specs.Calls.{victims_in}
 
 -- the row behind the highest within reach in a subarray, where the bank may end before it
@@ -21,6 +22,16 @@ behind_top row reach end rows some et eh = omega arith
 pub victims_around : (s : Settings) (row : ℕ) {low high top : ℕ} → low ≡ max (subarray_start row) (row - s.blast_diameter / 2) → top ≡ min (row + s.blast_diameter / 2) (subarray_start row + subarray_rows - 1) → high ≡ min (top + 1) s.rows → victims_in s row ≡ rows_between low row ++ rows_between (row + 1) high
 unfolding victims_in victims within_reach
 victims_around s row el et eh = rw (el, behind_top row (s.blast_diameter / 2) (subarray_start row + subarray_rows) s.rows (omega arith) et eh)
+
+-- those below it, then those above it
+pub victims_split : (s : Settings) (counters row : ℕ) (sum : Summary) {low high top : ℕ} → low ≡ max (subarray_start row) (row - s.blast_diameter / 2) → top ≡ min (row + s.blast_diameter / 2) (subarray_start row + subarray_rows - 1) → high ≡ min (top + 1) s.rows → disturb_each counters (victims_in s row) sum ≡ disturb_each counters (rows_between (row + 1) high) (disturb_each counters (rows_between low row) sum)
+victims_split s counters row sum {low} {high} el et eh =
+    rw (victims_around s row el et eh) (each_append counters (rows_between low row) (rows_between (row + 1) high) sum)
+
+-- a short run raises counts by little
+pub room_between : (counters low high : ℕ) (sum : Summary) → RoomFor 128 sum → high - low ≤ 64 → RoomFor 64 (disturb_each counters (rows_between low high) sum)
+room_between counters low high sum r few =
+    room_more (room_each counters (rows_between low high) sum r) (omega (arith, between_length low high))
 
 -- the victims of an accepted device's row are at most four
 pub victims_four : (s : Settings) (row : ℕ) → s.blast_diameter ≤ 4 → length (victims_in s row) ≤ 4

@@ -34,6 +34,11 @@ unfolding cleared_if empty
 room_cleared true r = record { counts = bare; spillover_le = omega arith }
 room_cleared false r = r
 
+-- rows below a number are below every higher one
+pub below_higher : {high high' : ℕ} {rows : List ℕ} → Below high rows → high ≤ high' → Below high' rows
+below_higher below_none h = below_none
+below_higher (below_more row b l) h = below_more row (below_higher b h) (omega arith)
+
 module _ {volume : ℕ} {sum : Summary} {list₀ list : List ℕ} {count : ℕ} (p : PickedFrom volume sum list₀ list count) where
   -- the rows that were named
   pub take_picked : take count list ≡ picked volume sum
