@@ -96,12 +96,17 @@ unfolding summary_of
 holds_own_length f = rw (long_rows f.holds) f.holds
 
 -- the tracked rows have places in both tables
+pub tracked_rows : {s : Settings} {st : State} → Facts s st → st.position.tracked ≤ length st.rows
+tracked_rows f = omega (arith, f.holds.tracked_is, f.holds.sound.fits, long_rows f.holds)
+
+pub tracked_counts : {s : Settings} {st : State} → Facts s st → st.position.tracked ≤ length st.counts
+tracked_counts f = omega (arith, f.holds.tracked_is, f.holds.sound.fits, long_counts f.holds)
+
 abbrev InBounds : State → Type 0
 InBounds st = (st.position.tracked ≤ length st.rows) × (st.position.tracked ≤ length st.counts)
 
 in_bounds : {s : Settings} {st : State} → Facts s st → InBounds st
-in_bounds f =
-    (omega (arith, f.holds.tracked_is, f.holds.sound.fits, long_rows f.holds), omega (arith, f.holds.tracked_is, f.holds.sound.fits, long_counts f.holds))
+in_bounds f = (tracked_rows f, tracked_counts f)
 
 -- so they have where no test refuses
 pub agreement_in_bounds : (s : Settings) (remap : List ℕ) (st : State) (s' : Settings) (remap' : List ℕ) (st' : State) → 0 ≡ first_failed (agreement_tests s remap st s' remap' st') → InBounds st × InBounds st'
