@@ -24,7 +24,7 @@ use Rattle.state.proofs.StateOf.{read_back}
 use Rattle.tracker.specs.Calls.{kept_unless, activation_tests, refresh_to, victims_in, block_rows, ends_window, next_event}
 use Rattle.tracker.specs.InnerContracts.{Ranges}
 use Rattle.tracker.proofs.Calls.Ready.{ReadyActivation, activation_ready, refresh_ready, diameter_four}
-use Rattle.tracker.proofs.Calls.Outcomes.{activation_refused, activation_done, activation_leaves}
+use Rattle.tracker.proofs.Calls.Outcomes.{activation_refused_by_number, activation_done, activation_leaves}
 use Rattle.tracker.proofs.Steps.Event.{take_picked, count_picked_le}
 use Rattle.limit.specs.Reachable.{Reached}
 use Rattle.limit.proofs.Reachable.{activation_refused_with, reached_accepted, reached_within}
@@ -66,13 +66,16 @@ module _ (p : Place) (counts : List ℕ) (ready : Ready (memory p counts)) where
       activation_refused_with r.0 p.remap row hold ∙ rw (r.1, e)
 
   -- a refused activation: the tracker, if one stands, is as it was
-  pub activation_refused_step : (line row hold : ℕ) (r : Refusal) → number r ≡ activation_refusal p row hold → record { prints = refusal_line line (number r); tracker = tracker_in p counts } ≡ record_step line p.loaded (tracker_in p counts) (Activate row hold)
+  pub activation_refused_step_by_number : (line row hold k : ℕ) → k ≡ activation_refusal p row hold → (k ≡ 0 → ⊥) → record { prints = refusal_line line k; tracker = tracker_in p counts } ≡ record_step line p.loaded (tracker_in p counts) (Activate row hold)
   unfolding activation_refusal refuse record_step_to refused_step activation_step
-  activation_refused_step line row hold r e =
+  activation_refused_step_by_number line row hold k e other =
       split p.active
       (λ on.
-      rw (tracker_active p counts on, ← activation_refused p.settings p.remap (state_in p counts) row hold r (e ∙ sym (tests_fail on row hold)), ← answered_refusal line (number r) [] (number_not_0 r)))
+      rw (tracker_active p counts on, ← activation_refused_by_number p.settings p.remap (state_in p counts) row hold k (e ∙ sym (tests_fail on row hold)) other, ← answered_refusal line k [] other))
       (λ off. rw (tracker_inactive p counts off, (rw off at e)))
+
+  pub activation_refused_step : (line row hold : ℕ) (r : Refusal) → number r ≡ activation_refusal p row hold → record { prints = refusal_line line (number r); tracker = tracker_in p counts } ≡ record_step line p.loaded (tracker_in p counts) (Activate row hold)
+  activation_refused_step line row hold r e = activation_refused_step_by_number line row hold (number r) e (number_not_0 r)
 
   -- an accepted one: what it asks for is there, it prints nothing, and what the tables hold then is what it leaves
   module _ (row hold : ℕ) (free : activation_refusal p row hold ≡ 0) where
