@@ -72,7 +72,7 @@ module _ (bytes : List ℕ) where
 pub ruleset positions = (take_rest, number_at, number_nowhere)
 
 -- digits that were found begin with a digit, so not with a blank
-number_of_digits : (m : ℕ) (bytes : List ℕ) → 0 < length bytes → digits 0 bytes ≡ some m → number bytes ≡ some m
+pub number_of_digits : (m : ℕ) (bytes : List ℕ) → 0 < length bytes → digits 0 bytes ≡ some m → number bytes ≡ some m
 unfolding digits number
 number_of_digits m [] h e = absurd (omega arith)
 number_of_digits m (b ∷ bytes) h e =
