@@ -1,14 +1,14 @@
 -- Records behind their letters: each has one width and no byte 10, what the first bytes of a text say, records by their letter, and the widest line.
-use mathlib.Core.Path.{◌≡◌, refl, subst}
+use mathlib.Core.Path.{◌≡◌, refl, ap, subst}
 use mathlib.Core.Bool.{false}
 use mathlib.Core.List.{List, [], ◌∷◌}
 use mathlib.Core.Option.{some, Option, bind, bind-eq-some_iff}
-use Prim.Native.Nat.{ℕ, zero, suc, ◌*◌, ◌≤◌}
+use Prim.Native.Nat.{ℕ, zero, suc, ◌+◌, ◌*◌, ◌≤◌}
 use native.Mathlib.Omega.{arith}
 use borrow.Author.Tests.{eqb-true, eq-eqb}
 use lib.Dec.{eqb}
 use lib.ListN.{length, get_or, take}
-use lib.Seq.{length-take-le}
+use lib.Seq.{length-take-le, get_or-take}
 use Rattle.laws.proofs.Cases.{split, missing, cond_test, cond_some}
 use Rattle.trace.specs.declared.Record.{Record}
 use Rattle.trace.specs.declared.Record.TheVariants.{Set, Remap, Activate, Blank}
@@ -96,6 +96,20 @@ numbered_take count says text h = rw (eq-eqb _ _ (length-take-le (6 * count) tex
 unfoldable pub places : ℕ → ℕ → List ℕ → List ℕ
 places zero i ns = []
 places (suc k) i ns = get_or ns i 0 ∷ places k (suc i) ns
+
+places_take : (w k i : ℕ) (ns : List ℕ) → i + k ≤ w → places k i (take w ns) ≡ places k i ns
+unfolding places
+places_take w zero i ns h = refl
+places_take w (suc k) i ns h = rw (get_or-take w ns i 0 (omega arith), places_take w k (suc i) ns (omega arith))
+
+-- settings made of an array are those of its first seven numbers, and a remap's numbers its first sixteen
+pub as_settings_take : (values : List ℕ) → as_settings (take 7 values) ≡ as_settings values
+unfolding as_settings places
+as_settings_take values = ap as_settings (places_take 7 7 0 values (omega arith))
+
+pub as_sixteen_take : (values : List ℕ) → as_sixteen (take 16 values) ≡ as_sixteen values
+unfolding as_sixteen places
+as_sixteen_take values = ap as_sixteen (places_take 16 16 0 values (omega arith))
 
 -- what holds of a blank line, and of each form's records behind a letter, holds of every record that bytes say
 pub by_letter : (P : List ℕ → Record → Type 0) → P [] Blank

@@ -2,3 +2,4 @@
 pub mod FirstLine
 pub mod Cuts
 pub mod NextLine
+pub mod KeptBytes
