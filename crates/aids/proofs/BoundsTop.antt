@@ -48,6 +48,19 @@ highest_next {xs} {from} {i} {best} h =
     (record { place = i; onward = omega (arith, h.onward, h.inside); inside = omega arith; there = refl; above = above_next h (get_or xs i 0) most (omega arith) }))
     (le_or_lt (get_or xs i 0) best)
 
+-- where the highest number stands, and at no place before, is its first place
+pub highest_top : {xs : List ℕ} {from to best i : ℕ} → Highest xs from to best → from ≤ i → ((j : ℕ) → from ≤ j → j < i → get_or xs j 0 ≡ best → ⊥) → get_or xs i 0 ≡ best → Top xs from to i
+highest_top {xs} {best = best} {i = i} h onward none e =
+    let ahead : i ≤ h.place = ⊎_elim (λ on. on) (λ past. absurd (none h.place h.onward past h.there)) (le_or_lt i h.place) in
+    record {
+      onward = onward;
+      inside = omega (arith, h.inside);
+      highest = λ j a b. omega (arith, h.above j a b);
+      first = λ j a b.
+          let few : get_or xs j 0 ≤ best = h.above j a (omega (arith, h.inside)) in
+          ⊎_elim (λ same. absurd (none j a b same)) (λ apart. omega arith) (same_or_other (get_or xs j 0) best);
+    }
+
 -- a part of a list: its places and its length
 module _ (xs : List ℕ) (from to : ℕ) where
   part_at : (i d : ℕ) → i < to - from → get_or (take (to - from) (drop from xs)) i d ≡ get_or xs (from + i) d
@@ -86,17 +99,11 @@ module _ {xs : List ℕ} {from to : ℕ} (inside : to ≤ length xs) where
         → AllWithin (λ (y : ℕ). y ≡ best → ⊥) (take (to - from) (drop from xs)) 0 i → Top xs from to (from + i)
     first_top i l here before =
         let long = part_long xs from to inside in
-        let e : get_or xs (from + i) 0 ≡ best = sym (part_at xs from to i 0 (omega arith)) ∙ here 0 in
-        record {
-          onward = omega arith;
-          inside = omega arith;
-          highest = λ j a b. omega (arith, h.above j a b);
-          first = λ j a b.
-              let back : from + (j - from) ≡ j = omega arith in
-              let few : get_or xs j 0 ≤ best = h.above j a (omega arith) in
-              let other : get_or xs j 0 ≡ best → ⊥ = λ q. before (j - from) 0 (omega arith) (omega arith) (part_at xs from to (j - from) 0 (omega arith) ∙ rw back q) in
-              ⊎_elim (λ same. absurd (other same)) (λ apart. omega arith) (same_or_other (get_or xs j 0) best);
-        }
+        highest_top h (omega arith)
+        (λ j a b q.
+        let back : from + (j - from) ≡ j = omega arith in
+        before (j - from) 0 (omega arith) (omega arith) (part_at xs from to (j - from) 0 (omega arith) ∙ rw back q))
+        (sym (part_at xs from to i 0 (omega arith)) ∙ here 0)
 
 -- the first place of the highest number of all is the one that the definition finds
 none_higher : (place best at : ℕ) (cs : List ℕ) → ((i : ℕ) → i < length cs → get_or cs i 0 ≤ best) → highest_from place best at cs ≡ place
