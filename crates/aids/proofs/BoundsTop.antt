@@ -1,9 +1,10 @@
--- The highest number of a stretch and its first place, and the definition's place in a whole table.
+-- The highest number of a stretch and its first place: one place further, the first place of a part, and the definition's place in a whole table.
 use mathlib.Core.Path.{◌≡◌, refl, ap, sym, ◌∙◌}
 use mathlib.Core.Logic.{⊎_elim}
 use mathlib.Core.List.{List, [], ◌∷◌}
-use Prim.Native.Nat.{ℕ, zero, suc, ◌+◌, ◌-◌, ◌≤◌, ◌<◌}
+use Prim.Native.Nat.{ℕ, zero, suc, ◌+◌, ◌-◌, ◌≤◌, ◌<◌, max}
 use native.Mathlib.Omega.{arith}
+use native.Mathlib.Nat.{max-eq_left, max-eq_right}
 use borrow.Author.Tests.{lt-ltb, le-ltb}
 use lib.Dec.{ltb}
 use lib.ListN.{length, get_or, take, drop, length-drop}
@@ -14,6 +15,38 @@ use Rattle.std.proofs.lemmas.List.{get_or-take, get_or-drop}
 use Rattle.laws.proofs.Cases.{split, le_or_lt, same_or_other}
 use Rattle.tables.specs.InnerContracts.{highest_from, highest_place}
 use Rattle.aids.specs.Bounds.{Highest, Top}
+
+-- the highest of one place
+pub highest_start : (xs : List ℕ) (from : ℕ) → Highest xs from (from + 1) (get_or xs from 0)
+highest_start xs from =
+    record {
+      place = from;
+      onward = omega arith;
+      inside = omega arith;
+      there = refl;
+      above = λ i a b. let e : i ≡ from = omega arith in let q = ap (λ (n : ℕ). get_or xs n 0) e in omega arith;
+    }
+
+-- no number of one place more is above what is above both the best so far and the last
+above_next : {xs : List ℕ} {from i best : ℕ} → Highest xs from i best → (top : ℕ) → best ≤ top → get_or xs i 0 ≤ top → (j : ℕ) → from ≤ j → j < i + 1 → get_or xs j 0 ≤ top
+above_next {xs} {i = i} h top best_under last_under j a b =
+    ⊎_elim
+    (λ same. let q : get_or xs j 0 ≡ get_or xs i 0 = ap (λ (n : ℕ). get_or xs n 0) same in omega arith)
+    (λ other. omega (arith, h.above j a (omega arith)))
+    (same_or_other j i)
+
+-- the highest of one place more
+pub highest_next : {xs : List ℕ} {from i best : ℕ} → Highest xs from i best → Highest xs from (i + 1) (max best (get_or xs i 0))
+highest_next {xs} {from} {i} {best} h =
+    ⊎_elim
+    (λ low.
+    rw (max-eq_left {n = best} {m = get_or xs i 0} low)
+    (record { place = h.place; onward = h.onward; inside = omega (arith, h.inside); there = h.there; above = above_next h best (omega arith) low }))
+    (λ high.
+    let most : best ≤ get_or xs i 0 = omega arith in
+    rw (max-eq_right {n = best} {m = get_or xs i 0} most)
+    (record { place = i; onward = omega (arith, h.onward, h.inside); inside = omega arith; there = refl; above = above_next h (get_or xs i 0) most (omega arith) }))
+    (le_or_lt (get_or xs i 0) best)
 
 -- a part of a list: its places and its length
 module _ (xs : List ℕ) (from to : ℕ) where
