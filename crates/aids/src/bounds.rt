@@ -22,7 +22,11 @@ fn highest(t: &[u32], from: usize, to: usize) -> u32
     requires { (from < to) × (to ≤ length t.now) }
     ensures { Highest t.now from to result }
 {
-    *t[from..to].iter().max().unwrap()
+    let mut best = t[from];
+    for i in from + 1..to {
+        best = best.max(t[i]);
+    }
+    best
 }
 
 // Its first place. Two passes, of which the longer one has no branch.
