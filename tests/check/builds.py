@@ -18,11 +18,13 @@ BUILDS = (
      OTHER_TYPE),
     ("the files exchanged in run", "            step, trace, listing, counts,", "            step, listing, trace, counts,",
      OTHER_TYPE),
-    ("the listing opened as the trace", "let mut trace = TraceFile(trace.file);", "let mut trace = ListingFile(trace.file);",
+    ("the listing opened as the trace", "open_trace(&rt, &mut trace_name)", "open_listing(&rt, &mut trace_name)",
      OTHER_TYPE),
-    ("the listing read from descriptor 0", "input::read_from(&mut listing.0, given, 0)",
+    ("the trace's file given as a listing's", "Some(TraceFile { file, length })", "Some(ListingFile { file, length })",
+     OTHER_TYPE),
+    ("the listing read from descriptor 0", "input::read_from(&mut listing.file, given, 0)",
      "input::read_from(&mut 0, given, 0)", OTHER_TYPE),
-    ("a file made by hand", "input::read_from(&mut listing.0, given, 0)",
+    ("a file made by hand", "input::read_from(&mut listing.file, given, 0)",
      "input::read_from(&mut File { source: None, ..input::unopened() }, given, 0)", PRIVATE),
 )
 

@@ -75,12 +75,12 @@ unfolding departing departure_from lines
 departing_none n = refl
 
 -- what is required and given behind bytes that were compared, so many lines having ended among those that are alike
-departing_on : Result ℕ ℕ → List ℕ → List ℕ → Option ℕ
+unfoldable pub departing_on : Result ℕ ℕ → List ℕ → List ℕ → Option ℕ
 departing_on (Ok lines) more rest = departing lines more rest
 departing_on (Err lines) more rest = some (suc lines)
 
 -- so does what was compared tell, whatever else is required
-departing_compared : (n : ℕ) (required more given : List ℕ) → departing n (required ++ more) given ≡ departing_on (compared n required given) more (drop (length required) given)
+pub departing_compared : (n : ℕ) (required more given : List ℕ) → departing n (required ++ more) given ≡ departing_on (compared n required given) more (drop (length required) given)
 unfolding compared departing_on
 departing_compared n [] more given = refl
 departing_compared n (x ∷ xs) more [] = departing_missing n x (xs ++ more)
@@ -113,14 +113,14 @@ all_few n (x ∷ xs) (y ∷ ys) lines e =
     (λ on. let f = all_few (counted n x) xs ys lines (rw on at e) in (omega (arith, f.0, counted_few n x), omega (arith, f.1)))
     (λ off. absurd (cc (rw off at e)))
 
-pub some_few : (n : ℕ) (required given : List ℕ) (lines : ℕ) → compared n required given ≡ Err lines → lines ≤ n + length given
+pub some_few : (n : ℕ) (required given : List ℕ) (lines : ℕ) → compared n required given ≡ Err lines → (lines ≤ n + length required) × (lines ≤ n + length given)
 unfolding compared
 some_few n [] given lines e = absurd (cc)
-some_few n (x ∷ xs) [] lines e = let same : n ≡ lines = cc in omega arith
+some_few n (x ∷ xs) [] lines e = let same : n ≡ lines = cc in (omega arith, omega arith)
 some_few n (x ∷ xs) (y ∷ ys) lines e =
     split (eqb x y)
-    (λ on. omega (arith, some_few (counted n x) xs ys lines (rw on at e), counted_few n x))
-    (λ off. let differ : Err n ≡ Err lines = rw off at e in let same : n ≡ lines = cc in omega arith)
+    (λ on. let f = some_few (counted n x) xs ys lines (rw on at e) in (omega (arith, f.0, counted_few n x), omega (arith, f.1, counted_few n x)))
+    (λ off. let differ : Err n ≡ Err lines = rw off at e in let same : n ≡ lines = cc in (omega arith, omega arith))
 
 -- a line more where one ends
 pub one_more : (n : ℕ) (ends : Bool) → cond ends (suc n) n ≡ n + bool_byte ends

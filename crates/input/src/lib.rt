@@ -73,6 +73,24 @@ impl From<FillError> for Errno {
     }
 }
 
+// A reason by its number, whatever that is.
+impl From<i32> for Errno {
+    fn from(number: i32) -> Self
+        ensures { result.0 ≡ number }
+    {
+        Errno(number)
+    }
+}
+
+impl Errno {
+    // The system's number of it.
+    pub fn number(self) -> i32
+        ensures { result ≡ self.0 }
+    {
+        self.0
+    }
+}
+
 // A file that is open.
 fn with_source(source: Source) -> File
     ensures { result ≡ record { source = Some source; reason = no_error } }

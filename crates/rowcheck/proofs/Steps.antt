@@ -38,7 +38,7 @@ beside_surplus k required given end len h = rw (le-ltb k.at end h)
 -- no more lines end than bytes are given
 lines_few : (c : Result ℕ ℕ) (n : ℕ) (required given : List ℕ) → compared n required given ≡ c → lines_among c ≤ n + length given
 lines_few (Ok lines) n required given e = let f = all_few n required given lines e in omega arith
-lines_few (Err lines) n required given e = some_few n required given lines e
+lines_few (Err lines) n required given e = (some_few n required given lines e).1
 
 module _ (k : Check) (required given : List ℕ) (end : ℕ) where
   given_lines : (len : ℕ) → (k.at < end → len ≤ length given) → (given_beside k required end given len).lines ≤ k.lines + length given

@@ -42,12 +42,19 @@ struct Named {
     length: usize,
 }
 
-// The files of the trace and of the listing: types of their own, so that neither can stand for the other.
+// The file of the trace, and the length of its name.
 #[derive(Drop)]
-struct TraceFile(File);
+struct TraceFile {
+    file: File,
+    length: usize,
+}
 
+// The file of the listing, and the length of its name: another type, so that neither can stand for the other.
 #[derive(Drop)]
-struct ListingFile(File);
+struct ListingFile {
+    file: File,
+    length: usize,
+}
 
 // What a check has come to.
 #[derive(Clone, Copy, PartialEq, Eq)]
@@ -151,9 +158,9 @@ fn read_listing(listing: &mut ListingFile, given: &mut [u8], at: usize, end: usi
     ensures { ReadBeside result at end given.old given.new }
 {
     if at < end {
-        return input::read_from(&mut listing.0, &mut given[..end], at);
+        return input::read_from(&mut listing.file, &mut given[..end], at);
     }
-    input::read_from(&mut listing.0, given, 0)
+    input::read_from(&mut listing.file, given, 0)
 }
 
 // Before the first read.
@@ -185,7 +192,7 @@ fn trace_step(
     ensures carried_in { CarriedIn result.turn counts.new marks.new bounds.new text.new out.new × (result.check.lines ≡ from.check.lines) }
     ensures turn_stepped { TurnStepped (turn_before from.turn counts text out) (turn_left result.turn counts text out) × (result.check ≡ behind_trace from.check (has_failed result.turn.next)) }
 {
-    let turn = turns::next_turn(from.turn, &mut trace.0, counts, marks, bounds, text, out);
+    let turn = turns::next_turn(from.turn, &mut trace.file, counts, marks, bounds, text, out);
     Step {
         turn,
         check: behind_trace(from.check, turn.next),
@@ -333,6 +340,22 @@ fn open(rt: &HostRuntime, argument: usize, name: &mut [u8], wrong: &[u8]) -> Opt
     Some(Named { file, length })
 }
 
+// The trace is the first argument's file.
+fn open_trace(rt: &HostRuntime, name: &mut [u8]) -> Option<TraceFile>
+    ensures { IfSome result (λ trace. trace.length ≤ length name.new) }
+{
+    let Named { file, length } = open(rt, 1, name, b"rowcheck: cannot open the trace")?;
+    Some(TraceFile { file, length })
+}
+
+// The listing is the second's.
+fn open_listing(rt: &HostRuntime, name: &mut [u8]) -> Option<ListingFile>
+    ensures { IfSome result (λ listing. listing.length ≤ length name.new) }
+{
+    let Named { file, length } = open(rt, 2, name, b"rowcheck: cannot open the listing")?;
+    Some(ListingFile { file, length })
+}
+
 // The answer on standard output; whether there is one.
 fn tell_answer(rt: &HostRuntime, k: Check) -> bool
     requires { k.lines ≤ most_lines }
@@ -382,31 +405,24 @@ fn main(rt: HostRuntime) {
         return;
     }
     let mut trace_name = io::buffer();
-    let Some(trace) = open(&rt, 1, &mut trace_name, b"rowcheck: cannot open the trace") else {
+    let Some(mut trace) = open_trace(&rt, &mut trace_name) else {
         return;
     };
     let mut listing_name = io::buffer();
-    let Some(listing) = open(
-        &rt,
-        2,
-        &mut listing_name,
-        b"rowcheck: cannot open the listing",
-    ) else {
+    let Some(mut listing) = open_listing(&rt, &mut listing_name) else {
         return;
     };
     let trace_name = &trace_name[..trace.length];
     let listing_name = &listing_name[..listing.length];
-    let mut trace = TraceFile(trace.file);
-    let mut listing = ListingFile(listing.file);
     let check = check_files(&mut trace, &mut listing);
     if !tell_answer(&rt, check) {
         tell_failure(
             &rt,
             check,
             trace_name,
-            input::reason(&trace.0),
+            input::reason(&trace.file),
             listing_name,
-            input::reason(&listing.0),
+            input::reason(&listing.file),
         );
     }
 }

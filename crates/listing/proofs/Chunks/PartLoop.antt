@@ -81,7 +81,7 @@ module _ {text : List ℕ} {q₀ q : Going} (t : Turning text q₀ q) where
       }
 
   -- no byte is left
-  going_end : length text ≤ q.taken → q ≡ going q₀ (lines text)
+  pub going_end : length text ≤ q.taken → q ≡ going q₀ (lines text)
   unfolding going lines
   going_end h = sym (t.same ∙ rw (drop_of_length-le text h))
 
