@@ -23,8 +23,9 @@ const HEAD_WORDS: usize = 6;
 // The words of a request's bytes.
 fn words_of(bytes: &[u8; 4 * REQUEST_WORDS]) -> [u32; REQUEST_WORDS] {
     let mut words = [0; REQUEST_WORDS];
-    for (word, four) in words.iter_mut().zip(bytes.as_chunks::<4>().0) {
-        *word = u32::from_le_bytes(*four);
+    for i in 0..REQUEST_WORDS {
+        let at = 4 * i;
+        words[i] = u32::from_le_bytes([bytes[at], bytes[at + 1], bytes[at + 2], bytes[at + 3]]);
     }
     words
 }
@@ -188,6 +189,27 @@ fn call(
     }
 }
 
+// The words of an answer. Each part has a loop of its own, which the compiler turns into a copy.
+fn answer_of(
+    head: [u32; HEAD_WORDS],
+    rows: &[u32; 64],
+    counts: &[u32; 64],
+    picks: &[u32; 32],
+) -> [u32; ANSWER_WORDS] {
+    let mut words = [0; ANSWER_WORDS];
+    for i in 0..HEAD_WORDS {
+        words[i] = head[i];
+    }
+    for i in 0..64 {
+        words[6 + i] = rows[i];
+        words[70 + i] = counts[i];
+    }
+    for i in 0..32 {
+        words[134 + i] = picks[i];
+    }
+    words
+}
+
 // The answer to one request, which lends parts of the tables and of the picks.
 fn serve(request: &[u32; REQUEST_WORDS]) -> [u32; ANSWER_WORDS] {
     let mut rows: [u32; 64] = words_at(request, 16);
@@ -202,12 +224,7 @@ fn serve(request: &[u32; REQUEST_WORDS]) -> [u32; ANSWER_WORDS] {
         &mut counts[..lent_counts],
         &mut picks[..lent_picks],
     );
-    let mut answer = [0; ANSWER_WORDS];
-    let parts = head.iter().chain(&rows).chain(&counts).chain(&picks);
-    for (word, part) in answer.iter_mut().zip(parts) {
-        *word = *part;
-    }
-    answer
+    answer_of(head, &rows, &counts, &picks)
 }
 
 // Reads one request and writes its answer; whether there was a whole one.
