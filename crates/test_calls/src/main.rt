@@ -21,21 +21,21 @@ const ANSWER_WORDS: usize = 166;
 const HEAD_WORDS: usize = 6;
 
 // The words of a request's bytes.
-fn words_of(bytes: &[u8; 4 * REQUEST_WORDS]) -> [u32; REQUEST_WORDS] {
-    let mut words = [0; REQUEST_WORDS];
-    for (word, four) in words.iter_mut().zip(bytes.as_chunks::<4>().0) {
-        *word = u32::from_le_bytes(*four);
+fn fill_words(words: &mut [u32; REQUEST_WORDS], bytes: &[u8; 4 * REQUEST_WORDS]) {
+    for i in 0..REQUEST_WORDS {
+        let at = 4 * i;
+        words[i] = u32::from_le_bytes([bytes[at], bytes[at + 1], bytes[at + 2], bytes[at + 3]]);
     }
-    words
 }
 
-// The bytes of an answer's words.
-fn bytes_of(words: &[u32; ANSWER_WORDS]) -> [u8; 4 * ANSWER_WORDS] {
-    let mut bytes = [0; 4 * ANSWER_WORDS];
-    for (i, word) in words.iter().enumerate() {
-        bytes[4 * i..4 * i + 4].copy_from_slice(&word.to_le_bytes());
+// Words into an answer's bytes, from a word's place on.
+fn put_words(bytes: &mut [u8; 4 * ANSWER_WORDS], at: usize, words: &[u32])
+    requires { at + length words.now ≤ 166 }
+{
+    for i in 0..words.len() {
+        let from = 4 * (at + i);
+        bytes[from..from + 4].copy_from_slice(&words[i].to_le_bytes());
     }
-    bytes
 }
 
 fn settings_of(words: &[u32]) -> Settings
@@ -189,7 +189,7 @@ fn call(
 }
 
 // The answer to one request, which lends parts of the tables and of the picks.
-fn serve(request: &[u32; REQUEST_WORDS]) -> [u32; ANSWER_WORDS] {
+fn serve(request: &[u32; REQUEST_WORDS], answer: &mut [u8; 4 * ANSWER_WORDS]) {
     let mut rows: [u32; 64] = words_at(request, 16);
     let mut counts: [u32; 64] = words_at(request, 80);
     let mut picks: [u32; 32] = words_at(request, 144);
@@ -202,12 +202,10 @@ fn serve(request: &[u32; REQUEST_WORDS]) -> [u32; ANSWER_WORDS] {
         &mut counts[..lent_counts],
         &mut picks[..lent_picks],
     );
-    let mut answer = [0; ANSWER_WORDS];
-    let parts = head.iter().chain(&rows).chain(&counts).chain(&picks);
-    for (word, part) in answer.iter_mut().zip(parts) {
-        *word = *part;
-    }
-    answer
+    put_words(answer, 0, &head);
+    put_words(answer, 6, &rows);
+    put_words(answer, 70, &counts);
+    put_words(answer, 134, &picks);
 }
 
 // Reads one request and writes its answer; whether there was a whole one.
@@ -216,8 +214,11 @@ fn serve_next() -> bool {
     if io::read_full(STDIN_FILENO, &mut request) < request.len() {
         return false;
     }
-    let answer = serve(&words_of(&request));
-    io::write_all(STDOUT_FILENO, &bytes_of(&answer))
+    let mut words = [0; REQUEST_WORDS];
+    fill_words(&mut words, &request);
+    let mut answer = [0; 4 * ANSWER_WORDS];
+    serve(&words, &mut answer);
+    io::write_all(STDOUT_FILENO, &answer)
 }
 
 // A proved loop has to end, so it counts its turns down from a number that no run uses up.
