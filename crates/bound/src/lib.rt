@@ -4,7 +4,7 @@
 mod search;
 mod total;
 
-ghost use Rattle.std.specs.Prelude.{◌≡◌, ◌*◌, ◌≤◌, ◌<◌};
+ghost use Rattle.std.specs.Prelude.{◌≡◌, ◌*◌, ◌≤◌, ◌<◌, ◌^◌, pos, neg_ℤ, IfOk, IfErr};
 ghost use Rattle.device.specs.Refusal.{first_failed, outcome};
 ghost use Rattle.device.specs.Acceptance.{settings_tests, settings_tests_but_counters};
 ghost use Rattle.bound.specs.Totals.{disturbers, bound_at};
@@ -72,6 +72,18 @@ pub fn least_counters(s: Settings, threshold: u64) -> Result<u64, Refusal>
     least_of(s, threshold)
 }
 
+// One signed number: a value as it is, and refusal k, whatever number it is, as -k.
+pub fn signed_answer(answer: Result<u64, u32>) -> i64
+    requires { IfOk answer (λ v. v < 2 ^ 63) }
+    ensures value { IfOk answer (λ v. result ≡ pos v) }
+    ensures refusal { IfErr answer (λ k. result ≡ neg_ℤ (pos k)) }
+{
+    match answer {
+        Ok(v) => v as i64,
+        Err(k) => -(k as i64),
+    }
+}
+
 // The signed number that C gets.
 #[tactic(auto, unfolding(device::specs::Refusal::outcome, crate::specs::Answers::signed, crate::specs::Answers::Small))]
 pub fn signed_number(answer: Result<u64, Refusal>) -> i64
@@ -79,7 +91,7 @@ pub fn signed_number(answer: Result<u64, Refusal>) -> i64
     ensures { result ≡ signed (outcome answer) }
 {
     match answer {
-        Ok(v) => v as i64,
-        Err(refusal) => -(refusal.number() as i64),
+        Ok(v) => signed_answer(Ok(v)),
+        Err(refusal) => signed_answer(Err(refusal.number())),
     }
 }
